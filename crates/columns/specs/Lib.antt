@@ -1,0 +1,4 @@
+pub mod Common
+pub mod Columns
+pub mod Laws
+pub mod Blocks

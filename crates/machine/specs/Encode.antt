@@ -1,0 +1,28 @@
+-- The image: document 01's words of a machine, and the machine that words stand for. Assumes nothing.
+use Prim.Native.Nat.{ℕ, _+_, _*_}
+use mathlib.Core.List.{List, [], _∷_, _++_}
+use lib.ListN.{length, getD}
+use Rattle.columns.specs.Common.{tabulate}
+use Rattle.columns.specs.Blocks.{cat, part}
+use Rattle.context.specs.Words.{context-words, context-of, length-context-words}
+use Rattle.percpu.specs.Layout.{cpu-words, cpu-of, length-cpu-words}
+use Rattle.machine.specs.Machine.{Machine}
+
+unfoldable pub encode : Machine → List ℕ
+encode M =
+    (length (M .cpus) ∷ length (M .contexts) ∷ [])
+    ++ (cat context-words 26 length-context-words (M .contexts) ++ cat cpu-words 665 length-cpu-words (M .cpus))
+
+-- where the record of context x and the block of CPU k begin, of n contexts
+abbrev pub context-place : ℕ → ℕ
+context-place x = 2 + 26 * x
+
+abbrev pub cpu-place : ℕ → ℕ → ℕ
+cpu-place n k = 2 + 26 * n + 665 * k
+
+unfoldable pub decode : List ℕ → Machine
+decode m =
+    record {
+      contexts = tabulate (getD m 1 0) (λ (x : ℕ). context-of (part m (context-place x) 26));
+      cpus = tabulate (getD m 0 0) (λ (k : ℕ). cpu-of (part m (cpu-place (getD m 1 0) k) 665));
+    }

@@ -1,0 +1,14 @@
+-- A CPU: the scalars of its block, its run queue, timers and wake-up lists. Assumes nothing.
+use Prim.Native.Nat.{ℕ}
+use mathlib.Core.List.{List}
+use Rattle.percpu.specs.declared.PercpuBlock.{PercpuBlock}
+use Rattle.run_queue.specs.declared.Entry.{Entry}
+use Rattle.run_queue.specs.declared.Timer.{Timer}
+
+-- the counts in the block are the lengths of the lists
+pub record Cpu : Type 0 where
+  pub block : PercpuBlock
+  pub queue : List Entry
+  pub timers : List Timer
+  pub «local_wakeup_list» : List ℕ
+  pub «ipi_context_wakeup_list» : List ℕ

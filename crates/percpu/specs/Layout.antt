@@ -1,0 +1,64 @@
+-- The 665 words of a CPU's block: 21 scalars, four counts, and ten arrays of 64. Assumes nothing.
+use mathlib.Core.Path.{_≡_, refl, sym, ap, _∙_}
+use Prim.Native.Nat.{ℕ, _+_, _*_}
+use mathlib.Core.List.{List, [], _∷_, _++_, map}
+use lib.ListN.{length, getD, length-append}
+use Rattle.columns.specs.Common.{tabulate}
+use Rattle.columns.specs.Blocks.{flat, length-flat}
+use Rattle.run_queue.specs.declared.Entry.{Entry}
+use Rattle.run_queue.specs.declared.Timer.{Timer}
+use Rattle.percpu.specs.Cpu.{Cpu}
+use Rattle.percpu.specs.Words.{block-words, block-of, length-block-words}
+
+unfoldable pub counts : Cpu → List ℕ
+counts c =
+    length (c .queue) ∷ length (c .timers) ∷ length (c .«local_wakeup_list») ∷ length (c .«ipi_context_wakeup_list») ∷ []
+
+unfoldable pub columns : Cpu → List (List ℕ)
+columns c =
+    map (λ (e : Entry). e .key .vd) (c .queue)
+    ∷ map (λ (e : Entry). e .key .«rem_slice») (c .queue)
+    ∷ map (λ (e : Entry). e .key .«ctxt_id») (c .queue)
+    ∷ map (λ (e : Entry). e .vtime) (c .queue)
+    ∷ map (λ (e : Entry). e .weight) (c .queue)
+    ∷ map (λ (e : Entry). e .«context_ref») (c .queue)
+    ∷ map (λ (t : Timer). t .wake) (c .timers)
+    ∷ map (λ (t : Timer). t .«context_ref») (c .timers)
+    ∷ c .«local_wakeup_list»
+    ∷ c .«ipi_context_wakeup_list»
+    ∷ []
+
+-- `flat` fills each array up to 64 words with 0
+unfoldable pub cpu-words : Cpu → List ℕ
+cpu-words c = (block-words (c .block) ++ counts c) ++ flat (columns c)
+
+-- entry i of a block's queue, and timer i
+unfoldable pub entry-at : List ℕ → ℕ → Entry
+entry-at b i =
+    record {
+      key = record { vd = getD b (25 + i) 0; «rem_slice» = getD b (89 + i) 0; «ctxt_id» = getD b (153 + i) 0 };
+      vtime = getD b (217 + i) 0;
+      weight = getD b (281 + i) 0;
+      «context_ref» = getD b (345 + i) 0;
+    }
+
+unfoldable pub timer-at : List ℕ → ℕ → Timer
+timer-at b i = record { wake = getD b (409 + i) 0; «context_ref» = getD b (473 + i) 0 }
+
+unfoldable pub cpu-of : List ℕ → Cpu
+cpu-of b =
+    record {
+      block = block-of b;
+      queue = tabulate (getD b 21 0) (entry-at b);
+      timers = tabulate (getD b 22 0) (timer-at b);
+      «local_wakeup_list» = tabulate (getD b 23 0) (λ (i : ℕ). getD b (537 + i) 0);
+      «ipi_context_wakeup_list» = tabulate (getD b 24 0) (λ (i : ℕ). getD b (601 + i) 0);
+    }
+
+pub front-length : (c : Cpu) → length (block-words (c .block) ++ counts c) ≡ 25
+unfolding counts
+front-length c = rw (length-append, length-block-words)
+
+pub length-cpu-words : (c : Cpu) → length (cpu-words c) ≡ 665
+unfolding cpu-words columns
+length-cpu-words c = rw (length-append, front-length, length-flat)

@@ -1,0 +1,4 @@
+pub mod Cpu
+pub mod Words
+pub mod With
+pub mod Layout

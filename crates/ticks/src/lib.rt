@@ -1,0 +1,1 @@
+// Elapsed nanoseconds in ticks, scaled by 2^30.

@@ -1,0 +1,179 @@
+#!/usr/bin/env python3
+"""Writes what follows from the field lists of the image's records: the specs `Words`
+(a record's words, and the record of the words) and `With` (a record with one field changed).
+
+Run it from the root of the repository after a field list changes."""
+
+# A mark is a bool; 'enum:T' is the enum T, whose number and inverse its crate defines.
+CONTEXT = [("gone", "bool"), ("debug_id", "u64"), ("status", "enum:status"), ("running", "bool"),
+           ("currently_scheduled", "bool"), ("cpu_id", "u64"), ("schedule_time", "u64"),
+           ("switch_time", "u64"), ("active_cpu_time", "u64"), ("sched_cpu_time", "u64"),
+           ("sched_affinity", "u64"), ("inside_syscall", "bool"), ("has_wake", "bool"), ("wake", "u64"),
+           ("userspace", "bool"), ("being_sigkilled", "bool"), ("prio", "u64"), ("vtime", "u64"),
+           ("vd", "u64"), ("rem_slice", "u64"), ("is_active", "bool"), ("has_queue_key", "bool"),
+           ("queue_key_vd", "u64"), ("queue_key_rem_slice", "u64"), ("lock", "u64"), ("addr_space", "u64")]
+STATS = [("state", "enum:state"), ("user", "u64"), ("kernel", "u64"), ("idle", "u64"),
+         ("context_switches", "u64"), ("syscall_switches", "u64")]
+BLOCK = [("present", "bool"), ("current_ctxt", "u64"), ("sched_ctxt", "u64"), ("idle_ctxt", "u64"),
+         ("schedule_time", "u64"), ("pit_ticks", "u64"), ("being_sigkilled", "bool"),
+         ("inside_syscall", "bool"), ("stealable", "bool"), ("queue_len", "u64"),
+         ("published_weight", "u64"), ("steal_counter", "u64"), ("stats", "record"),
+         ("queue_locked", "bool"), ("v", "u64"), ("total_weight", "u64")]
+LISTS = [("queue", "List Entry"), ("timers", "List Timer"), ("local_wakeup_list", "List ℕ"),
+         ("ipi_context_wakeup_list", "List ℕ")]
+WIDTH = {"record": len(STATS)}
+
+
+def name(f):
+    return "«%s»" % f if "_" in f else f
+
+
+def hyphen(f):
+    return f.replace("_", "-")
+
+
+def record(fields, value, indent="    "):
+    inner = "".join("%s  %s = %s;\n" % (indent, name(f), value(f, t)) for f, t in fields)
+    return "record {\n%s%s}" % (inner, indent)
+
+
+def antt_type(t, own):
+    return {"bool": "Bool", "u64": "ℕ", "record": "CpuStats"}.get(t) or (own if t.startswith("enum:") else t)
+
+
+def to_word(f, t):
+    x = "c .%s" % name(f)
+    if t == "bool":
+        return "mark (%s)" % x
+    if t.startswith("enum:"):
+        return "%s-number (%s)" % (t[5:], x)
+    return x
+
+
+def words(fn, typ, fields):
+    parts, run = [], []
+    for f, t in fields:
+        if t == "record":
+            parts.append("(%s ∷ [])" % " ∷ ".join(run))
+            parts.append("stats-words (c .%s)" % f)
+            run = []
+        else:
+            run.append(to_word(f, t))
+    if parts:
+        parts.append("(%s ∷ [])" % " ∷ ".join(run))
+        body = "%s\n    ++ (%s\n    ++ %s)" % tuple(parts)
+    else:
+        body = " ∷\n    ".join(run) + " ∷ []"
+    return "unfoldable pub %s : %s → List ℕ\n%s c =\n    %s\n" % (fn, typ, fn, body)
+
+
+def of(fn, typ, fields, at=0):
+    place = [at]
+
+    def value(f, t):
+        i = place[0]
+        place[0] += WIDTH.get(t, 1)
+        if t == "record":
+            return "stats-of (part w %d %d)" % (i, WIDTH[t])
+        x = "getD w %d 0" % i
+        if t == "bool":
+            return "eqb (%s) 1" % x
+        if t.startswith("enum:"):
+            return "%s-of (%s)" % (t[5:], x)
+        return x
+
+    return "unfoldable pub %s : List ℕ → %s\n%s w =\n    %s\n" % (fn, typ, fn, record(fields, value))
+
+
+def back(fn, words_fn, typ, fields):
+    def value(f, t):
+        x = "c .%s" % name(f)
+        if t == "bool":
+            return "mark-back (%s) j" % x
+        if t.startswith("enum:"):
+            return "%s-back (%s) j" % (t[5:], x)
+        if t == "record":
+            return "stats-of-words (%s) j" % x
+        return x
+
+    return ("pub %s-words : (c : %s) → %s (%s c) ≡ c\nunfolding %s %s%s\n%s-words c = λ j.\n    %s\n"
+            % (fn, typ, fn, words_fn, words_fn, fn, " stats-words part" if any(t == "record" for _, t in fields) else "",
+               fn, record(fields, value)))
+
+
+def setters(prefix, typ, fields, own):
+    out = []
+    for f, t in fields:
+        fn = "%s-%s" % (prefix, hyphen(f))
+        out.append("abbrev pub %s : %s → %s → %s\n%s x c =\n    %s\n" % (
+            fn, antt_type(t, own), typ, typ, fn,
+            record(fields, lambda g, _: "x" if g == f else "c .%s" % name(g))))
+    return out
+
+
+def lifted(prefix, over, field, inner, typ, fields, own):
+    """Setters of a record inside another: `typ` has `field`, whose setters begin with `inner`."""
+    out = []
+    for f, t in fields:
+        fn = "%s-%s" % (prefix, hyphen(f))
+        out.append("abbrev pub %s : %s → %s → %s\n%s x c = %s-%s (%s-%s x (c .%s)) c\n" % (
+            fn, antt_type(t, own), typ, typ, fn, over, field, inner, hyphen(f), field))
+    return out
+
+
+HEAD = """-- %s Written by tools/records.py.
+use Prim.Native.Nat.{ℕ}
+use mathlib.Core.Bool.{Bool, true, false}
+use mathlib.Core.Path.{_≡_, refl}
+use mathlib.Core.List.{List, [], _∷_, _++_}
+use lib.Dec.{eqb}
+use lib.ListN.{length, getD}
+"""
+
+
+def write(path, head, imports, parts):
+    with open(path, "w") as out:
+        out.write(HEAD % head + "".join("use %s\n" % i for i in imports) + "\n" + "\n".join(parts))
+
+
+def sized(words_fn, typ, n, extra=""):
+    return "pub length-%s : (c : %s) → length (%s c) ≡ %d\nunfolding %s%s\nlength-%s c = refl\n" % (
+        words_fn, typ, words_fn, n, words_fn, extra, words_fn)
+
+
+def main():
+    context = "Rattle.context.specs."
+    write("crates/context/specs/Words.antt", "The 26 words of a context's record, and the record of the words.",
+          [context + "declared.Context.{Context}", context + "Status.{status-number, status-of, status-back}",
+           "Rattle.columns.specs.Common.{mark, mark-back}"],
+          [words("context-words", "Context", CONTEXT), of("context-of", "Context", CONTEXT),
+           back("context-of", "context-words", "Context", CONTEXT), sized("context-words", "Context", 26)])
+    write("crates/context/specs/With.antt", "A context's record with one field changed.",
+          [context + "declared.Context.{Context}", context + "declared.Status.{Status}"],
+          setters("with", "Context", CONTEXT, "Status"))
+    stats = "Rattle.cpu_stats.specs."
+    write("crates/cpu_stats/specs/Words.antt", "The six words of a CPU's statistics, and the statistics of the words.",
+          [stats + "declared.CpuStats.{CpuStats}", stats + "State.{state-number, state-of, state-back}"],
+          [words("stats-words", "CpuStats", STATS), of("stats-of", "CpuStats", STATS),
+           back("stats-of", "stats-words", "CpuStats", STATS), sized("stats-words", "CpuStats", 6)])
+    write("crates/cpu_stats/specs/With.antt", "A CPU's statistics with one field changed.",
+          [stats + "declared.CpuStats.{CpuStats}", stats + "declared.CpuState.{CpuState}"],
+          setters("stats", "CpuStats", STATS, "CpuState"))
+    percpu = "Rattle.percpu.specs."
+    write("crates/percpu/specs/Words.antt", "The first 21 words of a CPU's block, and the scalars of the words.",
+          [percpu + "declared.PercpuBlock.{PercpuBlock}", "Rattle.columns.specs.Common.{mark, mark-back}",
+           "Rattle.columns.specs.Blocks.{part}", "Rattle.cpu_stats.specs.declared.CpuStats.{CpuStats}",
+           "Rattle.cpu_stats.specs.Words.{stats-words, stats-of, stats-of-words}"],
+          [words("block-words", "PercpuBlock", BLOCK), of("block-of", "PercpuBlock", BLOCK),
+           back("block-of", "block-words", "PercpuBlock", BLOCK),
+           sized("block-words", "PercpuBlock", 21, " stats-words")])
+    write("crates/percpu/specs/With.antt", "A CPU with one field of its block, or one list, changed.",
+          [percpu + "declared.PercpuBlock.{PercpuBlock}", percpu + "Cpu.{Cpu}",
+           "Rattle.cpu_stats.specs.declared.CpuStats.{CpuStats}",
+           "Rattle.run_queue.specs.declared.Entry.{Entry}", "Rattle.run_queue.specs.declared.Timer.{Timer}"],
+          setters("block", "PercpuBlock", BLOCK, "CpuState")
+          + setters("cpu", "Cpu", [("block", "PercpuBlock")] + LISTS, "")
+          + lifted("cpu", "cpu", "block", "block", "Cpu", BLOCK, "CpuState"))
+
+
+main()
