@@ -62,3 +62,7 @@ front-length c = rw (length-append, length-block-words)
 pub length-cpu-words : (c : Cpu) → length (cpu-words c) ≡ 665
 unfolding cpu-words columns
 length-cpu-words c = rw (length-append, front-length, length-flat)
+
+-- which word of the block counts array j
+unfoldable pub counter : List ℕ
+counter = 21 ∷ 21 ∷ 21 ∷ 21 ∷ 21 ∷ 21 ∷ 22 ∷ 22 ∷ 23 ∷ 24 ∷ []
