@@ -12,13 +12,7 @@ use Rattle.run_queue.specs.declared.Entry.{Entry}
 use Rattle.run_queue.specs.declared.Timer.{Timer}
 use Rattle.percpu.specs.Cpu.{Cpu}
 use Rattle.percpu.specs.Words.{block-words, block-of, block-of-words}
-use Rattle.percpu.specs.Layout.{cpu-words, cpu-of, entry-at, timer-at, counts, columns, front-length}
-
-pub no-entry : Entry
-no-entry = entry-at [] 0
-
-pub no-timer : Timer
-no-timer = timer-at [] 0
+use Rattle.percpu.specs.Layout.{cpu-words, cpu-of, entry-at, timer-at, no-entry, no-timer, counts, columns, front-length}
 
 -- lists that fit into their arrays
 pub record Short (c : Cpu) : Type 0 where
