@@ -50,7 +50,7 @@ key-marked w = if eqb (getD w 21 0) 1 then true else eqb (getD w 22 0) 0 && eqb 
 
 unfoldable pub context-in-range : ℕ → List ℕ → Bool
 context-in-range c w =
-    if eqb (getD w 0 0) 1 then within gone-most w 26 else within (context-most c) w 26 && wake-marked w && key-marked w
+    if eqb (getD w 0 0) 1 then within gone-most w 26 else within (context-most c) w 26 && (wake-marked w && key-marked w)
 
 -- the greatest of each of the first 25 words of a present CPU's block, of n contexts
 unfoldable pub block-most : ℕ → List ℕ
