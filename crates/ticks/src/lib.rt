@@ -16,7 +16,7 @@ pub fn saturating_sub(time: u64, since: u64) -> u64
 // The source's 128-bit product is avoided: whole ticks and the rest are scaled apart.
 pub fn elapsed_ticks(elapsed: u64) -> u64
     requires { ⌜ elapsed < 4503599627370496 ⌝ }
-    ensures { λ r. ⌜ r ≡ ticks elapsed ⌝ }
+    ensures { λ r. ⌜ (r ≡ ticks elapsed) × (r ≤ 2149201457092673611) ⌝ }
 {
     let whole = elapsed / 2250000;
     let rest = elapsed % 2250000;

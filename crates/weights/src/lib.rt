@@ -92,14 +92,14 @@ const PRIO_TO_SLICE: [u64; 40] = [
 
 pub fn weight_of(prio: u64) -> u64
     requires { ⌜ prio < 40 ⌝ }
-    ensures { λ r. ⌜ r ≡ weight prio ⌝ }
+    ensures { λ r. ⌜ (r ≡ weight prio) × (15 ≤ r) × (r ≤ 88761) ⌝ }
 {
     SCHED_PRIO_TO_WEIGHT[prio as usize]
 }
 
 pub fn slice_of(prio: u64) -> u64
     requires { ⌜ prio < 40 ⌝ }
-    ensures { λ r. ⌜ r ≡ whole-slice prio ⌝ }
+    ensures { λ r. ⌜ (r ≡ whole-slice prio) × (r ≤ 644245094) ⌝ }
 {
     PRIO_TO_SLICE[prio as usize]
 }

@@ -17,7 +17,7 @@ add-result c = search needs
 
 returns : tie.Need-returns
 unfolding ticks
-returns c = scaled _ 1073741824 2250000 (omega arith)
+returns c = (scaled _ 1073741824 2250000 (omega arith), omega arith)
 
 pub elapsed-ticks-spec : {M : Type 1} → statement M
 elapsed-ticks-spec = tie.close (tie.spec mul-result mul-result-2 add-result returns)
