@@ -2,3 +2,4 @@ pub mod Common
 pub mod Columns
 pub mod Laws
 pub mod Blocks
+pub mod Stored

@@ -1,11 +1,13 @@
 -- Document 01's number of each status. Assumes nothing.
-use Prim.Native.Nat.{ℕ, zero, suc}
+use Prim.Native.Nat.{ℕ, zero, suc, _≤_}
 use mathlib.Core.Path.{_≡_, refl}
+use mathlib.Core.Logic.{_≢_}
+use native.Mathlib.Omega.{arith}
 use mathlib.Core.Bool.{Bool, true, false}
 use Rattle.context.specs.declared.Status.{Status}
 use Rattle.context.specs.declared.Status.the-variants.{Runnable, Blocked, Stopped, AwaitingMmap, NotYetStarted, Dead}
 
-unfoldable pub status-number : Status → ℕ
+abbrev pub status-number : Status → ℕ
 status-number Runnable = 0
 status-number Blocked = 1
 status-number Stopped = 2
@@ -23,7 +25,7 @@ status-of (suc (suc (suc (suc zero)))) = NotYetStarted
 status-of (suc (suc (suc (suc (suc n))))) = Dead
 
 pub status-back : (s : Status) → status-of (status-number s) ≡ s
-unfolding status-number status-of
+unfolding status-of
 status-back Runnable = refl
 status-back Blocked = refl
 status-back Stopped = refl
@@ -46,3 +48,22 @@ is-soft-blocked Stopped = false
 is-soft-blocked AwaitingMmap = false
 is-soft-blocked NotYetStarted = false
 is-soft-blocked Dead = false
+
+pub status-of-rest : (x : ℕ) → x ≢ 0 → x ≢ 1 → x ≢ 2 → x ≢ 3 → x ≢ 4 → status-of x ≡ Dead
+unfolding status-of
+status-of-rest zero a b c d e = absurd (a refl)
+status-of-rest (suc zero) a b c d e = absurd (b refl)
+status-of-rest (suc (suc zero)) a b c d e = absurd (c refl)
+status-of-rest (suc (suc (suc zero))) a b c d e = absurd (d refl)
+status-of-rest (suc (suc (suc (suc zero)))) a b c d e = absurd (e refl)
+status-of-rest (suc (suc (suc (suc (suc n))))) a b c d e = refl
+
+-- in range, the number of the status of a number is that number
+pub status-forth : (x : ℕ) → x ≤ 5 → status-number (status-of x) ≡ x
+unfolding status-of
+status-forth zero h = refl
+status-forth (suc zero) h = refl
+status-forth (suc (suc zero)) h = refl
+status-forth (suc (suc (suc zero))) h = refl
+status-forth (suc (suc (suc (suc zero)))) h = refl
+status-forth (suc (suc (suc (suc (suc n))))) h = let e : n ≡ 0 = omega arith in rw e

@@ -1,4 +1,15 @@
 // A context's record: what the scheduler reads and writes of it (context/context.rs).
+mod record;
+
+pub use record::load_context;
+pub use record::status_number;
+pub use record::status_of;
+pub use record::store_context;
+ghost use mathlib.Core.Path.{_≡_};
+ghost use mathlib.Core.Bool.{Bool, true, false};
+ghost use Rattle.context.specs.With.{with-status};
+ghost use Rattle.context.specs.Block.{blocked-as, unblocked};
+ghost use Rattle.context.specs.Status.{is-runnable, is-soft-blocked};
 
 pub enum Status {
     Runnable,
@@ -45,4 +56,115 @@ pub struct Context {
 pub struct Changed {
     pub context: Context,
     pub done: bool,
+}
+
+impl Status {
+    pub fn is_runnable(self) -> bool
+        ensures { λ r. ⌜ r ≡ is-runnable self ⌝ }
+    {
+        match self {
+            Status::Runnable => true,
+            Status::Blocked => false,
+            Status::Stopped => false,
+            Status::AwaitingMmap => false,
+            Status::NotYetStarted => false,
+            Status::Dead => false,
+        }
+    }
+
+    pub fn is_soft_blocked(self) -> bool
+        ensures { λ r. ⌜ r ≡ is-soft-blocked self ⌝ }
+    {
+        match self {
+            Status::Runnable => false,
+            Status::Blocked => true,
+            Status::Stopped => false,
+            Status::AwaitingMmap => false,
+            Status::NotYetStarted => false,
+            Status::Dead => false,
+        }
+    }
+}
+
+impl Context {
+    // The record anew: the prover does not cover a store to a field that is an enum.
+    pub fn with_status(self, status: Status) -> Context
+        ensures { λ r. ⌜ r ≡ with-status status self ⌝ }
+    {
+        Context {
+            gone: self.gone,
+            debug_id: self.debug_id,
+            status,
+            running: self.running,
+            currently_scheduled: self.currently_scheduled,
+            cpu_id: self.cpu_id,
+            schedule_time: self.schedule_time,
+            switch_time: self.switch_time,
+            active_cpu_time: self.active_cpu_time,
+            sched_cpu_time: self.sched_cpu_time,
+            sched_affinity: self.sched_affinity,
+            inside_syscall: self.inside_syscall,
+            has_wake: self.has_wake,
+            wake: self.wake,
+            userspace: self.userspace,
+            being_sigkilled: self.being_sigkilled,
+            prio: self.prio,
+            vtime: self.vtime,
+            vd: self.vd,
+            rem_slice: self.rem_slice,
+            is_active: self.is_active,
+            has_queue_key: self.has_queue_key,
+            queue_key_vd: self.queue_key_vd,
+            queue_key_rem_slice: self.queue_key_rem_slice,
+            lock: self.lock,
+            addr_space: self.addr_space,
+        }
+    }
+
+    // A runnable context gets the status.
+    fn blocked_as(self, status: Status) -> Changed
+        ensures { λ r. ⌜ r ≡ blocked-as status self ⌝ }
+    {
+        let old = self.status;
+        if old.is_runnable() {
+            return Changed {
+                context: self.with_status(status),
+                done: true,
+            };
+        }
+        Changed {
+            context: self,
+            done: false,
+        }
+    }
+
+    pub fn block(self) -> Changed
+        ensures { λ r. ⌜ r ≡ blocked-as Status.Blocked self ⌝ }
+    {
+        self.blocked_as(Status::Blocked)
+    }
+
+    // As Stopped, the one reason that document 01 takes.
+    pub fn hard_block(self) -> Changed
+        ensures { λ r. ⌜ r ≡ blocked-as Status.Stopped self ⌝ }
+    {
+        self.blocked_as(Status::Stopped)
+    }
+
+    // Its wake stays.
+    pub fn unblock_no_ipi(self) -> Changed
+        ensures { λ r. ⌜ r ≡ unblocked self ⌝ }
+    {
+        let old = self.status;
+        if old.is_soft_blocked() {
+            return Changed {
+                context: self.with_status(Status::Runnable),
+                done: true,
+            };
+        }
+        Changed {
+            context: self,
+            done: false,
+        }
+    }
 }

@@ -5,7 +5,7 @@ use mathlib.Core.Bool.{Bool, true, false}
 use Rattle.cpu_stats.specs.declared.CpuState.{CpuState}
 use Rattle.cpu_stats.specs.declared.CpuState.the-variants.{Idle, Kernel, User}
 
-unfoldable pub state-number : CpuState → ℕ
+abbrev pub state-number : CpuState → ℕ
 state-number Idle = 0
 state-number Kernel = 1
 state-number User = 2
@@ -17,7 +17,7 @@ state-of (suc zero) = Kernel
 state-of (suc (suc n)) = User
 
 pub state-back : (s : CpuState) → state-of (state-number s) ≡ s
-unfolding state-number state-of
+unfolding state-of
 state-back Idle = refl
 state-back Kernel = refl
 state-back User = refl
