@@ -1,6 +1,6 @@
 -- What the holder pays for its turn. Assumes nothing.
 use mathlib.Core.Bool.{Bool, false}
-use Prim.Native.Nat.{ℕ, _+_, _-_, _/_, max}
+use Prim.Native.Nat.{ℕ, _+_, _-_, _/_, _<_, _≤_, max}
 use lib.Dec.{ltb, eqb}
 use Rattle.columns.specs.Common.{if_then_else_}
 use Rattle.context.specs.declared.Context.{Context}
@@ -29,3 +29,11 @@ charged v elapsed c =
 -- a holder that is not runnable any more
 abbrev pub stopped : Context → Context
 stopped c = with-is-active false (with-rem-slice 0 c)
+
+-- what a charge asks of its record and times; image words and a decision's values are within it
+pub record Chargeable (v elapsed : ℕ) (c : Context) : Type 0 where
+  pub prio : c .prio < 40
+  pub vtime : c .vtime < 9223372036854775808
+  pub «rem_slice» : c .«rem_slice» ≤ 9663676416
+  pub virtual : v < 9223372036854775808
+  pub time : elapsed < 4503599627370496

@@ -1,3 +1,4 @@
 pub mod State
 pub mod Words
 pub mod With
+pub mod Counted

@@ -1,2 +1,3 @@
 pub mod Order
 pub mod Queue
+pub mod Found

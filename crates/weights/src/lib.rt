@@ -1,1 +1,105 @@
 // Weights by priority (`SCHED_PRIO_TO_WEIGHT`), and the whole slice of each priority.
+ghost use mathlib.Core.Path.{_≡_};
+ghost use Prim.Native.Nat.{ℕ, _<_, _≤_};
+ghost use Rattle.weights.specs.Weights.{weight, whole-slice};
+
+const SCHED_PRIO_TO_WEIGHT: [u64; 40] = [
+    88761,
+    71755,
+    56483,
+    46273,
+    36291,
+    29154,
+    23254,
+    18705,
+    14949,
+    11916,
+    9548,
+    7620,
+    6100,
+    4904,
+    3906,
+    3121,
+    2501,
+    1991,
+    1586,
+    1277,
+    1024,
+    820,
+    655,
+    526,
+    423,
+    335,
+    272,
+    215,
+    172,
+    137,
+    110,
+    87,
+    70,
+    56,
+    45,
+    36,
+    29,
+    23,
+    18,
+    15,
+];
+
+// A full slice of 9 ticks, scaled by 2^30, over the weight.
+const PRIO_TO_SLICE: [u64; 40] = [
+    108873,
+    134676,
+    171089,
+    208840,
+    266283,
+    331470,
+    415570,
+    516636,
+    646443,
+    810983,
+    1012115,
+    1268199,
+    1584209,
+    1970570,
+    2474059,
+    3096339,
+    3863924,
+    4853679,
+    6093112,
+    7567483,
+    9437184,
+    11784971,
+    14753704,
+    18372008,
+    22845570,
+    28846795,
+    35528222,
+    44947332,
+    56184165,
+    70537784,
+    87851603,
+    111076740,
+    138052520,
+    172565650,
+    214748364,
+    268435456,
+    333230221,
+    420159844,
+    536870912,
+    644245094,
+];
+
+pub fn weight_of(prio: u64) -> u64
+    requires { ⌜ prio < 40 ⌝ }
+    ensures { λ r. ⌜ (r ≡ weight prio) × (15 ≤ r) × (r ≤ 88761) ⌝ }
+{
+    SCHED_PRIO_TO_WEIGHT[prio as usize]
+}
+
+pub fn slice_of(prio: u64) -> u64
+    requires { ⌜ prio < 40 ⌝ }
+    ensures { λ r. ⌜ (r ≡ whole-slice prio) × (r ≤ 644245094) ⌝ }
+{
+    PRIO_TO_SLICE[prio as usize]
+}

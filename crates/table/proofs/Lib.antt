@@ -1,0 +1,4 @@
+pub mod Stepping
+pub mod Tables
+pub mod Search
+pub mod Places
