@@ -170,3 +170,29 @@ cpu-fits n b p k =
       local-name = λ i. found (λ (x : ℕ). x < n) (getD b 23 0) i (λ (i : ℕ). getD b (537 + i) 0) 0 (λ g. omega (arith, k .high 8 i (omega arith) g));
       ipi-name = λ i. found (λ (x : ℕ). x < n) (getD b 24 0) i (λ (i : ℕ). getD b (601 + i) 0) 0 (λ g. omega (arith, k .high 9 i (omega arith) g));
     }
+
+-- names in a block are below n
+module _ (n : ℕ) (b : List ℕ) (p : 1 ≤ n) (e : block-in-range n b ≡ true) where
+  pub current-name : getD b 1 0 < n
+  unfolding block-most
+  current-name = omega (arith, in-range n b e .scalar 1 (omega arith))
+
+  pub sched-name : getD b 2 0 < n
+  unfolding block-most
+  sched-name = omega (arith, in-range n b e .scalar 2 (omega arith))
+
+  pub idle-name : getD b 3 0 < n
+  unfolding block-most
+  idle-name = omega (arith, in-range n b e .scalar 3 (omega arith))
+
+  pub queue-count : getD b 21 0 ≤ 64
+  unfolding block-most
+  queue-count = in-range n b e .scalar 21 (omega arith)
+
+  pub timer-count : getD b 22 0 ≤ 64
+  unfolding block-most
+  timer-count = in-range n b e .scalar 22 (omega arith)
+
+  pub entry-name : (i : ℕ) → i < getD b 21 0 → getD b (345 + i) 0 < n
+  unfolding counter array-most
+  entry-name i h = omega (arith, in-range n b e .high 5 i (omega arith) h)
