@@ -1,0 +1,39 @@
+//! The kernel's own scheduling functions, compiled from their sources over shims
+//! for what they import, and the oracle that runs them on machine images.
+
+#![allow(dead_code, unused_imports, unused_variables, unexpected_cfgs)]
+#![allow(clippy::all)]
+
+#[macro_use]
+mod log;
+
+include!(concat!(env!("OUT_DIR"), "/tree/root.rs"));
+
+mod arch;
+mod common;
+mod ipi;
+mod memory;
+mod numa;
+mod profiling;
+mod ptrace;
+mod scheme;
+mod sync;
+mod syscall;
+mod time;
+
+pub mod branches;
+mod load;
+pub mod oracle;
+mod store;
+
+use core::sync::atomic::{AtomicU32, Ordering};
+
+static CPU_COUNT: AtomicU32 = AtomicU32::new(1);
+
+fn cpu_id() -> cpu_set::LogicalCpuId {
+    percpu::PercpuBlock::current().cpu_id
+}
+
+fn cpu_count() -> u32 {
+    CPU_COUNT.load(Ordering::Acquire)
+}
