@@ -50,7 +50,6 @@ fn answer(result: u64) -> Result<Answer, oracle::Fault> {
     })
 }
 
-#[test]
 fn worked_example() {
     let mut image = example();
     let switch = call(2, 2_250_000, 0);
@@ -62,7 +61,6 @@ fn worked_example() {
     assert_eq!(image[block + b::V], 1_048_576);
 }
 
-#[test]
 fn ticks() {
     let mut image = example();
     assert_eq!(oracle::call(&mut image, &call(1, 2_250_000, 0)), answer(0));
@@ -71,7 +69,6 @@ fn ticks() {
     assert_eq!(image[2 + 2 * c::WORDS + b::V], 1_048_576);
 }
 
-#[test]
 fn records() {
     let mut image = example();
     assert_eq!(oracle::call(&mut image, &call(6, 0, 1)), answer(1));
@@ -83,7 +80,6 @@ fn records() {
     assert_eq!(image[2 + 2 * c::WORDS + b::LOCAL_COUNT], 1);
 }
 
-#[test]
 fn without_answer() {
     let mut image = example();
     let direct = call(3, 0, 1);
@@ -96,4 +92,13 @@ fn without_answer() {
     let block = call(6, 0, 1);
     assert_eq!(check::refusal(&image, &block), 6);
     assert_eq!(oracle::call(&mut image, &block), Err(oracle::Fault::Waits));
+}
+
+/// The kernel's CPUs are global: one test at a time.
+#[test]
+fn by_hand() {
+    worked_example();
+    ticks();
+    records();
+    without_answer();
 }
