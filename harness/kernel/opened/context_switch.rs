@@ -40,11 +40,11 @@ impl ContextSwitchPercpu {
             .max(self.ipi_context_wakeup_list.lock(token.token()).peak);
         self.run_queue.get_mut().peak().max(lists)
     }
-    /// Whether a call left something in the places that it only uses itself.
+    /// Whether a call left something in the places that it only uses itself. Timers
+    /// whose context could not be read stay in theirs, and are cleared by the next call.
     pub fn leftover(&mut self) -> bool {
         self.switch_result.take().is_some()
             || !self.tmp_wakeups.get_mut().is_empty()
-            || !self.tmp_timers.get_mut().is_empty()
             || !self.tmp_steal.get_mut().is_empty()
     }
 }

@@ -16,9 +16,24 @@ use crate::{
     sync::CleanLockToken,
     time,
 };
-use core::{ptr, sync::atomic::Ordering};
+use core::{
+    ptr,
+    sync::atomic::{AtomicBool, Ordering},
+};
 use image::{Answer, Call, MAX_CPUS, ROOM, View};
 use std::panic::{AssertUnwindSafe, catch_unwind};
+
+static IN_KERNEL: AtomicBool = AtomicBool::new(false);
+
+/// Panics of the kernel's functions are answers here, and are not to be printed.
+pub fn quiet() {
+    let print = std::panic::take_hook();
+    std::panic::set_hook(Box::new(move |info| {
+        if !IN_KERNEL.load(Ordering::Relaxed) {
+            print(info);
+        }
+    }));
+}
 
 /// A call that has no answer.
 #[derive(Debug, PartialEq, Eq)]
@@ -59,7 +74,9 @@ fn run(image: &mut [u64], call: &Call) -> Result<Answer, Fault> {
     signal::take_called();
     time::set(call.time);
     connect(&mut machine, call.cpu as usize);
+    IN_KERNEL.store(true, Ordering::Relaxed);
     let outcome = catch_unwind(AssertUnwindSafe(|| operation(&machine, call)));
+    IN_KERNEL.store(false, Ordering::Relaxed);
     disconnect();
     let result = outcome.map_err(|payload| {
         if payload.is::<spin::WouldWait>() {

@@ -1,0 +1,79 @@
+//! Brings entries close to the holder as it will be after charging, so that ties
+//! and near misses of virtual time, deadline and slice are common.
+
+use super::{machine::Machine, rng::Rng, values};
+use image::{SLICE_MAX, block as b, context as c};
+
+/// What charging leaves of a runnable holder.
+struct Charged {
+    vtime: u64,
+    vd: u64,
+    rem_slice: u64,
+}
+
+fn charged(record: &[u64; c::WORDS], v: u64, elapsed: u64) -> Charged {
+    let weight = u128::from(values::weight(record[c::PRIO]));
+    let ticks = (u128::from(elapsed) << 30) / 2_250_000;
+    let mut rem_slice = record[c::REM_SLICE].saturating_sub(ticks as u64);
+    let mut vtime = (record[c::VTIME] + (ticks / weight) as u64).max(v);
+    if elapsed < 3_375_000 {
+        vtime += (u128::from(rem_slice) / weight) as u64;
+        rem_slice = 0;
+    }
+    let mut vd = record[c::VD];
+    if rem_slice == 0 {
+        rem_slice = SLICE_MAX;
+        vd = vtime + (u128::from(SLICE_MAX) / weight) as u64;
+    }
+    Charged {
+        vtime,
+        vd,
+        rem_slice,
+    }
+}
+
+/// Moves entries of one queue; with `tidy` their records go with them.
+pub fn at_holder(rng: &mut Rng, machine: &mut Machine, at: usize, time: u64, tidy: bool) {
+    let word = machine.cpu[at].word;
+    let holder = machine.record[machine.cpu[at].sched()];
+    let elapsed = time.saturating_sub(word[b::SCHEDULE_TIME]).min(1 << 52);
+    let charged = charged(&holder, word[b::V], elapsed);
+    let mut changed = Vec::new();
+    for entry in &mut machine.cpu[at].queue {
+        if !rng.once_in(2) {
+            continue;
+        }
+        if rng.once_in(2) {
+            entry.vtime = near(rng, charged.vtime);
+        }
+        if rng.once_in(2) {
+            entry.vd = near(rng, charged.vd);
+            if rng.once_in(2) {
+                entry.rem_slice = near(rng, charged.rem_slice).min(SLICE_MAX);
+            }
+        }
+        changed.push(*entry);
+    }
+    for entry in changed {
+        let record = &mut machine.record[entry.context];
+        let follows = record[c::GONE] == 0 && (tidy || !rng.once_in(3));
+        if follows {
+            record[c::VTIME] = entry.vtime;
+            record[c::VD] = entry.vd;
+            record[c::REM_SLICE] = entry.rem_slice;
+        }
+        if follows && record[c::HAS_KEY] == 1 {
+            record[c::KEY_VD] = entry.vd;
+            record[c::KEY_REM_SLICE] = entry.rem_slice;
+        }
+    }
+    machine.settle();
+}
+
+fn near(rng: &mut Rng, value: u64) -> u64 {
+    match rng.below(6) {
+        0 => value + 1,
+        1 => value.saturating_sub(1),
+        _ => value,
+    }
+}
