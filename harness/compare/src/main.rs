@@ -1,8 +1,14 @@
 //! `compare run SEED COUNT`, and the commands that need the kernel.
 
+#[cfg(feature = "branches")]
+mod branches;
+#[cfg(feature = "branches")]
+mod choose;
 mod expected;
 mod generate;
 mod port;
+#[cfg(feature = "branches")]
+mod record;
 mod report;
 mod run;
 
@@ -16,6 +22,12 @@ fn main() -> ExitCode {
     let number = |text: &str| text.parse::<u64>().expect("a number");
     let good = match words[..] {
         ["run", seed, count] => run::run(number(seed), number(count)),
+        #[cfg(feature = "branches")]
+        ["branches", seed, count] => branches::print(number(seed), number(count)),
+        #[cfg(feature = "branches")]
+        ["small", seed, count] => record::small(number(seed), number(count) as usize),
+        #[cfg(feature = "branches")]
+        ["record", seed, count, to] => record::list(number(seed), number(count) as usize, to),
         _ => {
             eprintln!("compare run SEED COUNT");
             false

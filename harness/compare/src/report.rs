@@ -35,25 +35,23 @@ fn word(case: &Case, index: usize) -> String {
 
 /// Prints each difference; false if there is none.
 pub fn differences(case: &Case, want: (&Answer, &[u64]), got: (&Answer, &[u64])) -> bool {
-    let mut rows = Vec::new();
-    let mut row = |name: String, want: u64, got: u64| {
-        if want != got {
-            rows.push(format!("  {name}: expected {want}, got {got}"));
-        }
-    };
-    row("refusal".into(), want.0.refusal, got.0.refusal);
-    row("result".into(), want.0.result, got.0.result);
-    row("interrupt mark".into(), want.0.interrupt, got.0.interrupt);
-    for (index, (want, got)) in want.1.iter().zip(got.1).enumerate() {
-        row(word(case, index), *want, *got);
-    }
-    if rows.is_empty() {
+    if want == got {
         return false;
     }
     self::case(case);
     println!("differences:");
-    for row in rows {
-        println!("{row}");
+    let row = |name: &str, want: u64, got: u64| {
+        if want != got {
+            println!("  {name}: expected {want}, got {got}");
+        }
+    };
+    row("refusal", want.0.refusal, got.0.refusal);
+    row("result", want.0.result, got.0.result);
+    row("interrupt mark", want.0.interrupt, got.0.interrupt);
+    for (index, (want, got)) in want.1.iter().zip(got.1).enumerate() {
+        if want != got {
+            row(&word(case, index), *want, *got);
+        }
     }
     true
 }

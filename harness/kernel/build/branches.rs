@@ -54,7 +54,7 @@ fn opens_block(line: &str) -> bool {
         return false;
     }
     code.starts_with("if ")
-        || code.starts_with("for ")
+        || (code.starts_with("for ") && code.contains(" in "))
         || code.starts_with("} else")
         || code.starts_with("else")
         || code.ends_with("else {")
@@ -62,6 +62,7 @@ fn opens_block(line: &str) -> bool {
         || code.ends_with("=> {")
         || code.starts_with("% if")
         || code == "{"
+        || code == ") {"
         || (code.contains("fn ") && code.ends_with(") {"))
         || (code.starts_with(") ->") && line.starts_with(')'))
 }

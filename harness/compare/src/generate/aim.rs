@@ -34,6 +34,11 @@ fn charged(record: &[u64; c::WORDS], v: u64, elapsed: u64) -> Charged {
 
 /// Moves entries of one queue; with `tidy` their records go with them.
 pub fn at_holder(rng: &mut Rng, machine: &mut Machine, at: usize, time: u64, tidy: bool) {
+    let behind = rng.once_in(3);
+    if behind {
+        stay_behind(rng, machine, at, time);
+    }
+    let earlier = !behind && rng.once_in(2);
     let word = machine.cpu[at].word;
     let holder = machine.record[machine.cpu[at].sched()];
     let elapsed = time.saturating_sub(word[b::SCHEDULE_TIME]).min(1 << 52);
@@ -43,11 +48,14 @@ pub fn at_holder(rng: &mut Rng, machine: &mut Machine, at: usize, time: u64, tid
         if !rng.once_in(2) {
             continue;
         }
-        if rng.once_in(2) {
+        if behind || rng.once_in(2) {
             entry.vtime = near(rng, charged.vtime);
         }
-        if rng.once_in(2) {
-            entry.vd = near(rng, charged.vd);
+        if earlier && charged.vtime > word[b::V] + 1 {
+            entry.vtime = charged.vtime - 1 - rng.below(2) as u64;
+        }
+        if behind || rng.once_in(2) {
+            entry.vd = near(rng, charged.vd) + u64::from(behind) * rng.mark();
             if rng.once_in(2) {
                 entry.rem_slice = near(rng, charged.rem_slice).min(SLICE_MAX);
             }
@@ -68,6 +76,18 @@ pub fn at_holder(rng: &mut Rng, machine: &mut Machine, at: usize, time: u64, tid
         }
     }
     machine.settle();
+}
+
+/// A runnable holder that is eligible after a turn of its whole length.
+fn stay_behind(rng: &mut Rng, machine: &mut Machine, at: usize, time: u64) {
+    let sched = machine.cpu[at].sched();
+    let word = &mut machine.cpu[at].word;
+    let record = &mut machine.record[sched];
+    record[c::STATUS] = c::RUNNABLE;
+    record[c::VTIME] = word[b::V] / 2;
+    record[c::REM_SLICE] = rng.pick(&[SLICE_MAX, SLICE_MAX, 4 << 30]);
+    record[c::VD] = word[b::V] + rng.below(3) as u64;
+    word[b::SCHEDULE_TIME] = time.saturating_sub(rng.pick(&[3_375_000, 6_750_000]));
 }
 
 fn near(rng: &mut Rng, value: u64) -> u64 {

@@ -15,24 +15,23 @@ pub fn fill(rng: &mut Rng, scale: &Scale, machine: &mut Machine) {
         match rng.below(6) {
             0 | 1 => queue(rng, scale, machine, at, to),
             2 | 3 => timers(rng, scale, machine, at, to),
-            4 => {
-                while machine.cpu[at].local.len() < to {
-                    let name = rng.below(machine.record.len());
-                    machine.cpu[at].local.push(name);
-                }
-            }
-            _ => {
-                while machine.cpu[at].ipi.len() < to {
-                    let name = rng.below(machine.record.len());
-                    machine.cpu[at].ipi.push(name);
-                }
-            }
+            4 => names(rng, machine.record.len(), &mut machine.cpu[at].local, to),
+            _ => names(rng, machine.record.len(), &mut machine.cpu[at].ipi, to),
         }
         if rng.once_in(3) {
             departing(rng, scale, machine, at);
         }
     }
     machine.settle();
+}
+
+/// All sorts of names, or one name over and over.
+fn names(rng: &mut Rng, contexts: usize, list: &mut Vec<usize>, to: usize) {
+    let one = rng.once_in(2);
+    let name = rng.below(contexts);
+    while list.len() < to {
+        list.push(if one { name } else { rng.below(contexts) });
+    }
 }
 
 /// Unqueued contexts first, as a tidy machine has them; then some queued again.

@@ -115,8 +115,15 @@ impl Stream {
         }
         let mut image = machine.image();
         let mut call = self.call(&image, scale.time);
-        if self.rng.once_in(2) && machine.cpu[aimed].present() {
+        if !self.rng.once_in(4) && machine.cpu[aimed].present() {
             call.cpu = aimed as u64;
+        }
+        for other in 0..machine.cpu.len() {
+            let held = machine.cpu[other].present() && self.rng.once_in(8);
+            if held && other as u64 != call.cpu {
+                let at = View(&image).block_at(other);
+                image[at + b::RUN_QUEUE_LOCKED] = 1;
+            }
         }
         if kind == Kind::Damaged {
             damage::spoil(&mut self.rng, &mut image, &mut call);

@@ -21,7 +21,7 @@ impl Size {
         }
     }
     pub fn any(rng: &mut Rng) -> Self {
-        let cpus = rng.pick(&[1, 1, 1, 2, 2, 2, 3, 4]);
+        let cpus = rng.pick(&[1, 1, 1, 2, 2, 2, 2, 3, 4]);
         let most = rng.pick(&[4, 6, 8, 8, 12, 12, 20, 64]);
         Self {
             cpus,
@@ -117,7 +117,7 @@ fn cpu(rng: &mut Rng, scale: &Scale, number: usize, machine: &mut Machine) -> Cp
     for total in [b::USER, b::KERNEL, b::IDLE, b::CONTEXT_SWITCHES, b::SYSCALL_SWITCHES] {
         word[total] = rng.pick(&[0, 3, 1 << 40]);
     }
-    word[b::RUN_QUEUE_LOCKED] = rng.once_in(24).into();
+    word[b::RUN_QUEUE_LOCKED] = rng.once_in(60).into();
     word[b::V] = if number == 0 { scale.v } else { scale.early(rng) };
     Cpu {
         word,
@@ -133,7 +133,7 @@ fn place(rng: &mut Rng, scale: &Scale, machine: &mut Machine) {
     let present: Vec<usize> = (0..machine.cpu.len())
         .filter(|cpu| machine.cpu[*cpu].present())
         .collect();
-    let (queued, late) = (rng.below(5), rng.once_in(2));
+    let (queued, late) = (rng.pick(&[0, 1, 2, 3, 4, 4]), rng.once_in(2));
     let favoured = rng.pick(&present);
     for context in machine.cpu.len()..machine.record.len() {
         let at = if rng.once_in(2) { favoured } else { rng.pick(&present) };
@@ -242,8 +242,16 @@ fn holder(rng: &mut Rng, scale: &Scale, record: &mut [u64; c::WORDS]) {
     }
     record[c::IS_ACTIVE] = (record[c::USERSPACE] == 1 && !rng.once_in(10)).into();
     let late = rng.once_in(3);
-    record[c::VTIME] = if late { scale.late(rng) } else { scale.early(rng) };
-    record[c::VD] = scale.deadline(rng, record[c::VTIME]);
+    record[c::VTIME] = if late {
+        scale.late(rng)
+    } else if rng.once_in(2) {
+        // So far behind that it is eligible after its charge.
+        scale.v / 2
+    } else {
+        scale.early(rng)
+    };
+    let from = if rng.once_in(2) { scale.v } else { record[c::VTIME] };
+    record[c::VD] = scale.deadline(rng, from);
 }
 
 /// Total weights, and what a CPU shows of its queue: true, but for a few.
@@ -256,7 +264,14 @@ fn show(rng: &mut Rng, machine: &mut Machine) {
         let length = cpu.queue.len() as u64;
         cpu.word[b::TOTAL_WEIGHT] = if rng.once_in(16) { rng.pick(&[0, 1, 15]) } else { total };
         cpu.word[b::SHOWN_WEIGHT] = if rng.once_in(16) { 7 } else { cpu.word[b::TOTAL_WEIGHT] };
-        cpu.word[b::QUEUE_LEN] = if rng.once_in(16) { rng.below(6) as u64 } else { length };
-        cpu.word[b::STEALABLE] = if rng.once_in(16) { rng.mark() } else { (length > 0).into() };
+        cpu.word[b::QUEUE_LEN] = match rng.below(7) {
+            0 => rng.below(6) as u64,
+            1 => length + rng.within(1, 4) as u64,
+            _ => length,
+        };
+        cpu.word[b::STEALABLE] = if rng.once_in(6) { 1 } else { (length > 0).into() };
+        if rng.once_in(40) {
+            cpu.word[b::STEALABLE] = 0;
+        }
     }
 }

@@ -12,7 +12,7 @@ pub fn spoil(rng: &mut Rng, scale: &Scale, machine: &mut Machine) {
     for _ in 0..rng.within(1, 6) {
         let at = rng.below(machine.cpu.len());
         let context = rng.below(machine.record.len());
-        match rng.below(10) {
+        match rng.below(11) {
             0 | 1 => again(rng, scale, machine, at),
             2 => stray(rng, scale, machine, at, context),
             3 | 4 => key(rng, scale, machine, at, context),
@@ -20,6 +20,7 @@ pub fn spoil(rng: &mut Rng, scale: &Scale, machine: &mut Machine) {
             6 => number(rng, scale, machine, context),
             7 => seat(rng, machine, at, context),
             8 => queue_words(rng, scale, machine, at),
+            9 => holder_key(rng, scale, machine, at),
             _ => names(rng, scale, machine, at, context),
         }
     }
@@ -72,6 +73,28 @@ fn key(rng: &mut Rng, scale: &Scale, machine: &mut Machine, at: usize, context: 
     record[c::HAS_KEY] = has.into();
     record[c::KEY_VD] = if has { vd } else { 0 };
     record[c::KEY_REM_SLICE] = if has { rem_slice } else { 0 };
+}
+
+/// A key on the one in charge, with or without an entry.
+fn holder_key(rng: &mut Rng, scale: &Scale, machine: &mut Machine, at: usize) {
+    let sched = machine.cpu[at].sched();
+    if !machine.live(sched) {
+        return;
+    }
+    let vtime = scale.vtime(rng, false);
+    let record = &mut machine.record[sched];
+    record[c::HAS_KEY] = 1;
+    record[c::KEY_VD] = scale.deadline(rng, vtime);
+    record[c::KEY_REM_SLICE] = values::slice(rng);
+    if rng.once_in(2) {
+        machine.cpu[at].queue.push(Entry {
+            vd: record[c::KEY_VD],
+            rem_slice: record[c::KEY_REM_SLICE],
+            vtime,
+            weight: 1024,
+            context: sched,
+        });
+    }
 }
 
 fn mark(rng: &mut Rng, machine: &mut Machine, context: usize) {
