@@ -6,7 +6,10 @@ use std::{env, fs, path::PathBuf};
 const EXPORTS: [(&str, &str); 5] = [
     ("ronthuyal_call", "port_call"),
     ("ronthuyal_unblock_context", "port_unblock_context"),
-    ("ronthuyal_drain_ipi_context_wakeups", "port_drain_ipi_context_wakeups"),
+    (
+        "ronthuyal_drain_ipi_context_wakeups",
+        "port_drain_ipi_context_wakeups",
+    ),
     ("ronthuyal_block", "port_block"),
     ("ronthuyal_hard_block", "port_hard_block"),
 ];

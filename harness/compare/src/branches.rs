@@ -5,7 +5,7 @@ use crate::{
     generate::{Case, KINDS, Stream},
 };
 use image::Answer;
-use kernel::branches::BLOCKS;
+use kernel::branches::{BLOCKS, FULL};
 
 /// A case with its answer and the blocks that its run went through.
 pub struct Seen {
@@ -13,11 +13,14 @@ pub struct Seen {
     pub answer: Answer,
     pub after: Vec<u64>,
     pub reached: Vec<u32>,
+    /// What had no room, if something had none.
+    pub full: Option<usize>,
 }
 
 pub fn next(stream: &mut Stream) -> Seen {
     let case = stream.next();
     kernel::branches::take();
+    kernel::branches::take_no_room();
     let Ok(Expected::Known(answer, after)) = expected(&case.image, &case.call) else {
         panic!("table and kernel disagree: use run");
     };
@@ -28,6 +31,7 @@ pub fn next(stream: &mut Stream) -> Seen {
         answer,
         after,
         reached,
+        full: kernel::branches::take_no_room(),
     }
 }
 
@@ -61,25 +65,45 @@ pub fn print(seed: u64, count: u64) -> bool {
     let mut stream = Stream::new(seed);
     let mut cases = [0_u64; KINDS.len()];
     let mut hits = vec![[0_u64; KINDS.len()]; 2 * BLOCKS.len()];
+    let mut full = [[0_u64; KINDS.len()]; 5 * FULL.len()];
     for _ in 0..count {
         let seen = next(&mut stream);
         let kind = KINDS.iter().position(|k| k.0 == seen.case.kind).unwrap();
         cases[kind] += 1;
+        if let Some(which) = seen.full {
+            full[FULL.len() * seen.case.call.operation.saturating_sub(1).min(4) as usize
+                + which][kind] += 1;
+        }
         for (branch, reached) in branches(&seen.reached).into_iter().enumerate() {
             hits[branch][kind] += u64::from(reached);
         }
     }
     println!("cases in 1000 of each kind that reach a branch; < marks less than 5 everywhere");
-    println!("{}  line of switch.rs", KINDS.map(|kind| format!("{:>8}", kind.1)).concat());
-    for (branch, row) in hits.iter().enumerate() {
+    println!(
+        "{}  line of switch.rs",
+        KINDS.map(|kind| format!("{:>8}", kind.1)).concat()
+    );
+    let rates = |row: &[u64; KINDS.len()]| {
         let rate = |kind: usize| 1000.0 * row[kind] as f64 / cases[kind].max(1) as f64;
+        let rare = (0..KINDS.len()).all(|kind| rate(kind) < 5.0);
+        let text: String = (0..KINDS.len())
+            .map(|kind| format!("{:8.1}", rate(kind)))
+            .collect();
+        format!("{text} {}", if rare { "<" } else { " " })
+    };
+    for (branch, row) in hits.iter().enumerate() {
         let possible = branch < BLOCKS.len() || failing(branch - BLOCKS.len()).is_some();
-        let shown = possible && !(branch < BLOCKS.len() && BLOCKS[branch].1);
-        if shown {
-            let rates: String = (0..KINDS.len()).map(|kind| format!("{:8.1}", rate(kind))).collect();
-            let rare = (0..KINDS.len()).all(|kind| rate(kind) < 5.0);
-            println!("{rates} {} {}", if rare { "<" } else { " " }, name(branch));
+        if possible && !(branch < BLOCKS.len() && BLOCKS[branch].1) {
+            println!("{} {}", rates(row), name(branch));
         }
+    }
+    for (place, row) in full
+        .iter()
+        .enumerate()
+        .filter(|(_, row)| row.iter().any(|n| *n > 0))
+    {
+        let (operation, which) = (place / FULL.len() + 1, FULL[place % FULL.len()]);
+        println!("{}   no room: operation {operation}, {which}", rates(row));
     }
     true
 }

@@ -10,8 +10,8 @@ use image::{Answer, Call};
 pub struct Limits {
     pub cpus: u64,
     pub contexts: u64,
-    /// Words that are not 0, before the call.
-    pub words: usize,
+    /// How many words are not 0, before the call.
+    pub words: std::ops::RangeInclusive<usize>,
     /// How often each feature is wanted, if there are such cases.
     pub times: u32,
     /// How often each refusal is wanted.
@@ -31,8 +31,7 @@ pub struct Chosen {
 }
 
 /// Takes from `tries` cases, each time the one with most that is new for its size.
-pub fn choose(seed: u64, tries: u64, limits: &Limits) -> Vec<Chosen> {
-    let mut stream = Stream::small(seed);
+pub fn choose(mut stream: Stream, tries: u64, limits: &Limits) -> Vec<Chosen> {
     let mut from = Vec::new();
     let mut seen_of = Vec::new();
     for _ in 0..tries {
@@ -42,7 +41,7 @@ pub fn choose(seed: u64, tries: u64, limits: &Limits) -> Vec<Chosen> {
             1 | 2 => limits.any_length,
             _ => seen.case.image[0] <= limits.cpus && seen.case.image[1] <= limits.contexts,
         };
-        if sized && words <= limits.words {
+        if sized && limits.words.contains(&words) {
             let chosen = features(seen, words);
             for feature in &chosen.features {
                 seen_of.resize(seen_of.len().max(feature + 1), 0_u32);
@@ -71,7 +70,9 @@ fn features(seen: Seen, words: usize) -> Chosen {
     } else {
         let answered = REFUSALS + operation * 8 + (answer.result * 2 + answer.interrupt) as usize;
         let reached = branches::branches(&seen.reached);
-        let through = (0..reached.len()).filter(|n| reached[*n]).map(|n| ANSWERS + n);
+        let through = (0..reached.len())
+            .filter(|n| reached[*n])
+            .map(|n| ANSWERS + n);
         through.chain([answered]).collect()
     };
     Chosen {
@@ -90,8 +91,18 @@ fn greedy(mut from: Vec<Chosen>, features: usize, limits: &Limits) -> Vec<Chosen
     let mut times = 1;
     while taken.len() < limits.cases && !from.is_empty() {
         let gain = |case: &Chosen| {
-            let wanted = |f: usize| if f < REFUSALS { times.min(limits.refused) } else { times };
-            let new = case.features.iter().filter(|f| covered[**f] < wanted(**f)).count();
+            let wanted = |f: usize| {
+                if f < REFUSALS {
+                    times.min(limits.refused)
+                } else {
+                    times
+                }
+            };
+            let new = case
+                .features
+                .iter()
+                .filter(|f| covered[**f] < wanted(**f))
+                .count();
             new * 1_000_000 / case.cost
         };
         let best = (0..from.len()).max_by_key(|n| gain(&from[*n])).unwrap();

@@ -7,6 +7,7 @@ pub enum Expected {
     /// Answer and image after.
     Known(Answer, Vec<u64>),
     /// Without the kernel: accepted, or refused with 9.
+    #[cfg_attr(feature = "oracle", allow(dead_code))]
     Passes,
 }
 

@@ -7,8 +7,11 @@ mod choose;
 mod expected;
 mod generate;
 mod port;
+#[cfg(feature = "oracle")]
+mod power;
 #[cfg(feature = "branches")]
 mod record;
+mod replay;
 mod report;
 mod run;
 
@@ -22,6 +25,12 @@ fn main() -> ExitCode {
     let number = |text: &str| text.parse::<u64>().expect("a number");
     let good = match words[..] {
         ["run", seed, count] => run::run(number(seed), number(count)),
+        ["replay", list] if list.ends_with(".txt") => replay::text(list),
+        ["replay", list] => replay::words(list),
+        #[cfg(feature = "oracle")]
+        ["answers", seed, count, to] => power::answers(number(seed), number(count), to),
+        #[cfg(feature = "oracle")]
+        ["against", seed, from] => power::against(number(seed), from),
         #[cfg(feature = "branches")]
         ["branches", seed, count] => branches::print(number(seed), number(count)),
         #[cfg(feature = "branches")]
@@ -33,5 +42,9 @@ fn main() -> ExitCode {
             false
         }
     };
-    if good { ExitCode::SUCCESS } else { ExitCode::FAILURE }
+    if good {
+        ExitCode::SUCCESS
+    } else {
+        ExitCode::FAILURE
+    }
 }

@@ -1,6 +1,9 @@
 //! Writes the recorded lists: one of words for programs, one of text for scripts.
 
-use crate::choose::{Limits, changes, choose, nonzero};
+use crate::{
+    choose::{Limits, changes, choose, nonzero},
+    generate::Stream,
+};
 use std::{fs::File, io::Write};
 
 const TRIES: u64 = 400_000;
@@ -11,7 +14,7 @@ pub fn small(seed: u64, cases: usize) -> bool {
     let limits = Limits {
         cpus: 2,
         contexts: 4,
-        words: 120,
+        words: 0..=120,
         times: 12,
         refused: 2,
         any_length: false,
@@ -21,7 +24,7 @@ pub fn small(seed: u64, cases: usize) -> bool {
         let text: Vec<String> = words.iter().map(|(i, v)| format!("{i}:{v}")).collect();
         text.join(" ")
     };
-    for case in choose(seed, TRIES, &limits) {
+    for case in choose(Stream::small(seed), TRIES, &limits) {
         let (call, answer) = (&case.call, &case.answer);
         println!(
             "{} {} {} {} | {} | {} {} {} | {}",
@@ -45,13 +48,20 @@ pub fn list(seed: u64, cases: usize, to: &str) -> bool {
     let limits = Limits {
         cpus: 4,
         contexts: 64,
-        words: 400,
+        words: 0..=400,
         times: 40,
         refused: 8,
         any_length: true,
         cases,
     };
-    let chosen = choose(seed, TRIES, &limits);
+    let mut chosen = choose(Stream::small(seed), TRIES, &limits);
+    let larger = Limits {
+        words: 250..=600,
+        times: 1,
+        cases: cases / 8,
+        ..limits
+    };
+    chosen.extend(choose(Stream::new(seed), TRIES, &larger));
     let mut words = vec![chosen.len() as u64];
     for case in &chosen {
         let (call, answer) = (&case.call, &case.answer);

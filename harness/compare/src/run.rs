@@ -16,6 +16,8 @@ struct Tally {
 
 /// True if no difference was found.
 pub fn run(seed: u64, count: u64) -> bool {
+    #[cfg(feature = "oracle")]
+    assert_eq!(kernel::EDITED, "", "an edited kernel is no oracle");
     let mut stream = Stream::new(seed);
     let mut tally = Tally::default();
     for number in 0..count {
@@ -81,7 +83,9 @@ fn print(tally: &Tally, seed: u64, count: u64) {
     println!("{count} cases of seed {seed}, no difference");
     println!("operation                      cases  refused  port compared");
     for (operation, [cases, refused, compared]) in tally.operations.iter().enumerate() {
-        let name = operation.checked_sub(1).map_or("none such", |n| OPERATIONS[n]);
+        let name = operation
+            .checked_sub(1)
+            .map_or("none such", |n| OPERATIONS[n]);
         println!("{operation} {name:27} {cases:7} {refused:8} {compared:14}");
     }
     for (refusal, cases) in tally.refusals.iter().enumerate() {
@@ -93,6 +97,9 @@ fn print(tally: &Tally, seed: u64, count: u64) {
     }
     let missing = port::missing();
     if !missing.is_empty() {
-        println!("NOT compared, as the port does not export them: {}", missing.join(", "));
+        println!(
+            "NOT compared, as the port does not export them: {}",
+            missing.join(", ")
+        );
     }
 }

@@ -39,9 +39,7 @@ pub fn refusal(image: &[u64], call: &Call) -> u64 {
 }
 
 fn sized(image: &[u64]) -> bool {
-    image.len() >= 2
-        && (1..=MAX_CPUS).contains(&image[0])
-        && (1..=MAX_CONTEXTS).contains(&image[1])
+    image.len() >= 2 && (1..=MAX_CPUS).contains(&image[0]) && (1..=MAX_CONTEXTS).contains(&image[1])
 }
 
 /// Operations 1 to 3, which may run a decision.

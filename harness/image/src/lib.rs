@@ -5,7 +5,7 @@ pub mod block;
 pub mod check;
 pub mod context;
 pub mod name;
-mod ranges;
+pub mod ranges;
 mod structure;
 
 pub const MAX_CPUS: u64 = 4;

@@ -1,6 +1,6 @@
 //! Row 3: the range of each word.
 
-use crate::{NUMBER_MAX, ROOM, SLICE_MAX, View, block, context};
+use crate::{MAX_CONTEXTS, MAX_CPUS, NUMBER_MAX, ROOM, SLICE_MAX, View, block, context};
 
 const ID_MAX: u64 = u32::MAX as u64;
 const WEIGHTS: std::ops::RangeInclusive<u64> = 15..=88_761;
@@ -8,6 +8,26 @@ const WEIGHTS: std::ops::RangeInclusive<u64> = 15..=88_761;
 pub fn hold(image: View) -> bool {
     (0..image.contexts()).all(|number| record(image, number))
         && (0..image.cpus()).all(|cpu| one_block(image, cpu))
+}
+
+/// The largest value that the word at `index` may have, its neighbours aside.
+pub fn limit(image: View, index: usize) -> u64 {
+    let Some(place) = index.checked_sub(2) else {
+        return [MAX_CPUS, MAX_CONTEXTS][index];
+    };
+    let records = context::WORDS * image.contexts();
+    if place < records {
+        return match place % context::WORDS {
+            context::GONE => 1,
+            context::DEBUG_ID => ID_MAX,
+            word => record_max(image, word),
+        };
+    }
+    let word = (place - records) % block::WORDS;
+    if word < block::SINGLE {
+        return single_max(image, word);
+    }
+    slot_max(image, block::SINGLE + (word - block::SINGLE) / ROOM * ROOM)
 }
 
 fn record(image: View, number: usize) -> bool {
@@ -81,14 +101,19 @@ fn used(image: View, cpu: usize, column: usize, count: usize) -> bool {
         if slot >= count {
             return value == 0;
         }
-        match column {
-            block::KEY_REM_SLICE => value <= SLICE_MAX,
-            block::KEY_ID => value <= ID_MAX,
-            block::ENTRY_WEIGHT => WEIGHTS.contains(&value),
-            block::ENTRY_CONTEXT | block::TIMER_CONTEXT | block::LOCAL | block::IPI => {
-                value < image.contexts() as u64
-            }
-            _ => value <= NUMBER_MAX,
-        }
+        value <= slot_max(image, column)
+            && (column != block::ENTRY_WEIGHT || value >= *WEIGHTS.start())
     })
+}
+
+fn slot_max(image: View, column: usize) -> u64 {
+    match column {
+        block::KEY_REM_SLICE => SLICE_MAX,
+        block::KEY_ID => ID_MAX,
+        block::ENTRY_WEIGHT => *WEIGHTS.end(),
+        block::ENTRY_CONTEXT | block::TIMER_CONTEXT | block::LOCAL | block::IPI => {
+            image.contexts() as u64 - 1
+        }
+        _ => NUMBER_MAX,
+    }
 }

@@ -28,7 +28,10 @@ fn main() {
     println!("cargo::rerun-if-env-changed=RONTHUYAL_KERNEL_SRC");
     println!("cargo::rerun-if-env-changed=RONTHUYAL_EDIT");
     println!("cargo::rerun-if-changed={}", here.display());
-    println!("cargo::rerun-if-changed={}", here.join("../power.txt").display());
+    println!(
+        "cargo::rerun-if-changed={}",
+        here.join("../power.txt").display()
+    );
 
     let source = env::var("RONTHUYAL_KERNEL_SRC")
         .map(PathBuf::from)
@@ -36,13 +39,14 @@ fn main() {
     let edit = edits::chosen(&here.join("../power.txt"));
 
     fs::create_dir_all(tree.join("context/arch")).unwrap();
-    let mut blocks = String::new();
+    let (mut blocks, mut edited) = (String::new(), String::new());
     for file in FILES {
         let from = source.join(file);
         println!("cargo::rerun-if-changed={}", from.display());
         let mut text = fs::read_to_string(&from)
             .unwrap_or_else(|error| panic!("no kernel source {}: {error}", from.display()));
         if let Some(edit) = edit.as_ref().filter(|edit| edit.file == file) {
+            edited = edit.whereabouts(&text);
             text = edit.applied(&text);
         }
         if env::var_os("CARGO_FEATURE_BRANCHES").is_some() && file == "context/switch.rs" {
@@ -59,6 +63,7 @@ fn main() {
         fs::copy(shim, tree.join("context").join(name).with_extension("rs")).unwrap();
     }
     fs::write(tree.join("root.rs"), root(&tree)).unwrap();
+    fs::write(tree.join("edited.txt"), edited).unwrap();
     fs::write(tree.join("blocks.rs"), branches::table(&blocks)).unwrap();
 }
 

@@ -60,7 +60,8 @@ impl RunContextData {
     pub fn virtual_time(&self) -> (u64, u64) {
         (self.v, self.total_weight)
     }
-    pub fn peak(&self) -> usize {
-        self.queue.peak.max(self.timers.peak)
+    /// The greatest lengths of queue and timers.
+    pub fn peaks(&self) -> [usize; 2] {
+        [self.queue.peak, self.timers.peak]
     }
 }

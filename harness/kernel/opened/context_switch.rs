@@ -30,15 +30,13 @@ impl ContextSwitchPercpu {
             idle: taken(&self.idle_ctxt),
         }
     }
-    /// The greatest length that the queue, the timers or a list had.
-    pub fn peak(&mut self) -> usize {
+    /// The greatest lengths that queue, timers, local and interrupt list had.
+    pub fn peaks(&mut self) -> [usize; 4] {
         let mut token = unsafe { CleanLockToken::new() };
-        let lists = self
-            .local_wakeup_list
-            .get_mut()
-            .peak
-            .max(self.ipi_context_wakeup_list.lock(token.token()).peak);
-        self.run_queue.get_mut().peak().max(lists)
+        let ipi = self.ipi_context_wakeup_list.lock(token.token()).peak;
+        let local = self.local_wakeup_list.get_mut().peak;
+        let [queue, timers] = self.run_queue.get_mut().peaks();
+        [queue, timers, local, ipi]
     }
     /// Whether a call left something in the places that it only uses itself. Timers
     /// whose context could not be read stay in theirs, and are cleared by the next call.

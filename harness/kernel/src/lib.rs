@@ -26,6 +26,9 @@ mod load;
 pub mod oracle;
 mod store;
 
+/// Where the text was edited for the power table; empty in every other build.
+pub const EDITED: &str = include_str!(concat!(env!("OUT_DIR"), "/tree/edited.txt"));
+
 use core::sync::atomic::{AtomicU32, Ordering};
 
 static CPU_COUNT: AtomicU32 = AtomicU32::new(1);

@@ -2,6 +2,7 @@
 //! answer and image that the kernel's own function leaves.
 
 use crate::{
+    branches,
     context::{
         self,
         context::HardBlockedReason,
@@ -84,8 +85,12 @@ fn run(image: &mut [u64], call: &Call) -> Result<Answer, Fault> {
         }
         Fault::Panics(format!("{:?}", payload.downcast_ref::<&str>()))
     })?;
-    if machine.blocks.iter_mut().flatten().any(|block| block.switch_internals.peak() > ROOM) {
-        return Ok(Answer::refused(9));
+    for block in machine.blocks.iter_mut().flatten() {
+        let peaks = block.switch_internals.peaks();
+        if let Some(which) = peaks.iter().position(|peak| *peak > ROOM) {
+            branches::no_room(which);
+            return Ok(Answer::refused(9));
+        }
     }
     store::machine(&mut machine, image);
     Ok(Answer {

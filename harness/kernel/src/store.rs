@@ -3,9 +3,7 @@
 
 use crate::{
     context::{
-        Context, ContextLock, Status, WeakContextRef,
-        context::HardBlockedReason,
-        opened::parts,
+        Context, ContextLock, Status, WeakContextRef, context::HardBlockedReason, opened::parts,
     },
     load::{Machine, Slot},
     percpu::PercpuBlock,

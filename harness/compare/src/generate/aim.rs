@@ -34,7 +34,7 @@ fn charged(record: &[u64; c::WORDS], v: u64, elapsed: u64) -> Charged {
 
 /// Moves entries of one queue; with `tidy` their records go with them.
 pub fn at_holder(rng: &mut Rng, machine: &mut Machine, at: usize, time: u64, tidy: bool) {
-    let behind = rng.once_in(3);
+    let behind = rng.once_in(2);
     if behind {
         stay_behind(rng, machine, at, time);
     }

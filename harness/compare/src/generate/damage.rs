@@ -1,7 +1,7 @@
 //! Images and calls with one to three words spoiled, or of the wrong length.
 
-use super::rng::Rng;
-use image::{Call, NUMBER_MAX, ROOM, SLICE_MAX, View, block as b, context as c, length};
+use super::{breakage, rng::Rng};
+use image::{Call, NUMBER_MAX, ROOM, View, block as b, context as c, length, ranges};
 
 pub fn spoil(rng: &mut Rng, image: &mut Vec<u64>, call: &mut Call) {
     match rng.below(12) {
@@ -14,6 +14,7 @@ pub fn spoil(rng: &mut Rng, image: &mut Vec<u64>, call: &mut Call) {
             }
         }
         2 | 3 => call_word(rng, call),
+        4..=6 => breakage::break_structure(rng, image),
         _ => {
             for _ in 0..rng.within(1, 3) {
                 word(rng, image);
@@ -24,12 +25,35 @@ pub fn spoil(rng: &mut Rng, image: &mut Vec<u64>, call: &mut Call) {
 
 fn resize(rng: &mut Rng, image: &mut Vec<u64>) {
     let len = image.len();
-    let to = rng.pick(&[0, 1, 2, 3, len / 2, len - 1, len + 1, len + b::WORDS, 4400, 5000]);
+    let to = rng.pick(&[
+        0,
+        1,
+        2,
+        3,
+        len / 2,
+        len - 1,
+        len + 1,
+        len + b::WORDS,
+        4400,
+        5000,
+    ]);
     image.resize(to, rng.pick(&[0, 1]));
 }
 
 fn call_word(rng: &mut Rng, call: &mut Call) {
-    let odd = rng.pick(&[0, 1, 4, 7, 8, 63, 64, 1 << 32, NUMBER_MAX, NUMBER_MAX + 1, u64::MAX]);
+    let odd = rng.pick(&[
+        0,
+        1,
+        4,
+        7,
+        8,
+        63,
+        64,
+        1 << 32,
+        NUMBER_MAX,
+        NUMBER_MAX + 1,
+        u64::MAX,
+    ]);
     match rng.below(4) {
         0 => call.operation = odd,
         1 => call.cpu = rng.pick(&[1, 2, 3, 4, 5, odd]),
@@ -45,11 +69,11 @@ fn word(rng: &mut Rng, image: &mut [u64]) {
         0 => old.wrapping_add(1),
         1 => old.wrapping_sub(1),
         2 => rng.pick(&[NUMBER_MAX, NUMBER_MAX + 1, u64::MAX]),
-        3 => rng.pick(&[SLICE_MAX, SLICE_MAX + 1, 1 << 32, (1 << 32) - 1]),
-        4 => rng.pick(&[14, 15, 88_761, 88_762, 39, 40, 63, 64, 65]),
-        5 => image[rng.below(image.len())],
-        6 => rng.next(),
-        _ => rng.pick(&[0, 1, 2, 3, 5, 6]),
+        3 => rng.pick(&[0, 1, 2, 14, 15]),
+        4 => image[rng.below(image.len())],
+        5 => rng.next(),
+        // A word's own limit, and one more.
+        _ => ranges::limit(View(image), at).saturating_add(rng.mark()),
     };
 }
 
@@ -62,7 +86,7 @@ fn place(rng: &mut Rng, image: &[u64]) -> usize {
         && (1..=64).contains(&image[1])
         && image.len() == length(view.cpus(), view.contexts());
     if !sized {
-        return rng.below(image.len());
+        return rng.below(2);
     }
     let block = view.block_at(rng.below(view.cpus()));
     match rng.below(4) {

@@ -8,21 +8,87 @@ use super::{
 };
 use image::{ROOM, block as b, context as c};
 
-pub fn fill(rng: &mut Rng, scale: &Scale, machine: &mut Machine) {
-    for _ in 0..rng.within(1, 2) {
-        let at = rng.below(machine.cpu.len());
-        let to = ROOM - rng.pick(&[0, 0, 0, 1, 1, 2]);
-        match rng.below(6) {
-            0 | 1 => queue(rng, scale, machine, at, to),
-            2 | 3 => timers(rng, scale, machine, at, to),
-            4 => names(rng, machine.record.len(), &mut machine.cpu[at].local, to),
-            _ => names(rng, machine.record.len(), &mut machine.cpu[at].ipi, to),
+/// Fills something of the CPU `aimed`, or of another one; if it was the interrupt
+/// list, the CPU is answered.
+pub fn fill(rng: &mut Rng, scale: &Scale, machine: &mut Machine, aimed: usize) -> Option<usize> {
+    let mut filled = None;
+    let at = if rng.once_in(4) {
+        rng.below(machine.cpu.len())
+    } else {
+        aimed
+    };
+    let to = ROOM - rng.pick(&[0, 0, 0, 0, 1, 1, 2]);
+    let contexts = machine.record.len();
+    match rng.below(8) {
+        0 | 1 => {
+            queue(rng, scale, machine, at, to);
+            newcomer(rng, machine, at);
         }
-        if rng.once_in(3) {
+        2 => {
+            queue(rng, scale, machine, at, to);
+            keyless(rng, machine, at);
+        }
+        3 | 4 => {
+            timers(rng, scale, machine, at, to);
             departing(rng, scale, machine, at);
+        }
+        5 => names(rng, contexts, &mut machine.cpu[at].local, to),
+        6 => {
+            // Names of a locked context are all put back.
+            names(rng, 1, &mut machine.cpu[at].local, to);
+            let locked = rng.below(contexts);
+            machine.cpu[at].local.fill(locked);
+            if machine.live(locked) {
+                machine.record[locked][c::LOCK] = 1;
+            }
+        }
+        _ => {
+            names(rng, contexts, &mut machine.cpu[at].ipi, to);
+            for record in machine.record.iter_mut().filter(|r| r[c::GONE] == 0) {
+                record[c::CPU_ID] = at as u64 + 1;
+            }
+            filled = rng.once_in(2).then_some(at);
         }
     }
     machine.settle();
+    filled
+}
+
+/// Somebody who is not queued yet comes in by the local list.
+fn newcomer(rng: &mut Rng, machine: &mut Machine, at: usize) {
+    let context = rng.below(machine.record.len());
+    let queued = machine.cpu[at]
+        .queue
+        .iter()
+        .any(|entry| entry.context == context);
+    let record = &mut machine.record[context];
+    if record[c::GONE] == 0 && record[c::CURRENTLY_SCHEDULED] == 0 {
+        record[c::STATUS] = c::RUNNABLE;
+        record[c::USERSPACE] = 1;
+        record[c::LOCK] = 0;
+        record[c::RUNNING] = 0;
+        if !queued {
+            record[c::HAS_KEY] = 0;
+            record[c::KEY_VD] = 0;
+            record[c::KEY_REM_SLICE] = 0;
+        }
+        machine.cpu[at].local.push(context);
+    }
+}
+
+/// Queued contexts without a key: the winner's entry stays when the holder goes in.
+fn keyless(rng: &mut Rng, machine: &mut Machine, at: usize) {
+    for entry in &machine.cpu[at].queue {
+        let record = &mut machine.record[entry.context];
+        if record[c::GONE] == 0 && !rng.once_in(8) {
+            record[c::HAS_KEY] = 0;
+            record[c::KEY_VD] = 0;
+            record[c::KEY_REM_SLICE] = 0;
+        }
+    }
+    let sched = machine.cpu[at].sched();
+    machine.record[sched][c::STATUS] = c::RUNNABLE;
+    machine.cpu[at].local.clear();
 }
 
 /// All sorts of names, or one name over and over.
@@ -68,11 +134,17 @@ fn queue(rng: &mut Rng, scale: &Scale, machine: &mut Machine, at: usize, to: usi
 }
 
 fn timers(rng: &mut Rng, scale: &Scale, machine: &mut Machine, at: usize, to: usize) {
-    let far = rng.once_in(2);
-    let mut wake = if far { scale.time + 2 } else { scale.time.saturating_sub(40) };
+    let far = !rng.once_in(4);
+    let mut wake = if far {
+        scale.time + 2
+    } else {
+        scale.time.saturating_sub(40)
+    };
     while machine.cpu[at].timers.len() < to {
         let context = rng.below(machine.record.len());
-        machine.cpu[at].timers.push((wake.min(image::NUMBER_MAX), context));
+        machine.cpu[at]
+            .timers
+            .push((wake.min(image::NUMBER_MAX), context));
         wake += rng.below(3) as u64;
         if machine.cpu[at].timers.len() == to {
             machine.settle();

@@ -1,10 +1,12 @@
 //! The seeded generator of cases.
 
 mod aim;
+mod breakage;
 mod damage;
 mod full;
 mod machine;
 pub mod rng;
+mod seats;
 mod tidy;
 mod untidy;
 mod values;
@@ -21,8 +23,11 @@ pub enum Kind {
     Full,
     Damaged,
     Chain,
+    /// Read from a recorded list, not generated.
+    Recorded,
 }
 
+#[cfg(feature = "branches")]
 pub const KINDS: [(Kind, &str); 5] = [
     (Kind::Tidy, "tidy"),
     (Kind::Untidy, "untidy"),
@@ -54,6 +59,7 @@ impl Stream {
         }
     }
     /// Only machines of one or two CPUs and few contexts.
+    #[cfg(feature = "branches")]
     pub fn small(seed: u64) -> Self {
         Self {
             small: true,
@@ -88,7 +94,9 @@ impl Stream {
         if let Some((image, scale, _)) = &mut self.chain {
             image.clear();
             image.extend(after);
-            let step = self.rng.pick(&[0, 1, 400_000, 2_250_000, 3_375_000, 6_750_000, 25_000_000]);
+            let step = self
+                .rng
+                .pick(&[0, 1, 400_000, 2_250_000, 3_375_000, 6_750_000, 25_000_000]);
             scale.time = (scale.time + step).min(NUMBER_MAX);
         }
     }
@@ -96,7 +104,11 @@ impl Stream {
     fn first(&mut self, kind: Kind) -> Case {
         let rng = &mut self.rng;
         let scale = Scale::new(rng);
-        let size = if self.small { Size::small(rng) } else { Size::any(rng) };
+        let size = if self.small {
+            Size::small(rng)
+        } else {
+            Size::any(rng)
+        };
         let mut machine = tidy::machine(rng, &size, &scale);
         let spoiled = match kind {
             Kind::Tidy => false,
@@ -110,13 +122,19 @@ impl Stream {
         if spoiled {
             untidy::spoil(rng, &scale, &mut machine);
         }
-        if kind == Kind::Full {
-            full::fill(rng, &scale, &mut machine);
-        }
+        let filled = match kind {
+            Kind::Full => full::fill(rng, &scale, &mut machine, aimed),
+            _ => None,
+        };
         let mut image = machine.image();
         let mut call = self.call(&image, scale.time);
         if !self.rng.once_in(4) && machine.cpu[aimed].present() {
             call.cpu = aimed as u64;
+        }
+        if let Some(filled) = filled {
+            // Only a wake-up from another CPU puts a name there.
+            call.operation = 4;
+            call.cpu = (filled as u64 + 1) % machine.cpu.len() as u64;
         }
         for other in 0..machine.cpu.len() {
             let held = machine.cpu[other].present() && self.rng.once_in(8);
@@ -142,18 +160,22 @@ impl Stream {
         if !view.present(cpu) && !rng.once_in(12) {
             cpu = (0..view.cpus()).find(|cpu| view.present(*cpu)).unwrap();
         }
-        let operation = match rng.below(24) {
+        let mut operation = match rng.below(24) {
             0..=4 => 1,
-            5..=13 => 2,
-            14..=17 => 3,
+            5..=12 => 2,
+            13..=17 => 3,
             18 | 19 => 4,
             20 | 21 => 5,
             22 => 6,
             _ => 7,
         };
         let mut context = rng.below(view.contexts());
+        let current = view.block(cpu, b::CURRENT_CTXT);
         if operation == 3 && rng.once_in(6) {
-            context = view.block(cpu, b::CURRENT_CTXT) as usize;
+            context = current as usize;
+        } else if operation == 3 && current == view.block(cpu, b::IDLE_CTXT) && !rng.once_in(8) {
+            // Refused, as the source asserts: a few are enough.
+            operation = 2;
         }
         Call {
             operation,

@@ -3,6 +3,7 @@
 use super::{
     machine::{Cpu, Entry, Machine},
     rng::Rng,
+    seats,
     values::{self, Scale},
 };
 use image::{block as b, context as c};
@@ -43,9 +44,9 @@ pub fn machine(rng: &mut Rng, size: &Size, scale: &Scale) -> Machine {
         machine.cpu[0].word[b::PRESENT] = 1;
     }
     place(rng, scale, &mut machine);
-    seats(rng, scale, &mut machine);
+    seats::seats(rng, scale, &mut machine);
     machine.settle();
-    show(rng, &mut machine);
+    seats::show(rng, &mut machine);
     machine
 }
 
@@ -114,11 +115,21 @@ fn cpu(rng: &mut Rng, scale: &Scale, number: usize, machine: &mut Machine) -> Cp
     word[b::INSIDE_SYSCALL] = rng.mark();
     word[b::STEAL_COUNTER] = rng.pick(&[0, 0, 16, 32, 1, 2, 8, 14, 15, 17, u64::MAX, u64::MAX - 1]);
     word[b::STATE] = rng.below(3) as u64;
-    for total in [b::USER, b::KERNEL, b::IDLE, b::CONTEXT_SWITCHES, b::SYSCALL_SWITCHES] {
+    for total in [
+        b::USER,
+        b::KERNEL,
+        b::IDLE,
+        b::CONTEXT_SWITCHES,
+        b::SYSCALL_SWITCHES,
+    ] {
         word[total] = rng.pick(&[0, 3, 1 << 40]);
     }
     word[b::RUN_QUEUE_LOCKED] = rng.once_in(60).into();
-    word[b::V] = if number == 0 { scale.v } else { scale.early(rng) };
+    word[b::V] = if number == 0 {
+        scale.v
+    } else {
+        scale.early(rng)
+    };
     Cpu {
         word,
         queue: Vec::new(),
@@ -136,7 +147,11 @@ fn place(rng: &mut Rng, scale: &Scale, machine: &mut Machine) {
     let (queued, late) = (rng.pick(&[0, 1, 2, 3, 4, 4]), rng.once_in(2));
     let favoured = rng.pick(&present);
     for context in machine.cpu.len()..machine.record.len() {
-        let at = if rng.once_in(2) { favoured } else { rng.pick(&present) };
+        let at = if rng.once_in(2) {
+            favoured
+        } else {
+            rng.pick(&present)
+        };
         let mut record = machine.record[context];
         let cpu = &mut machine.cpu[at];
         if rng.below(5) < queued {
@@ -181,97 +196,5 @@ pub fn entry(record: &mut [u64; c::WORDS], context: usize) -> Entry {
         vtime: record[c::VTIME],
         weight: values::weight(record[c::PRIO]),
         context,
-    }
-}
-
-/// Who is in charge and current, names on the local list, and the marks.
-fn seats(rng: &mut Rng, scale: &Scale, machine: &mut Machine) {
-    let (cpus, contexts) = (machine.cpu.len(), machine.record.len());
-    let idle_only = rng.once_in(5);
-    for at in 0..cpus {
-        let free: Vec<usize> = (cpus..contexts)
-            .filter(|context| {
-                let record = &machine.record[*context];
-                record[c::GONE] == 0 && record[c::HAS_KEY] == 0 && record[c::CURRENTLY_SCHEDULED] == 0
-            })
-            .collect();
-        if !free.is_empty() && !idle_only && !rng.once_in(4) {
-            machine.cpu[at].word[b::SCHED_CTXT] = rng.pick(&free) as u64;
-        }
-        if !machine.cpu[at].present() {
-            continue;
-        }
-        let sched = machine.cpu[at].sched();
-        holder(rng, scale, &mut machine.record[sched]);
-        machine.record[sched][c::CURRENTLY_SCHEDULED] = 1;
-        let mut current = sched;
-        if rng.once_in(4) {
-            let other = rng.below(contexts);
-            if machine.live(other) {
-                current = other;
-            }
-        }
-        machine.record[current][c::RUNNING] = (!rng.once_in(24)).into();
-        if !rng.once_in(40) {
-            machine.record[current][c::LOCK] = 0;
-        }
-        machine.cpu[at].word[b::CURRENT_CTXT] = current as u64;
-        if rng.once_in(8) {
-            machine.cpu[at].local.push(sched);
-        }
-        if rng.once_in(12) {
-            machine.cpu[at].local.push(at);
-        }
-        for _ in 0..rng.pick(&[0, 0, 0, 1, 1, 2, 3]) {
-            let name = rng.below(contexts);
-            machine.cpu[at].local.push(name);
-        }
-    }
-}
-
-fn holder(rng: &mut Rng, scale: &Scale, record: &mut [u64; c::WORDS]) {
-    if !rng.once_in(40) {
-        record[c::LOCK] = 0;
-    }
-    if !rng.once_in(40) && record[c::ADDR_SPACE] == 2 {
-        record[c::ADDR_SPACE] = 1;
-    }
-    record[c::RUNNING] = rng.once_in(24).into();
-    if rng.once_in(2) {
-        record[c::STATUS] = c::RUNNABLE;
-    }
-    record[c::IS_ACTIVE] = (record[c::USERSPACE] == 1 && !rng.once_in(10)).into();
-    let late = rng.once_in(3);
-    record[c::VTIME] = if late {
-        scale.late(rng)
-    } else if rng.once_in(2) {
-        // So far behind that it is eligible after its charge.
-        scale.v / 2
-    } else {
-        scale.early(rng)
-    };
-    let from = if rng.once_in(2) { scale.v } else { record[c::VTIME] };
-    record[c::VD] = scale.deadline(rng, from);
-}
-
-/// Total weights, and what a CPU shows of its queue: true, but for a few.
-fn show(rng: &mut Rng, machine: &mut Machine) {
-    for at in 0..machine.cpu.len() {
-        let sched = machine.record[machine.cpu[at].sched()];
-        let cpu = &mut machine.cpu[at];
-        let queue: u64 = cpu.queue.iter().map(|entry| entry.weight).sum();
-        let total = queue + sched[c::IS_ACTIVE] * values::weight(sched[c::PRIO]);
-        let length = cpu.queue.len() as u64;
-        cpu.word[b::TOTAL_WEIGHT] = if rng.once_in(16) { rng.pick(&[0, 1, 15]) } else { total };
-        cpu.word[b::SHOWN_WEIGHT] = if rng.once_in(16) { 7 } else { cpu.word[b::TOTAL_WEIGHT] };
-        cpu.word[b::QUEUE_LEN] = match rng.below(7) {
-            0 => rng.below(6) as u64,
-            1 => length + rng.within(1, 4) as u64,
-            _ => length,
-        };
-        cpu.word[b::STEALABLE] = if rng.once_in(6) { 1 } else { (length > 0).into() };
-        if rng.once_in(40) {
-            cpu.word[b::STEALABLE] = 0;
-        }
     }
 }

@@ -33,10 +33,22 @@ fn again(rng: &mut Rng, scale: &Scale, machine: &mut Machine, at: usize) {
         return;
     }
     let old = rng.pick(&machine.cpu[at].queue);
-    let to = if rng.once_in(2) { at } else { rng.below(machine.cpu.len()) };
-    let vtime = if rng.once_in(2) { old.vtime } else { scale.vtime(rng, true) };
+    let to = if rng.once_in(2) {
+        at
+    } else {
+        rng.below(machine.cpu.len())
+    };
+    let vtime = if rng.once_in(2) {
+        old.vtime
+    } else {
+        scale.vtime(rng, true)
+    };
     machine.cpu[to].queue.push(Entry {
-        vd: if to != at && rng.once_in(2) { old.vd } else { scale.deadline(rng, vtime) },
+        vd: if to != at && rng.once_in(2) {
+            old.vd
+        } else {
+            scale.deadline(rng, vtime)
+        },
         vtime,
         ..old
     });
@@ -63,7 +75,10 @@ fn key(rng: &mut Rng, scale: &Scale, machine: &mut Machine, at: usize, context: 
     if !machine.live(context) {
         return;
     }
-    let entry = machine.cpu[at].queue.iter().find(|entry| entry.context == context);
+    let entry = machine.cpu[at]
+        .queue
+        .iter()
+        .find(|entry| entry.context == context);
     let (vd, rem_slice) = match entry {
         Some(entry) if rng.once_in(2) => (entry.vd, entry.rem_slice),
         _ => (scale.deadline(rng, scale.v), values::slice(rng)),
@@ -99,7 +114,12 @@ fn holder_key(rng: &mut Rng, scale: &Scale, machine: &mut Machine, at: usize) {
 
 fn mark(rng: &mut Rng, machine: &mut Machine, context: usize) {
     if machine.live(context) {
-        let mark = rng.pick(&[c::RUNNING, c::CURRENTLY_SCHEDULED, c::USERSPACE, c::IS_ACTIVE]);
+        let mark = rng.pick(&[
+            c::RUNNING,
+            c::CURRENTLY_SCHEDULED,
+            c::USERSPACE,
+            c::IS_ACTIVE,
+        ]);
         machine.record[context][mark] ^= 1;
     }
 }
@@ -111,8 +131,20 @@ fn number(rng: &mut Rng, scale: &Scale, machine: &mut Machine, context: usize) {
     let extreme = rng.once_in(6);
     let record = &mut machine.record[context];
     match rng.below(4) {
-        0 => record[c::VTIME] = if extreme { NUMBER_MAX } else { scale.vtime(rng, true) },
-        1 => record[c::VD] = if extreme { NUMBER_MAX } else { scale.deadline(rng, scale.v) },
+        0 => {
+            record[c::VTIME] = if extreme {
+                NUMBER_MAX
+            } else {
+                scale.vtime(rng, true)
+            }
+        }
+        1 => {
+            record[c::VD] = if extreme {
+                NUMBER_MAX
+            } else {
+                scale.deadline(rng, scale.v)
+            }
+        }
         2 => record[c::REM_SLICE] = values::slice(rng),
         _ => record[c::STATUS] = rng.below(6) as u64,
     }

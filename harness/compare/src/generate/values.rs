@@ -22,7 +22,11 @@ impl Scale {
     pub fn new(rng: &mut Rng) -> Self {
         let time = rng.pick(&[2_250_000, 40_000_000, 1 << 33, 1 << 53, NUMBER_MAX - 5]);
         Self {
-            time: if rng.once_in(16) { rng.pick(&[0, 1, 2, 1000]) } else { time },
+            time: if rng.once_in(16) {
+                rng.pick(&[0, 1, 2, 1000])
+            } else {
+                time
+            },
             v: rng.pick(&[0, 1000, 20_000_000, 90_000_000, 1 << 40, 1 << 40, 1 << 61]),
             step: rng.pick(&[1, 477, 10_000, 1_048_576, 9_437_184]),
         }
@@ -52,15 +56,27 @@ impl Scale {
     /// A virtual time that is mostly up to V.
     pub fn early(&self, rng: &mut Rng) -> u64 {
         let back = self.step * rng.pick(&[0, 0, 1, 2, 3]);
-        if rng.once_in(12) { 0 } else { self.v.saturating_sub(back) }
+        if rng.once_in(12) {
+            0
+        } else {
+            self.v.saturating_sub(back)
+        }
     }
     /// A virtual time that is later than V.
     pub fn late(&self, rng: &mut Rng) -> u64 {
         self.v + 1 + self.step * rng.pick(&[0, 0, 1, 1, 2, 3, 700])
     }
     pub fn vtime(&self, rng: &mut Rng, mostly_late: bool) -> u64 {
-        let late = if mostly_late { rng.below(8) != 0 } else { rng.once_in(4) };
-        if late { self.late(rng) } else { self.early(rng) }
+        let late = if mostly_late {
+            rng.below(8) != 0
+        } else {
+            rng.once_in(4)
+        };
+        if late {
+            self.late(rng)
+        } else {
+            self.early(rng)
+        }
     }
     pub fn deadline(&self, rng: &mut Rng, vtime: u64) -> u64 {
         match rng.below(4) {

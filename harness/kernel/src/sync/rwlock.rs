@@ -42,7 +42,10 @@ impl<L, T> RwLock<L, T> {
         self.value.get()
     }
 
-    pub fn try_read<'a, M>(&'a self, _token: LockToken<'a, M>) -> Option<RwLockReadGuard<'a, L, T>> {
+    pub fn try_read<'a, M>(
+        &'a self,
+        _token: LockToken<'a, M>,
+    ) -> Option<RwLockReadGuard<'a, L, T>> {
         self.held.set(match self.held.get() {
             Held::Free => Held::Read(1),
             Held::Read(readers) => Held::Read(readers + 1),
