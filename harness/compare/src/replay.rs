@@ -123,9 +123,12 @@ fn all(path: &str, cases: Vec<Recorded>) -> bool {
             return false;
         }
     }
+    let by = match cfg!(feature = "oracle") {
+        true => "as the kernel answers",
+        false => "read, their refusals as the table has them",
+    };
     println!(
-        "{}: {} cases as recorded, {ported} of them by the port too",
-        path,
+        "{path}: {} cases {by}; {ported} compared with the port",
         cases.len()
     );
     true
