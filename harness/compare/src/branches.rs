@@ -61,6 +61,33 @@ pub fn name(branch: usize) -> String {
     format!("{line:5} {sense:8} {text}")
 }
 
+/// What the cases of a list reach together.
+#[derive(Default)]
+pub struct Union(Vec<bool>);
+
+impl Union {
+    pub fn add(&mut self, reached: Vec<u32>) {
+        let reached = branches(&reached);
+        self.0.resize(reached.len(), false);
+        for (all, one) in self.0.iter_mut().zip(reached) {
+            *all |= one;
+        }
+    }
+    pub fn print_missing(&self) {
+        for branch in (0..self.0.len()).filter(|branch| shown(*branch) && !self.0[*branch]) {
+            println!("no case reaches {}", name(branch));
+        }
+    }
+}
+
+/// Conditions are shown by their two outcomes, not by having been tried.
+fn shown(branch: usize) -> bool {
+    match branch.checked_sub(BLOCKS.len()) {
+        None => !BLOCKS[branch].1,
+        Some(number) => failing(number).is_some(),
+    }
+}
+
 pub fn print(seed: u64, count: u64) -> bool {
     let mut stream = Stream::new(seed);
     let mut cases = [0_u64; KINDS.len()];
@@ -92,8 +119,7 @@ pub fn print(seed: u64, count: u64) -> bool {
         format!("{text} {}", if rare { "<" } else { " " })
     };
     for (branch, row) in hits.iter().enumerate() {
-        let possible = branch < BLOCKS.len() || failing(branch - BLOCKS.len()).is_some();
-        if possible && !(branch < BLOCKS.len() && BLOCKS[branch].1) {
+        if shown(branch) {
             println!("{} {}", rates(row), name(branch));
         }
     }

@@ -99,6 +99,8 @@ pub fn text(path: &str) -> bool {
 
 fn all(path: &str, cases: Vec<Recorded>) -> bool {
     let mut ported = 0;
+    #[cfg(feature = "branches")]
+    let mut reached = crate::branches::Union::default();
     for (number, recorded) in cases.iter().enumerate() {
         let case = Case {
             kind: Kind::Recorded,
@@ -113,6 +115,8 @@ fn all(path: &str, cases: Vec<Recorded>) -> bool {
             Ok(Expected::Passes) => false,
             Err(_) => panic!("table and kernel disagree: use run"),
         };
+        #[cfg(feature = "branches")]
+        reached.add(kernel::branches::take());
         let mut got_image = case.image.clone();
         let port = port::call(&mut got_image, &case.call).is_some_and(|got| {
             ported += 1;
@@ -123,6 +127,8 @@ fn all(path: &str, cases: Vec<Recorded>) -> bool {
             return false;
         }
     }
+    #[cfg(feature = "branches")]
+    reached.print_missing();
     let by = match cfg!(feature = "oracle") {
         true => "as the kernel answers",
         false => "read, their refusals as the table has them",
