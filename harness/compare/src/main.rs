@@ -4,6 +4,8 @@
 mod branches;
 #[cfg(feature = "branches")]
 mod choose;
+#[path = "../../kernel/build/edits.rs"]
+mod edits;
 mod expected;
 mod generate;
 mod port;
@@ -27,6 +29,7 @@ fn main() -> ExitCode {
         ["run", seed, count] => run::run(number(seed), number(count)),
         ["replay", list] if list.ends_with(".txt") => replay::text(list),
         ["replay", list] => replay::words(list),
+        ["edit", list, root] => edit(list, root),
         #[cfg(feature = "oracle")]
         ["answers", seed, count, to] => power::answers(number(seed), number(count), to),
         #[cfg(feature = "oracle")]
@@ -47,4 +50,13 @@ fn main() -> ExitCode {
     } else {
         ExitCode::FAILURE
     }
+}
+
+/// Applies the edit that RONTHUYAL_EDIT numbers to its file below `root`.
+fn edit(list: &str, root: &str) -> bool {
+    let edit = edits::chosen(list.as_ref()).expect("RONTHUYAL_EDIT");
+    let path = std::path::Path::new(root).join(&edit.file);
+    let text = std::fs::read_to_string(&path).unwrap();
+    print!("{} ", edit.whereabouts(&text));
+    std::fs::write(path, edit.applied(&text)).is_ok()
 }
