@@ -1,33 +1,37 @@
 //! Row 3: the range of each word.
 
 use crate::{MAX_CONTEXTS, MAX_CPUS, NUMBER_MAX, ROOM, SLICE_MAX, View, block, context};
+use std::ops::RangeInclusive;
 
 const ID_MAX: u64 = u32::MAX as u64;
-const WEIGHTS: std::ops::RangeInclusive<u64> = 15..=88_761;
+const WEIGHTS: RangeInclusive<u64> = 15..=88_761;
 
 pub fn hold(image: View) -> bool {
     (0..image.contexts()).all(|number| record(image, number))
         && (0..image.cpus()).all(|cpu| one_block(image, cpu))
 }
 
-/// The largest value that the word at `index` may have, its neighbours aside.
-pub fn limit(image: View, index: usize) -> u64 {
+/// The values that the word at `index` may have, its neighbours aside.
+pub fn range(image: View, index: usize) -> RangeInclusive<u64> {
     let Some(place) = index.checked_sub(2) else {
-        return [MAX_CPUS, MAX_CONTEXTS][index];
+        return 1..=[MAX_CPUS, MAX_CONTEXTS][index];
     };
     let records = context::WORDS * image.contexts();
     if place < records {
         return match place % context::WORDS {
-            context::GONE => 1,
-            context::DEBUG_ID => ID_MAX,
-            word => record_max(image, word),
+            context::GONE => 0..=1,
+            context::DEBUG_ID => 0..=ID_MAX,
+            word => 0..=record_max(image, word),
         };
     }
     let word = (place - records) % block::WORDS;
     if word < block::SINGLE {
-        return single_max(image, word);
+        return 0..=single_max(image, word);
     }
-    slot_max(image, block::SINGLE + (word - block::SINGLE) / ROOM * ROOM)
+    match block::SINGLE + (word - block::SINGLE) / ROOM * ROOM {
+        block::ENTRY_WEIGHT => WEIGHTS,
+        column => 0..=slot_max(image, column),
+    }
 }
 
 fn record(image: View, number: usize) -> bool {

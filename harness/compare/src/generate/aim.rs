@@ -1,5 +1,6 @@
 //! Brings entries close to the holder as it will be after charging, so that ties
-//! and near misses of virtual time, deadline and slice are common.
+//! and near misses of virtual time, deadline and slice are common; and makes other
+//! CPUs worth robbing.
 
 use super::{machine::Machine, rng::Rng, values};
 use image::{SLICE_MAX, block as b, context as c};
@@ -95,5 +96,25 @@ fn near(rng: &mut Rng, value: u64) -> u64 {
         0 => value + 1,
         1 => value.saturating_sub(1),
         _ => value,
+    }
+}
+
+/// A turn that steals, and other CPUs that show what they have.
+pub fn at_victims(rng: &mut Rng, machine: &mut Machine, at: usize) {
+    machine.cpu[at].word[b::STEAL_COUNTER] = rng.pick(&[0, 16, 32]);
+    for other in (0..machine.cpu.len()).filter(|other| *other != at) {
+        let cpu = &mut machine.cpu[other];
+        let length = cpu.queue.len() as u64;
+        cpu.word[b::STEALABLE] = (!rng.once_in(8)).into();
+        cpu.word[b::QUEUE_LEN] = length + rng.pick(&[0, 0, 0, 0, 1, 2]);
+        for entry in &cpu.queue {
+            let record = &mut machine.record[entry.context];
+            if record[c::GONE] == 0 && !rng.once_in(4) {
+                record[c::STATUS] = c::RUNNABLE;
+                record[c::SCHED_AFFINITY] = u64::MAX;
+                record[c::LOCK] = 0;
+                record[c::ADDR_SPACE] = record[c::ADDR_SPACE].min(1);
+            }
+        }
     }
 }

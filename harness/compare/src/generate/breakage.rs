@@ -30,7 +30,7 @@ pub fn break_structure(rng: &mut Rng, image: &mut [u64]) {
         }
         4 if queue > 1 => {
             let slot = rng.within(1, queue - 1);
-            swap(image, block, b::COLUMNS[0].1, slot);
+            swap(rng, image, block, b::COLUMNS[0].1, slot);
         }
         5 if queue > 1 => {
             // Equal deadlines: the larger slice must come first, then the smaller id.
@@ -42,7 +42,7 @@ pub fn break_structure(rng: &mut Rng, image: &mut [u64]) {
         }
         6 if timers > 1 => {
             let slot = rng.within(1, timers - 1);
-            swap(image, block, b::COLUMNS[1].1, slot);
+            swap(rng, image, block, b::COLUMNS[1].1, slot);
         }
         7 if timers > 1 => {
             let slot = rng.within(1, timers - 1);
@@ -63,9 +63,15 @@ fn gone(record: &mut [u64]) {
     record[c::GONE] = 1;
 }
 
-/// Changes places with the item before.
-fn swap(image: &mut [u64], block: usize, columns: &[usize], slot: usize) {
+/// Changes places with the item before, or becomes equal to it.
+fn swap(rng: &mut Rng, image: &mut [u64], block: usize, columns: &[usize], slot: usize) {
+    let equal = rng.once_in(2);
     for column in columns {
-        image.swap(block + column + slot, block + column + slot - 1);
+        let at = block + column + slot;
+        if equal {
+            image[at] = image[at - 1];
+        } else {
+            image.swap(at, at - 1);
+        }
     }
 }

@@ -72,8 +72,15 @@ fn word(rng: &mut Rng, image: &mut [u64]) {
         3 => rng.pick(&[0, 1, 2, 14, 15]),
         4 => image[rng.below(image.len())],
         5 => rng.next(),
-        // A word's own limit, and one more.
-        _ => ranges::limit(View(image), at).saturating_add(rng.mark()),
+        // A word's own limits, and one beyond.
+        _ => {
+            let range = ranges::range(View(image), at);
+            if *range.start() > 0 && rng.once_in(2) {
+                *range.start() - rng.mark()
+            } else {
+                range.end().saturating_add(rng.mark())
+            }
+        }
     };
 }
 
@@ -89,10 +96,10 @@ fn place(rng: &mut Rng, image: &[u64]) -> usize {
         return rng.below(2);
     }
     let block = view.block_at(rng.below(view.cpus()));
-    match rng.below(4) {
-        0 => view.context_at(rng.below(view.contexts())) + rng.below(c::WORDS),
-        1 => block + rng.below(b::SINGLE),
-        2 => {
+    match rng.below(8) {
+        0..=2 => view.context_at(rng.below(view.contexts())) + rng.below(c::WORDS),
+        3 | 4 => block + rng.below(b::SINGLE),
+        5 | 6 => {
             let (count, columns) = b::COLUMNS[rng.below(4)];
             let used = (image[block + count] as usize).min(ROOM - 1);
             block + rng.pick(columns) + rng.below(used + 1)

@@ -119,8 +119,11 @@ impl Stream {
         if rng.once_in(2) {
             aim::at_holder(rng, &mut machine, aimed, scale.time, !spoiled);
         }
+        if rng.once_in(3) {
+            aim::at_victims(rng, &mut machine, aimed);
+        }
         if spoiled {
-            untidy::spoil(rng, &scale, &mut machine);
+            untidy::spoil(rng, &scale, &mut machine, aimed);
         }
         let filled = match kind {
             Kind::Full => full::fill(rng, &scale, &mut machine, aimed),
