@@ -1,4 +1,4 @@
-//! `compare run SEED COUNT`, and the commands that need the kernel.
+//! The commands behind the scripts `run`, `branches`, `power` and `power-table`.
 
 #[cfg(feature = "branches")]
 mod branches;

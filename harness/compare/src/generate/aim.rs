@@ -2,7 +2,11 @@
 //! and near misses of virtual time, deadline and slice are common; and makes other
 //! CPUs worth robbing.
 
-use super::{machine::Machine, rng::Rng, values};
+use super::{
+    machine::{Entry, Machine},
+    rng::Rng,
+    values,
+};
 use image::{SLICE_MAX, block as b, context as c};
 
 /// What charging leaves of a runnable holder.
@@ -115,6 +119,37 @@ pub fn at_victims(rng: &mut Rng, machine: &mut Machine, at: usize) {
                 record[c::LOCK] = 0;
                 record[c::ADDR_SPACE] = record[c::ADDR_SPACE].min(1);
             }
+        }
+    }
+}
+
+/// Queues everybody of one CPU on another one too, where it may be stolen: what a
+/// decision has locked then shows.
+pub fn mirror(rng: &mut Rng, machine: &mut Machine, aimed: usize) {
+    let other = (aimed + 1) % machine.cpu.len();
+    let queue = machine.cpu[aimed].queue.clone();
+    let sched = machine.cpu[aimed].sched();
+    machine.record[sched][c::STATUS] = c::RUNNABLE;
+    machine.cpu[aimed].word[b::STEAL_COUNTER] = 16;
+    if other == aimed || queue.is_empty() {
+        return;
+    }
+    let victim = &mut machine.cpu[other];
+    for entry in &queue {
+        for later in 0..rng.within(1, 3) as u64 {
+            victim.queue.push(Entry {
+                vd: entry.vd + later,
+                ..*entry
+            });
+        }
+    }
+    victim.word[b::STEALABLE] = 1;
+    victim.word[b::QUEUE_LEN] = victim.queue.len() as u64;
+    for entry in &queue {
+        let record = &mut machine.record[entry.context];
+        if record[c::GONE] == 0 && !rng.once_in(4) {
+            record[c::STATUS] = c::RUNNABLE;
+            record[c::SCHED_AFFINITY] = u64::MAX;
         }
     }
 }

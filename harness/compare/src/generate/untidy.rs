@@ -2,6 +2,7 @@
 //! keys that disagree with entries, marks that lie.
 
 use super::{
+    aim,
     machine::{Entry, Machine},
     rng::Rng,
     values::{self, Scale},
@@ -10,7 +11,7 @@ use image::{NUMBER_MAX, block as b, context as c};
 
 pub fn spoil(rng: &mut Rng, scale: &Scale, machine: &mut Machine, aimed: usize) {
     if rng.once_in(4) {
-        mirror(rng, machine, aimed);
+        aim::mirror(rng, machine, aimed);
     }
     for _ in 0..rng.within(1, 6) {
         let at = rng.below(machine.cpu.len());
@@ -28,37 +29,6 @@ pub fn spoil(rng: &mut Rng, scale: &Scale, machine: &mut Machine, aimed: usize) 
         }
     }
     machine.settle();
-}
-
-/// Queues everybody of one CPU on another one too, where it may be stolen: what a
-/// decision has locked then shows.
-fn mirror(rng: &mut Rng, machine: &mut Machine, aimed: usize) {
-    let other = (aimed + 1) % machine.cpu.len();
-    let queue = machine.cpu[aimed].queue.clone();
-    let sched = machine.cpu[aimed].sched();
-    machine.record[sched][c::STATUS] = c::RUNNABLE;
-    machine.cpu[aimed].word[b::STEAL_COUNTER] = 16;
-    if other == aimed || queue.is_empty() {
-        return;
-    }
-    let victim = &mut machine.cpu[other];
-    for entry in &queue {
-        for later in 0..rng.within(1, 3) as u64 {
-            victim.queue.push(Entry {
-                vd: entry.vd + later,
-                ..*entry
-            });
-        }
-    }
-    victim.word[b::STEALABLE] = 1;
-    victim.word[b::QUEUE_LEN] = victim.queue.len() as u64;
-    for entry in &queue {
-        let record = &mut machine.record[entry.context];
-        if record[c::GONE] == 0 && !rng.once_in(4) {
-            record[c::STATUS] = c::RUNNABLE;
-            record[c::SCHED_AFFINITY] = u64::MAX;
-        }
-    }
 }
 
 /// Queues a queued context once more, here or on another CPU.

@@ -1,5 +1,0 @@
-macro_rules! warn {
-    ($($arg:tt)*) => {
-        eprintln!($($arg)*)
-    };
-}
