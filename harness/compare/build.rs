@@ -29,8 +29,8 @@ fn main() {
     };
     let mut found = false;
     for (symbol, cfg) in EXPORTS {
-        // The archive's index holds the names of its global symbols, ended by zeros.
-        let name = [b"\0", symbol.as_bytes(), b"\0"].concat();
+        // The archive's index holds the names of its global symbols, ended by zeros; no name ends another.
+        let name = [symbol.as_bytes(), b"\0"].concat();
         if bytes.windows(name.len()).any(|window| window == name) {
             println!("cargo::rustc-cfg={cfg}");
             found = true;
