@@ -29,8 +29,9 @@ fn main() {
     };
     let mut found = false;
     for (symbol, cfg) in EXPORTS {
-        // The archive's index holds the names of its global symbols, ended by zeros.
-        let name = [b"\0", symbol.as_bytes(), b"\0"].concat();
+        // A name ends with a zero; what stands before it may be any byte. No export's
+        // name is the end of another's, and a wrong find would not link.
+        let name = [symbol.as_bytes(), b"\0"].concat();
         if bytes.windows(name.len()).any(|window| window == name) {
             println!("cargo::rustc-cfg={cfg}");
             found = true;
