@@ -7,6 +7,7 @@ pub mod context;
 pub mod name;
 pub mod ranges;
 mod structure;
+pub mod tidy;
 
 pub const MAX_CPUS: u64 = 4;
 pub const MAX_CONTEXTS: u64 = 64;

@@ -7,6 +7,8 @@ mod full;
 mod machine;
 pub mod rng;
 mod seats;
+#[cfg(test)]
+mod tests;
 mod tidy;
 mod untidy;
 mod values;
