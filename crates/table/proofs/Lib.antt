@@ -2,3 +2,5 @@ pub mod Stepping
 pub mod Tables
 pub mod Search
 pub mod Places
+pub mod InBlock
+pub mod Sorted
