@@ -8,13 +8,14 @@ use lib.ListN.{length, getD}
 use Rattle.run_queue.specs.declared.Entry.{Entry}
 use Rattle.run_queue.specs.declared.Timer.{Timer}
 use Rattle.run_queue.specs.Order.{entry-before}
-use Rattle.run_queue.proofs.Orders.{before-asym}
+use Rattle.run_queue.proofs.Orders.{before-asym, before-trans}
 use Rattle.cpu_stats.specs.Words.{stats-words}
 use Rattle.percpu.specs.Cpu.{Cpu}
 use Rattle.percpu.specs.Words.{block-words}
 use Rattle.percpu.specs.With.{cpu-queue}
 use Rattle.percpu.specs.Layout.{counts, columns, cpu-words, entry-at}
 use Rattle.table.proofs.Tables.{fields}
+use Rattle.table.proofs.Sorted.{IsOrder}
 use Rattle.table.proofs.InBlock.{Table, Lies, field-is}
 
 -- the fields of an entry, in the order of their columns
@@ -60,5 +61,5 @@ queue-lies =
       counts-new = λ c q. refl;
     }
 
-pub entries-asym : (a b : Entry) → entry-before a b ≡ true → entry-before b a ≡ false
-entries-asym a b = before-asym (a .key) (b .key)
+pub entry-order : IsOrder entry-before
+entry-order = record { asym = λ a b. before-asym (a .key) (b .key); trans = λ a b c. before-trans (a .key) (b .key) (c .key) }

@@ -4,13 +4,14 @@ ghost use mathlib.Core.Bool.{true, not, _&&_};
 ghost use Prim.Native.Nat.{ℕ, _<_, _≤_};
 ghost use lib.Dec.{ltb};
 ghost use lib.ListN.{length, getD};
-ghost use Rattle.run_queue.specs.Order.{before};
+ghost use Rattle.run_queue.specs.Order.{before, entry-before};
 ghost use Rattle.run_queue.specs.Queue.{queue-remove};
 ghost use Rattle.run_queue.specs.Found.{has-key};
+ghost use Rattle.run_queue.specs.Sorted.{Sorted};
 ghost use Rattle.percpu.specs.Cpu.{Cpu};
 ghost use Rattle.percpu.specs.With.{cpu-queue};
 ghost use Rattle.percpu.specs.Layout.{cpu-words, entry-at};
-ghost use Rattle.table.specs.First.{first-not};
+ghost use Rattle.table.specs.First.{first-not, Falls};
 ghost use Rattle.queue.specs.Put.{no-room, queue-put};
 use run_queue::Entry;
 use run_queue::Key;
@@ -38,21 +39,24 @@ pub fn entry(b: &[u64], i: usize) -> Entry
     }
 }
 
-// How many of the first n entries stand before the key: where it is, or goes.
+// How many of the first n entries stand before the key: where it is, or goes. Halving is as fast as a walk
+// from the front at 8 entries and takes half its time at 63 (docs/BENCHMARKS.md).
 fn find(b: &[u64], n: usize, k: Key) -> usize
     requires { ⌜ (length (now b) ≡ 665) × (n ≤ 64) ⌝ }
-    ensures { λ r. ⌜ (r ≡ first-not (λ (j : ℕ). before (entry-at (now (b .entry)) j .key) k) 0 n) × (r ≤ n) ⌝ }
+    ensures { λ r. ⌜ (r ≤ n) × (Falls (λ (j : ℕ). before (entry-at (now (b .entry)) j .key) k) n → r ≡ first-not (λ (j : ℕ). before (entry-at (now (b .entry)) j .key) k) 0 n) ⌝ }
 {
-    let mut i = 0;
-    while i < n {
-        let x = key_at(b, i);
+    let mut low = 0;
+    let mut high = n;
+    while low < high {
+        let middle = (low + high) / 2;
+        let x = key_at(b, middle);
         if x.before(k) {
-            i += 1;
+            low = middle + 1;
         } else {
-            return i;
+            high = middle;
         }
     }
-    i
+    low
 }
 
 // The entry at the place that `find` gives has the key.
@@ -70,7 +74,7 @@ fn holds(b: &[u64], n: usize, p: usize, k: Key) -> bool
 // An entry of the same key is replaced. True if there is no room; then nothing is changed.
 pub fn insert(b: &mut [u64], e: Entry) -> bool
     requires { ⌜ (length (now b) ≡ 665) × (getD (now b) 21 0 ≤ 64) ⌝ }
-    ensures { λ r. ⌜ ((c : Cpu) → now (b .entry) ≡ cpu-words c → length (c .queue) ≤ 64 → (r ≡ no-room e c) × (now (b .exit) ≡ cpu-words (queue-put e c))) ⌝ }
+    ensures { λ r. ⌜ ((c : Cpu) → now (b .entry) ≡ cpu-words c → length (c .queue) ≤ 64 → Sorted entry-before (c .queue) → (r ≡ no-room e c) × (now (b .exit) ≡ cpu-words (queue-put e c))) ⌝ }
 {
     let n = b[21] as usize;
     let k = e.key;
@@ -98,7 +102,7 @@ pub fn insert(b: &mut [u64], e: Entry) -> bool
 // True if there was an entry of the key; the words that it frees are 0.
 pub fn remove(b: &mut [u64], k: Key) -> bool
     requires { ⌜ (length (now b) ≡ 665) × (getD (now b) 21 0 ≤ 64) ⌝ }
-    ensures { λ r. ⌜ ((c : Cpu) → now (b .entry) ≡ cpu-words c → length (c .queue) ≤ 64 → (r ≡ has-key k (c .queue)) × (now (b .exit) ≡ cpu-words (cpu-queue (queue-remove k (c .queue)) c))) ⌝ }
+    ensures { λ r. ⌜ ((c : Cpu) → now (b .entry) ≡ cpu-words c → length (c .queue) ≤ 64 → Sorted entry-before (c .queue) → (r ≡ has-key k (c .queue)) × (now (b .exit) ≡ cpu-words (cpu-queue (queue-remove k (c .queue)) c))) ⌝ }
 {
     let n = b[21] as usize;
     let p = find(b, n, k);

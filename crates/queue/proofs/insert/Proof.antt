@@ -2,7 +2,7 @@
 use mathlib.Core.Path.{refl}
 use native.Mathlib.Omega.{arith}
 use borrow.Author.Needs.{needs}
-use Rattle.queue.proofs.Table.{queue-table, queue-lies, entries-asym}
+use Rattle.queue.proofs.Table.{queue-table, queue-lies, entry-order}
 use Rattle.table.proofs.Sorted.{stores, inserts, full}
 use Rattle.table.proofs.Tables.{row}
 use Rattle.run_queue.specs.Order.{entry-before}
@@ -29,7 +29,7 @@ same-length c = search needs
 
 returns : tie.Need-returns
 unfolding row
-returns c = λ k hb g. stores queue-table queue-lies entry-before entries-asym (c .before .before .before .before .before .before .before .before .before .before .before .before .before .args .e) (c .before .before .before .before .before .before .before .before .before .before .before .before .before .args .b .now) _ _ _ refl (c .before .before .before .before .before .before .before .before .find .ensures .0) (c .before .before .before .before .before .before .holds .ensures .0) k hb g _ (c .before .before .before .before .before .if1 .taken) (c .before .before .store-row .ensures)
+returns c = λ k hb g u. stores queue-table queue-lies entry-before entry-order (c .before .before .before .before .before .before .before .before .before .before .before .before .before .args .e) (c .before .before .before .before .before .before .before .before .before .before .before .before .before .args .b .now) _ _ _ refl (c .before .before .before .before .before .before .before .before .find .ensures .1) (c .before .before .before .before .before .before .holds .ensures .0) k hb g u _ (c .before .before .before .before .before .if1 .taken) (c .before .before .store-row .ensures)
 
 slice-aggregate-insert-row : tie.Need-slice-aggregate-insert-row
 slice-aggregate-insert-row c = search needs
@@ -48,13 +48,13 @@ same-length-2 c = search needs
 
 returns-2 : tie.Need-returns-2
 unfolding row
-returns-2 c = λ k hb g. inserts queue-table queue-lies entry-before entries-asym (c .before .before .before .before .before .before .before .before .before .before .before .before .before .before .args .e) (c .before .before .before .before .before .before .before .before .before .before .before .before .before .before .args .b .now) _ _ _ refl (c .before .before .before .before .before .before .before .before .before .find .ensures .0) (c .before .before .before .before .before .before .before .holds .ensures .0) k hb g _ _ (c .before .before .before .before .before .before .if1 .left) (c .before .before .before .before .before .if2 .taken) (c .before .before .insert-row .ensures) refl
+returns-2 c = λ k hb g u. inserts queue-table queue-lies entry-before entry-order (c .before .before .before .before .before .before .before .before .before .before .before .before .before .before .args .e) (c .before .before .before .before .before .before .before .before .before .before .before .before .before .before .args .b .now) _ _ _ refl (c .before .before .before .before .before .before .before .before .before .find .ensures .1) (c .before .before .before .before .before .before .before .holds .ensures .0) k hb g u _ _ (c .before .before .before .before .before .before .if1 .left) (c .before .before .before .before .before .if2 .taken) (c .before .before .insert-row .ensures) refl
 
 same-length-3 : tie.Need-same-length-3
 same-length-3 c = search needs
 
 returns-3 : tie.Need-returns-3
-returns-3 c = λ k hb g. full queue-table queue-lies entry-before entries-asym (c .before .before .before .before .before .before .before .before .before .args .e) (c .before .before .before .before .before .before .before .before .before .args .b .now) _ _ _ refl (c .before .before .before .before .find .ensures .0) (c .before .before .holds .ensures .0) k hb g (c .before .if1 .left) (c .if2 .left)
+returns-3 c = λ k hb g u. full queue-table queue-lies entry-before entry-order (c .before .before .before .before .before .before .before .before .before .args .e) (c .before .before .before .before .before .before .before .before .before .args .b .now) _ _ _ refl (c .before .before .before .before .find .ensures .1) (c .before .before .holds .ensures .0) k hb g u (c .before .if1 .left) (c .if2 .left)
 
 pub insert-spec : {M : Type 1} → statement M
 insert-spec =
