@@ -16,12 +16,7 @@ use Rattle.percpu.specs.With.{cpu-queue}
 use Rattle.percpu.specs.Layout.{counts, columns, cpu-words, entry-at}
 use Rattle.table.proofs.Tables.{fields}
 use Rattle.table.proofs.Sorted.{IsOrder}
-use Rattle.table.proofs.InBlock.{Table, Lies, field-is}
-
--- the fields of an entry, in the order of their columns
-abbrev pub entry-fields : List (Entry → ℕ)
-entry-fields =
-    (λ (e : Entry). e .key .vd) ∷ (λ (e : Entry). e .key .«rem_slice») ∷ (λ (e : Entry). e .key .«ctxt_id») ∷ (λ (e : Entry). e .vtime) ∷ (λ (e : Entry). e .weight) ∷ (λ (e : Entry). e .«context_ref») ∷ []
+use Rattle.table.proofs.InBlock.{Table, Lies, entry-fields, field-is}
 
 module _ (c : Cpu) (d : Entry) (i : ℕ) (h : i < length (c .queue)) (g : length (c .queue) ≤ 64) where
   pub entry-is : entry-at (cpu-words c) i ≡ getD (c .queue) i d

@@ -106,3 +106,13 @@ unfolding sooner
 sooner-trans a b c =
     lex-trans _ _ _ _ _ _ _ _ _ (less-less (a .wake) (b .wake) (c .wake)) (less-same (a .wake) (b .wake) (c .wake)) (same-less (a .wake) (b .wake) (c .wake)) (same-same (a .wake) (b .wake) (c .wake))
     (less-less (a .«context_ref») (b .«context_ref») (c .«context_ref»))
+
+-- the sooner timer has no later wake
+pub sooner-wake : (a b : Timer) → sooner a b ≡ true → a .wake ≤ b .wake
+unfolding sooner
+sooner-wake a b = wakes (ltb (a .wake) (b .wake)) (eqb (a .wake) (b .wake)) refl refl
+  where
+    wakes : (l e : Bool) → ltb (a .wake) (b .wake) ≡ l → eqb (a .wake) (b .wake) ≡ e → (l || (e && ltb (a .«context_ref») (b .«context_ref»))) ≡ true → a .wake ≤ b .wake
+    wakes true e hl he h = omega (arith, ltb-true (a .wake) (b .wake) hl)
+    wakes false true hl he h = omega (arith, eqb-true (a .wake) (b .wake) he)
+    wakes false false hl he h = let z : _≡_ {A = ℕ} 0 1 = cc in absurd (omega arith)

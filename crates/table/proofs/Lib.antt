@@ -5,3 +5,4 @@ pub mod Places
 pub mod Rising
 pub mod InBlock
 pub mod Sorted
+pub mod Dropping
