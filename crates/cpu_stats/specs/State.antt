@@ -1,5 +1,6 @@
 -- Document 01's number of each state. Assumes nothing.
-use Prim.Native.Nat.{ℕ, zero, suc}
+use Prim.Native.Nat.{ℕ, zero, suc, _≤_}
+use native.Mathlib.Omega.{arith}
 use mathlib.Core.Path.{_≡_, refl}
 use mathlib.Core.Bool.{Bool, true, false}
 use Rattle.cpu_stats.specs.declared.CpuState.{CpuState}
@@ -26,3 +27,10 @@ abbrev pub is-idle-state : CpuState → Bool
 is-idle-state Idle = true
 is-idle-state Kernel = false
 is-idle-state User = false
+
+-- in range, the number of the state of a number is that number
+pub state-forth : (x : ℕ) → x ≤ 2 → state-number (state-of x) ≡ x
+unfolding state-of
+state-forth zero h = refl
+state-forth (suc zero) h = refl
+state-forth (suc (suc n)) h = let e : n ≡ 0 = omega arith in rw e

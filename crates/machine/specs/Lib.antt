@@ -1,2 +1,4 @@
 pub mod Machine
 pub mod Encode
+pub mod Shape
+pub mod LookUp

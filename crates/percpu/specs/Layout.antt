@@ -45,6 +45,13 @@ entry-at b i =
 unfoldable pub timer-at : List ℕ → ℕ → Timer
 timer-at b i = record { wake = getD b (409 + i) 0; «context_ref» = getD b (473 + i) 0 }
 
+-- what a list gives past its end
+unfoldable pub no-entry : Entry
+no-entry = entry-at [] 0
+
+unfoldable pub no-timer : Timer
+no-timer = timer-at [] 0
+
 unfoldable pub cpu-of : List ℕ → Cpu
 cpu-of b =
     record {
@@ -62,3 +69,7 @@ front-length c = rw (length-append, length-block-words)
 pub length-cpu-words : (c : Cpu) → length (cpu-words c) ≡ 665
 unfolding cpu-words columns
 length-cpu-words c = rw (length-append, front-length, length-flat)
+
+-- which word of the block counts array j
+unfoldable pub counter : List ℕ
+counter = 21 ∷ 21 ∷ 21 ∷ 21 ∷ 21 ∷ 21 ∷ 22 ∷ 22 ∷ 23 ∷ 24 ∷ []

@@ -1,0 +1,154 @@
+-- An image that is not refused is the image of the machine found in it. Assumes nothing.
+use mathlib.Core.Path.{_≡_, refl, sym, ap, _∙_, subst}
+use mathlib.Core.Bool.{Bool, true, false, not, _&&_}
+use Prim.Native.Nat.{ℕ, zero, suc, _+_, _-_, _*_, _<_, _≤_}
+use native.Mathlib.Omega.{arith}
+use mathlib.Core.List.{List, []}
+use lib.Dec.{ltb, leb, eqb}
+use lib.ListN.{length, getD}
+use borrow.Author.Tests.{eq-eqb, ne-eqb, leb-true, ltb-true, ltb-false, eqb-true, not-false}
+use Rattle.columns.specs.Common.{every, if_then_else_, tabulate}
+use Rattle.columns.specs.Blocks.{part, length-part}
+use Rattle.columns.proofs.Tests.{every-at, and-both, past}
+use Rattle.columns.proofs.Tabulate.{length-tabulate, getD-tabulate}
+use Rattle.context.specs.Words.{context-of}
+use Rattle.percpu.specs.Layout.{cpu-of}
+use Rattle.machine.specs.Machine.{Machine, context-at, cpu-at, no-context, no-cpu}
+use Rattle.machine.specs.Encode.{encode, decode, context-place, cpu-place}
+use Rattle.machine.specs.Shape.{ContextFits, CpuFits, Fits, Image}
+use Rattle.machine.proofs.Encoded.{WholeImage, encode-decode}
+use Rattle.image.specs.Ranges.{most, context-in-range, block-in-range, contexts-in-range, blocks-in-range}
+use Rattle.image.specs.Structure.{structure}
+use Rattle.image.specs.Refusal.{size-c, size-n, in-bounds, ranges, sized-refusal, image-refusal}
+use Rattle.image.proofs.InRange.{whole-context, context-fits, BlockInRange, in-range, whole-block, cpu-fits}
+
+pub bounded : (size greatest : ℕ) → in-bounds size greatest ≡ true → (1 ≤ size) × (size ≤ greatest)
+unfolding in-bounds
+bounded size greatest e =
+    let p = and-both (ltb 0 size) (leb size greatest) e
+    in let q : 0 < size = ltb-true 0 size (p .0)
+    in (omega arith, leb-true size greatest (p .1))
+
+-- what the ranges say
+pub record InRanges (time : ℕ) (m : List ℕ) : Type 0 where
+  pub time-most : time ≤ most
+  pub contexts : contexts-in-range (size-c m) (size-n m) m ≡ true
+  pub blocks : blocks-in-range (size-c m) (size-n m) m ≡ true
+
+pub in-ranges : (time : ℕ) (m : List ℕ) → ranges time m ≡ true → InRanges time m
+unfolding ranges
+in-ranges time m e =
+    let p = and-both (leb time most) _ e
+    in let q = and-both (contexts-in-range (size-c m) (size-n m) m) (blocks-in-range (size-c m) (size-n m) m) (p .1)
+    in record { time-most = leb-true time most (p .0); contexts = q .0; blocks = q .1 }
+
+-- what no refusal says
+pub record Passed (time : ℕ) (m : List ℕ) : Type 0 where
+  pub cpus : (1 ≤ size-c m) × (size-c m ≤ 4)
+  pub names : (1 ≤ size-n m) × (size-n m ≤ 64)
+  pub size : length m ≡ 2 + 26 * size-n m + 665 * size-c m
+  pub words : InRanges time m
+  pub structured : structure (size-c m) (size-n m) m ≡ true
+
+-- the rest of the check, of an image whose sizes are in their bounds; c and n are the sizes as the code has them
+module _ (time : ℕ) (m : List ℕ) (c n : ℕ) (hc : c ≡ size-c m) (hn : n ≡ size-n m) where
+  fits : length m ≡ 2 + 26 * n + 665 * c → eqb (length m) (2 + 26 * size-n m + 665 * size-c m) ≡ true
+  fits e = eq-eqb (length m) (2 + 26 * size-n m + 665 * size-c m) (rw (← hc, ← hn) e)
+
+  pub wrong-length : (length m ≡ 2 + 26 * n + 665 * c → ⊥) → 2 ≡ sized-refusal time m
+  unfolding sized-refusal
+  wrong-length e = rw (ne-eqb (length m) (2 + 26 * size-n m + 665 * size-c m) (λ z. e (rw (hc, hn) z)))
+
+  pub out-of-range : length m ≡ 2 + 26 * n + 665 * c → ranges time m ≡ false → 3 ≡ sized-refusal time m
+  unfolding sized-refusal
+  out-of-range e r = rw (fits e, r)
+
+  pub blocks-in : ranges time m ≡ true → blocks-in-range c n m ≡ true
+  blocks-in r = rw (hc, hn) (in-ranges time m r .blocks)
+
+  pub broken : length m ≡ 2 + 26 * n + 665 * c → ranges time m ≡ true → structure c n m ≡ false → 4 ≡ sized-refusal time m
+  unfolding sized-refusal
+  broken e r t = rw (fits e, r, rw (hc, hn) at t)
+
+  pub not-refused : length m ≡ 2 + 26 * n + 665 * c → ranges time m ≡ true → structure c n m ≡ true → 0 ≡ sized-refusal time m
+  unfolding sized-refusal
+  not-refused e r t = rw (fits e, r, rw (hc, hn) at t)
+
+pub record PassedSized (time : ℕ) (m : List ℕ) : Type 0 where
+  pub size : length m ≡ 2 + 26 * size-n m + 665 * size-c m
+  pub words : InRanges time m
+  pub structured : structure (size-c m) (size-n m) m ≡ true
+
+passed-sized : (time : ℕ) (m : List ℕ) → sized-refusal time m ≡ 0 → PassedSized time m
+unfolding sized-refusal
+passed-sized time m e =
+    let d = past (not (eqb (length m) (2 + 26 * size-n m + 665 * size-c m))) 2 _ (λ z. omega arith) e
+    in let f = past (not (ranges time m)) 3 _ (λ z. omega arith) (d .1)
+    in let g = past (not (structure (size-c m) (size-n m) m)) 4 0 (λ z. omega arith) (f .1)
+    in record {
+      size = eqb-true (length m) (2 + 26 * size-n m + 665 * size-c m) (not-false _ (d .0));
+      words = in-ranges time m (not-false _ (f .0));
+      structured = not-false _ (g .0);
+    }
+
+pub passed : (time : ℕ) (m : List ℕ) → image-refusal time m ≡ 0 → Passed time m
+unfolding image-refusal
+passed time m e =
+    let a = past (ltb (length m) 2) 1 _ (λ z. omega arith) e
+    in let b = past (not (in-bounds (size-c m) 4)) 1 _ (λ z. omega arith) (a .1)
+    in let c = past (not (in-bounds (size-n m) 64)) 1 (sized-refusal time m) (λ z. omega arith) (b .1)
+    in let p = passed-sized time m (c .1)
+    in record {
+      cpus = bounded (size-c m) 4 (not-false _ (b .0));
+      names = bounded (size-n m) 64 (not-false _ (c .0));
+      size = p .size;
+      words = p .words;
+      structured = p .structured;
+    }
+
+module _ {time : ℕ} (m : List ℕ) (p : Passed time m) where
+  abbrev record-at : ℕ → List ℕ
+  record-at x = part m (context-place x) 26
+
+  abbrev block-at : ℕ → List ℕ
+  block-at k = part m (cpu-place (size-n m) k) 665
+
+  block-length : (k : ℕ) → k < size-c m → length (block-at k) ≡ 665
+  block-length k h = length-part m (cpu-place (size-n m) k) 665 (omega (arith, p .size))
+
+  a-context : (x : ℕ) → x < size-n m → context-in-range (size-c m) (record-at x) ≡ true
+  unfolding contexts-in-range
+  a-context x h = every-at (λ (x : ℕ). context-in-range (size-c m) (record-at x)) (size-n m) x (p .words .contexts) h
+
+  a-block : (k : ℕ) → k < size-c m → BlockInRange (size-n m) (block-at k)
+  unfolding blocks-in-range
+  a-block k h = in-range _ _ (every-at (λ (k : ℕ). block-in-range (size-n m) (block-at k)) (size-c m) k (p .words .blocks) h)
+
+  whole : WholeImage m
+  whole =
+      record {
+        size = p .size;
+        context = λ x h. whole-context (size-c m) _ (a-context x h);
+        cpu = λ k h. whole-block _ _ (block-length k h) (a-block k h);
+      }
+
+  pub decoded : m ≡ encode (decode m)
+  decoded = sym (encode-decode m whole)
+
+  pub decoded-fits : Fits (size-c m) (size-n m) (decode m)
+  unfolding decode cpu-at
+  decoded-fits =
+      record {
+        bounds = (p .cpus .0, p .cpus .1, p .names .0, p .names .1);
+        cpus = length-tabulate (size-c m) (λ (k : ℕ). cpu-of (block-at k));
+        contexts = length-tabulate (size-n m) (λ (x : ℕ). context-of (record-at x));
+        context = λ x h.
+            subst (ContextFits (size-c m)) (sym (getD-tabulate (size-n m) x (λ (x : ℕ). context-of (record-at x)) no-context h))
+            (context-fits (size-c m) _ (a-context x h));
+        cpu = λ k h.
+            subst (CpuFits (size-n m)) (sym (getD-tabulate (size-c m) k (λ (k : ℕ). cpu-of (block-at k)) no-cpu h))
+            (cpu-fits _ _ (p .names .0) (a-block k h));
+      }
+
+  pub admitted : Image (size-c m) (size-n m) m
+  admitted = record { M = decode m; eq = decoded; fits = decoded-fits }

@@ -1,0 +1,4 @@
+pub mod Checked
+pub mod InRange
+pub mod Structured
+pub mod Admitted

@@ -1,0 +1,70 @@
+// Refusals 1 to 4 of document 01: the sizes, the length, every word's range, and the structure.
+mod ranges;
+mod structure;
+
+ghost use mathlib.Core.Path.{_≡_};
+ghost use mathlib.Core.Bool.{Bool, true, false};
+ghost use Prim.Native.Nat.{ℕ, _+_, _*_, _<_, _≤_};
+ghost use lib.ListN.{length, getD};
+ghost use Rattle.image.specs.Refusal.{in-bounds, ranges, sized-refusal, image-refusal};
+
+fn in_bounds(size: u64, greatest: u64) -> bool
+    ensures { λ r. ⌜ r ≡ in-bounds size greatest ⌝ }
+{
+    if 0 < size {
+        return size <= greatest;
+    }
+    false
+}
+
+// The ranges of an image that has the length its sizes give.
+fn in_ranges(m: &[u64], time: u64) -> bool
+    requires { ⌜ length (now m) ≡ 2 + 26 * getD (now m) 1 0 + 665 * getD (now m) 0 0 ⌝ }
+    requires { ⌜ (getD (now m) 0 0 ≤ 4) × (1 ≤ getD (now m) 1 0) × (getD (now m) 1 0 ≤ 64) ⌝ }
+    ensures { λ r. ⌜ r ≡ ranges time (now (m .entry)) ⌝ }
+{
+    if ranges::MOST < time {
+        return false;
+    }
+    let c = machine::index(m[0]);
+    let n = machine::index(m[1]);
+    if !ranges::contexts_in_range(m, m[0], n) {
+        return false;
+    }
+    ranges::blocks_in_range(m, c, n)
+}
+
+// Refusals 2 to 4, of an image whose sizes are in their bounds.
+fn sized_refusal(m: &[u64], time: u64) -> u64
+    requires { ⌜ (2 ≤ length (now m)) × (getD (now m) 0 0 ≤ 4) × (1 ≤ getD (now m) 1 0) × (getD (now m) 1 0 ≤ 64) ⌝ }
+    ensures { λ r. ⌜ r ≡ sized-refusal time (now (m .entry)) ⌝ }
+{
+    let c = machine::index(m[0]);
+    let n = machine::index(m[1]);
+    if m.len() != 2 + 26 * n + 665 * c {
+        return 2;
+    }
+    if !in_ranges(m, time) {
+        return 3;
+    }
+    if !structure::structure(m, c, n) {
+        return 4;
+    }
+    0
+}
+
+// 0, or the refusal of an image and a call's time.
+pub fn refusal(m: &[u64], time: u64) -> u64
+    ensures { λ r. ⌜ r ≡ image-refusal time (now (m .entry)) ⌝ }
+{
+    if m.len() < 2 {
+        return 1;
+    }
+    if !in_bounds(m[0], 4) {
+        return 1;
+    }
+    if !in_bounds(m[1], 64) {
+        return 1;
+    }
+    sized_refusal(m, time)
+}

@@ -1,0 +1,203 @@
+// The structure of an image whose words are in their ranges.
+use run_queue::Key;
+use run_queue::Timer;
+ghost use mathlib.Core.Path.{_≡_};
+ghost use mathlib.Core.Bool.{Bool, true, false};
+ghost use Prim.Native.Nat.{ℕ, _+_, _-_, _*_, _<_, _≤_};
+ghost use lib.ListN.{length, getD};
+ghost use Rattle.percpu.specs.Layout.{entry-at, timer-at};
+ghost use Rattle.image.specs.Ranges.{block-in-range, blocks-in-range};
+ghost use Rattle.image.specs.Structure.{id-of, is-live, is-new, ids-differ, names-live, entry-ids, keys-rise, timers-rise, block-structure, structure};
+
+fn id_of(m: &[u64], x: usize) -> u64
+    requires { ⌜ (26 * x + 28 ≤ length (now m)) × (x < 64) ⌝ }
+    ensures { λ r. ⌜ r ≡ id-of (now (m .entry)) x ⌝ }
+{
+    let at = 2 + 26 * x + 1;
+    m[at]
+}
+
+fn is_live(m: &[u64], x: u64) -> bool
+    requires { ⌜ (26 * x + 28 ≤ length (now m)) × (x < 64) ⌝ }
+    ensures { λ r. ⌜ r ≡ is-live (now (m .entry)) x ⌝ }
+{
+    let i = machine::index(x);
+    let at = 2 + 26 * i;
+    m[at] == 0
+}
+
+// The id of context y is no id of one before it.
+fn is_new(m: &[u64], y: usize) -> bool
+    requires { ⌜ (26 * y + 28 ≤ length (now m)) × (y < 64) ⌝ }
+    ensures { λ r. ⌜ r ≡ is-new (now (m .entry)) y ⌝ }
+{
+    let id = id_of(m, y);
+    let mut x = 0;
+    while x < y {
+        if id_of(m, x) == id {
+            return false;
+        }
+        x += 1;
+    }
+    true
+}
+
+// Compares with the ids before it only where one of them may be the same.
+fn is_new_if(m: &[u64], y: usize, compare: bool) -> bool
+    requires { ⌜ (26 * y + 28 ≤ length (now m)) × (y < 64) ⌝ }
+    requires { ⌜ (compare ≡ false → true ≡ is-new (now m) y) ⌝ }
+    ensures { λ r. ⌜ r ≡ is-new (now (m .entry)) y ⌝ }
+{
+    if compare {
+        return is_new(m, y);
+    }
+    true
+}
+
+// Ids that leave different remainders differ: only equal remainders are looked at further.
+fn ids_differ(m: &[u64], n: usize) -> bool
+    requires { ⌜ (2 + 26 * n ≤ length (now m)) × (n ≤ 64) ⌝ }
+    ensures { λ r. ⌜ r ≡ ids-differ (now (m .entry)) n ⌝ }
+{
+    let mut seen = [0u8; 64];
+    let mut y = 0;
+    while y < n {
+        let id = id_of(m, y);
+        let h = machine::index(id % 64);
+        if !is_new_if(m, y, seen[h] != 0) {
+            return false;
+        }
+        seen[h] = 1;
+        y += 1;
+    }
+    true
+}
+
+fn key_at(b: &[u64], i: usize) -> Key
+    requires { ⌜ (length (now b) ≡ 665) × (i < 64) ⌝ }
+    ensures { λ r. ⌜ r ≡ entry-at (now (b .entry)) i .key ⌝ }
+{
+    Key {
+        vd: b[25 + i],
+        rem_slice: b[89 + i],
+        ctxt_id: b[153 + i],
+    }
+}
+
+fn timer_at(b: &[u64], i: usize) -> Timer
+    requires { ⌜ (length (now b) ≡ 665) × (i < 64) ⌝ }
+    ensures { λ r. ⌜ r ≡ timer-at (now (b .entry)) i ⌝ }
+{
+    Timer {
+        wake: b[409 + i],
+        context_ref: b[473 + i],
+    }
+}
+
+fn keys_rise(b: &[u64]) -> bool
+    requires { ⌜ (length (now b) ≡ 665) × (getD (now b) 21 0 ≤ 64) ⌝ }
+    ensures { λ r. ⌜ r ≡ keys-rise (now (b .entry)) ⌝ }
+{
+    let k = machine::index(b[21]);
+    let mut last = key_at(b, 0);
+    let mut i = 0;
+    while i + 1 < k {
+        let next = key_at(b, i + 1);
+        if !last.before(next) {
+            return false;
+        }
+        last = next;
+        i += 1;
+    }
+    true
+}
+
+fn timers_rise(b: &[u64]) -> bool
+    requires { ⌜ (length (now b) ≡ 665) × (getD (now b) 22 0 ≤ 64) ⌝ }
+    ensures { λ r. ⌜ r ≡ timers-rise (now (b .entry)) ⌝ }
+{
+    let k = machine::index(b[22]);
+    let mut last = timer_at(b, 0);
+    let mut i = 0;
+    while i + 1 < k {
+        let next = timer_at(b, i + 1);
+        if !last.sooner(next) {
+            return false;
+        }
+        last = next;
+        i += 1;
+    }
+    true
+}
+
+fn names_live(m: &[u64], b: &[u64], n: u64) -> bool
+    requires { ⌜ (2 + 26 * n ≤ length (now m)) × (1 ≤ n) × (n ≤ 64) × (length (now b) ≡ 665) ⌝ }
+    requires { ⌜ block-in-range n (now b) ≡ true ⌝ }
+    ensures { λ r. ⌜ r ≡ names-live (now (m .entry)) (now (b .entry)) ⌝ }
+{
+    if !is_live(m, b[1]) {
+        return false;
+    }
+    if !is_live(m, b[2]) {
+        return false;
+    }
+    is_live(m, b[3])
+}
+
+fn entry_ids(m: &[u64], b: &[u64], n: u64) -> bool
+    requires { ⌜ (2 + 26 * n ≤ length (now m)) × (1 ≤ n) × (n ≤ 64) × (length (now b) ≡ 665) ⌝ }
+    requires { ⌜ block-in-range n (now b) ≡ true ⌝ }
+    ensures { λ r. ⌜ r ≡ entry-ids (now (m .entry)) (now (b .entry)) ⌝ }
+{
+    let k = machine::index(b[21]);
+    let mut i = 0;
+    while i < k {
+        let x = machine::index(b[345 + i]);
+        if b[153 + i] != id_of(m, x) {
+            return false;
+        }
+        i += 1;
+    }
+    true
+}
+
+fn block_structure(m: &[u64], b: &[u64], n: u64) -> bool
+    requires { ⌜ (2 + 26 * n ≤ length (now m)) × (1 ≤ n) × (n ≤ 64) × (length (now b) ≡ 665) ⌝ }
+    requires { ⌜ block-in-range n (now b) ≡ true ⌝ }
+    ensures { λ r. ⌜ r ≡ block-structure (now (m .entry)) (now (b .entry)) ⌝ }
+{
+    if b[0] == 0 {
+        return true;
+    }
+    if !names_live(m, b, n) {
+        return false;
+    }
+    if !entry_ids(m, b, n) {
+        return false;
+    }
+    if !keys_rise(b) {
+        return false;
+    }
+    timers_rise(b)
+}
+
+pub fn structure(m: &[u64], c: usize, n: usize) -> bool
+    requires { ⌜ (length (now m) ≡ 2 + 26 * n + 665 * c) × (1 ≤ n) × (n ≤ 64) × (c ≤ 4) ⌝ }
+    requires { ⌜ blocks-in-range c n (now m) ≡ true ⌝ }
+    ensures { λ r. ⌜ r ≡ structure c n (now (m .entry)) ⌝ }
+{
+    if !ids_differ(m, n) {
+        return false;
+    }
+    let names = machine::word(n);
+    let mut k = 0;
+    while k < c {
+        let at = 2 + 26 * n + 665 * k;
+        let end = at + 665;
+        if !block_structure(m, &m[at..end], names) {
+            return false;
+        }
+        k += 1;
+    }
+    true
+}

@@ -1,0 +1,5 @@
+pub mod Places
+pub mod Steps
+pub mod Decoded
+pub mod Encoded
+pub mod LookUps

@@ -1,0 +1,5 @@
+pub mod Outcome
+pub mod Wakeup
+pub mod Operations
+pub mod Named
+pub mod Reply

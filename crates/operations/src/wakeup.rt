@@ -1,0 +1,1 @@
+// Waking a context: its name goes on a wake-up list.
