@@ -26,12 +26,18 @@ pub fn clear(mask: u64, cpu: u64) -> u64
     mask & !(1 << cpu)
 }
 
+fn wide(x: u32) -> u64
+    ensures { λ r. ⌜ r ≡ x ⌝ }
+{
+    x as u64
+}
+
 // The lowest CPU of a set that is not empty.
 pub fn next(mask: u64) -> u64
     requires { ⌜ 0 < mask ⌝ }
     ensures { λ r. ⌜ (r ≡ next-cpu mask) × (r < 64) ⌝ }
 {
-    u64::trailing_zeros(mask) as u64
+    wide(u64::trailing_zeros(mask))
 }
 
 // The set without its lowest CPU.
@@ -46,5 +52,5 @@ pub fn rest(mask: u64) -> u64
 pub fn count(mask: u64) -> u64
     ensures { λ r. ⌜ r ≡ length (members mask) ⌝ }
 {
-    u64::count_ones(mask) as u64
+    wide(u64::count_ones(mask))
 }

@@ -12,7 +12,7 @@ shl-result : tie.Need-shl-result
 shl-result c = search needs
 
 sub-result : tie.Need-sub-result
-sub-result c = bit-low _ _ (c .next .ensures .0) (c .next .ensures .1) (c .before .pre) (omega arith)
+sub-result c = omega (arith, bit-low _ _ (c .next .ensures .0) (c .next .ensures .1) (c .before .pre) (omega arith))
 
 returns : tie.Need-returns
 returns c = rest-is _ _ (c .next .ensures .0) (c .next .ensures .1) (c .before .pre) (omega arith)
