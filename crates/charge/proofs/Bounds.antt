@@ -1,7 +1,6 @@
 -- What a charge leaves as it was, and how far the values that grow can go. Assumes nothing.
-use mathlib.Core.Path.{_≡_, refl}
-use mathlib.Core.Bool.{Bool, true, false}
-use Prim.Native.Nat.{ℕ, _+_, _-_, _/_, _<_, _≤_, max}
+use mathlib.Core.Path.{_≡_}
+use Prim.Native.Nat.{ℕ, _+_, _-_, _<_, _≤_, max}
 use native.Mathlib.Omega.{arith}
 use native.Mathlib.Nat.{div-le-self}
 use lib.Dec.{ltb, eqb}
@@ -10,7 +9,7 @@ use Rattle.context.specs.declared.Context.{Context}
 use Rattle.context.specs.With.{with-vtime, with-vd, with-rem-slice}
 use Rattle.columns.proofs.Tests.{by-test}
 use Rattle.ticks.specs.Ticks.{ticks}
-use Rattle.weights.specs.Weights.{weight, whole-slice}
+use Rattle.weights.specs.Weights.{weight}
 use Rattle.weights.proofs.Table.{whole-slice-high}
 use Rattle.charge.specs.Charge.{charged}
 

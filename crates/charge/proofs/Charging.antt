@@ -1,9 +1,6 @@
 -- The code's steps are those of the definition, and what a charge can add. Assumes nothing.
-use mathlib.Core.Path.{_≡_, refl, sym, ap, _∙_}
+use mathlib.Core.Path.{_≡_}
 use Prim.Native.Nat.{ℕ, _+_, _-_, _/_, _<_, _≤_, max}
-use native.Mathlib.Omega.{arith}
-use native.Mathlib.Nat.{div-le-self}
-use lib.Dec.{ltb}
 use borrow.Author.Tests.{lt-ltb, le-ltb}
 use Rattle.context.specs.declared.Context.{Context}
 use Rattle.context.specs.With.{with-vtime, with-rem-slice}

@@ -33,10 +33,10 @@ unfolding context-in-range
 context-at-most c w e i h =
     by-test (eqb (getD w 0 0) 1)
     (λ t.
-      let g : getD w i 0 ≤ getD gone-most i 0 = within-at gone-most w 26 i (rw t at e) h
-      in let f : getD gone-most i 0 ≤ getD (context-most c) i 0
-      = leb-true _ _ (every-at (λ (i : ℕ). leb (getD gone-most i 0) (getD (context-most c) i 0)) 26 i (below c) h)
-      in omega arith)
+    let g : getD w i 0 ≤ getD gone-most i 0 = within-at gone-most w 26 i (rw t at e) h
+    in let f : getD gone-most i 0 ≤ getD (context-most c) i 0
+    = leb-true _ _ (every-at (λ (i : ℕ). leb (getD gone-most i 0) (getD (context-most c) i 0)) 26 i (below c) h)
+    in omega arith)
     (λ t. within-at (context-most c) w 26 i (and-both (within (context-most c) w 26) _ (rw t at e) .0) h)
 
 pub whole-context : (c : ℕ) (w : List ℕ) → context-in-range c w ≡ true → WholeContext w

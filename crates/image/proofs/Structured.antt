@@ -33,7 +33,7 @@ unfolding is-new
 unseen m seen y id h p q e z =
     sym (every-all (λ (x : ℕ). not (eqb (id-of m x) (id-of m y))) y
     (λ x g. rw (ne-eqb (id-of m x) (id-of m y)
-      (λ s. let t : getD seen h 0 ≡ 1 = ap (λ (k : ℕ). getD seen k 0) (q ∙ ap (λ (k : ℕ). k % 64) (p ∙ sym s)) ∙ e x g in absurd (omega arith)))))
+    (λ s. let t : getD seen h 0 ≡ 1 = ap (λ (k : ℕ). getD seen k 0) (q ∙ ap (λ (k : ℕ). k % 64) (p ∙ sym s)) ∙ e x g in absurd (omega arith)))))
 
 -- what was seen, with one more
 pub seen-more : (m : List ℕ) (seen : List ℕ) (y id h : ℕ) → id ≡ id-of m y → h ≡ id % 64 → h < length seen → ((x : ℕ) → x < y → getD seen (id-of m x % 64) 0 ≡ 1)

@@ -1,6 +1,7 @@
 // Refusals 1 to 4 of document 01: the sizes, the length, every word's range, and the structure.
 mod ranges;
 mod structure;
+
 ghost use mathlib.Core.Path.{_≡_};
 ghost use mathlib.Core.Bool.{Bool, true, false};
 ghost use Prim.Native.Nat.{ℕ, _+_, _*_, _<_, _≤_};

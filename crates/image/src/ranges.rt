@@ -9,14 +9,44 @@ ghost use Rattle.image.specs.Ranges.{within, zero-words, context-most, w
 
 // 2^62 - 1: the greatest of a number that has no range of its own.
 pub const MOST: u64 = 4611686018427387903;
+
 const MOST_ID: u64 = 4294967295;
+
 const FREE: u64 = 18446744073709551615;
+
 const FULL_SLICE: u64 = 9663676416;
 
 const GONE_MOST: [u64; 26] = [
-    1, MOST_ID, 0, 0, 0, 0, 0, 0, 0, 0, 0, 0, 0, 0, 0, 0, 0, 0, 0, 0, 0, 0, 0, 0, 0, 0,
+    1,
+    MOST_ID,
+    0,
+    0,
+    0,
+    0,
+    0,
+    0,
+    0,
+    0,
+    0,
+    0,
+    0,
+    0,
+    0,
+    0,
+    0,
+    0,
+    0,
+    0,
+    0,
+    0,
+    0,
+    0,
+    0,
+    0,
 ];
+
 const COUNTER: [usize; 10] = [21, 21, 21, 21, 21, 21, 22, 22, 23, 24];
+
 const ARRAY_LEAST: [u64; 10] = [0, 0, 0, 0, 15, 0, 0, 0, 0, 0];
 
 fn within(table: &[u64], w: &[u64], k: usize) -> bool
@@ -111,8 +141,32 @@ pub fn context_in_range(w: &[u64], c: u64) -> bool
         return within(&gone, w, 26);
     }
     let live = [
-        1, MOST_ID, 5, 1, 1, c, MOST, MOST, MOST, MOST, FREE, 1, 1, MOST, 1, 1, 39, MOST, MOST,
-        FULL_SLICE, 1, 1, MOST, FULL_SLICE, 2, 2,
+        1,
+        MOST_ID,
+        5,
+        1,
+        1,
+        c,
+        MOST,
+        MOST,
+        MOST,
+        MOST,
+        FREE,
+        1,
+        1,
+        MOST,
+        1,
+        1,
+        39,
+        MOST,
+        MOST,
+        FULL_SLICE,
+        1,
+        1,
+        MOST,
+        FULL_SLICE,
+        2,
+        2,
     ];
     if !within(&live, w, 26) {
         return false;
@@ -162,7 +216,16 @@ fn arrays_in_range(b: &[u64], n: u64) -> bool
 {
     let last = n - 1;
     let high = [
-        MOST, FULL_SLICE, MOST_ID, MOST, 88761, last, MOST, last, last, last,
+        MOST,
+        FULL_SLICE,
+        MOST_ID,
+        MOST,
+        88761,
+        last,
+        MOST,
+        last,
+        last,
+        last,
     ];
     let mut j = 0;
     while j < 10 {
@@ -184,8 +247,31 @@ pub fn block_in_range(b: &[u64], n: u64) -> bool
     }
     let last = n - 1;
     let scalars = [
-        1, last, last, last, MOST, MOST, 1, 1, 1, MOST, MOST, FREE, 2, MOST, MOST, MOST, MOST, MOST,
-        1, MOST, MOST, 64, 64, 64, 64,
+        1,
+        last,
+        last,
+        last,
+        MOST,
+        MOST,
+        1,
+        1,
+        1,
+        MOST,
+        MOST,
+        FREE,
+        2,
+        MOST,
+        MOST,
+        MOST,
+        MOST,
+        MOST,
+        1,
+        MOST,
+        MOST,
+        64,
+        64,
+        64,
+        64,
     ];
     if !within(&scalars, b, 25) {
         return false;

@@ -31,11 +31,18 @@ pub context-words-of : (w : List ℕ) → length w ≡ 26 → WholeContext w →
 unfolding context-words context-of tabulate
 context-words-of w h k =
     let t : tabulate (length w) (λ (i : ℕ). getD w i 0) ≡ w = tabulate-is 0 w (λ (i : ℕ). getD w i 0) (λ i b. refl)
-    in rw
-    (mark-word (getD w 0 0) (k .gone), status-forth (getD w 2 0) (k .status), mark-word (getD w 3 0) (k .running),
-    mark-word (getD w 4 0) (k .currently-scheduled), mark-word (getD w 11 0) (k .inside-syscall), mark-word (getD w 12 0) (k .has-wake),
-    mark-word (getD w 14 0) (k .userspace), mark-word (getD w 15 0) (k .being-sigkilled), mark-word (getD w 20 0) (k .is-active),
-    mark-word (getD w 21 0) (k .has-queue-key))
+    in rw (
+      mark-word (getD w 0 0) (k .gone),
+      status-forth (getD w 2 0) (k .status),
+      mark-word (getD w 3 0) (k .running),
+      mark-word (getD w 4 0) (k .currently-scheduled),
+      mark-word (getD w 11 0) (k .inside-syscall),
+      mark-word (getD w 12 0) (k .has-wake),
+      mark-word (getD w 14 0) (k .userspace),
+      mark-word (getD w 15 0) (k .being-sigkilled),
+      mark-word (getD w 20 0) (k .is-active),
+      mark-word (getD w 21 0) (k .has-queue-key),
+    )
     (rw h at t)
 
 pub record WholeImage (m : List ℕ) : Type 0 where

@@ -100,10 +100,13 @@ live M x i e = by-test (leb (length (M .contexts)) x) far (λ f. by-test ((conte
   where
     never : Live i ≡ Gone → IsLive M x i
     never z = let w : _≡_ {A = ℕ} 0 1 = cc in absurd (omega arith)
+
     far : leb (length (M .contexts)) x ≡ true → IsLive M x i
     far f = never (rw f at e)
+
     dead : leb (length (M .contexts)) x ≡ false → (context-at (M .contexts) x) .gone ≡ true → IsLive M x i
     dead f g = never (rw (f, g) at e)
+
     found : leb (length (M .contexts)) x ≡ false → (context-at (M .contexts) x) .gone ≡ false → Live i ≡ Live x → IsLive M x i
     found f g z = record { is = cc; below = leb-false _ _ f; alive = g }
 
@@ -118,9 +121,12 @@ present M k i e = by-test (leb (length (M .cpus)) k) far (λ f. by-test (cpu-at 
   where
     never : Present i ≡ Absent → IsPresent M k i
     never z = let w : _≡_ {A = ℕ} 0 1 = cc in absurd (omega arith)
+
     far : leb (length (M .cpus)) k ≡ true → IsPresent M k i
     far f = never (rw f at e)
+
     dead : leb (length (M .cpus)) k ≡ false → cpu-at M k .block .present ≡ false → IsPresent M k i
     dead f g = never (rw (f, g) at e)
+
     found : leb (length (M .cpus)) k ≡ false → cpu-at M k .block .present ≡ true → Present i ≡ Present k → IsPresent M k i
     found f g z = record { is = cc; below = leb-false _ _ f; present = g }

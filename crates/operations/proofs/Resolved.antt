@@ -70,6 +70,7 @@ found-context M context k i x (Live y) e z =
   where
     never : Found k x ≡ Refused 6 → (k ≡ i) × (IsLive M context x)
     never q = let w : _≡_ {A = ℕ} 0 1 = cc in absurd (omega arith)
+
     same : eqb ((context-at (M .contexts) y) .lock) 0 ≡ true → Found k x ≡ Found i y → (k ≡ i) × (IsLive M context x)
     same t q = let s : x ≡ y = cc in (cc, live M context x (ap Live s ∙ e))
 

@@ -69,12 +69,24 @@ module _ (b : List ℕ) (w : Whole b) where
       let l : length (take 25 b) ≡ 25 = rw (length-take, w .size)
       in let t : tabulate (length (take 25 b)) (λ (i : ℕ). getD b i 0) ≡ take 25 b
       = tabulate-is 0 (take 25 b) (λ (i : ℕ). getD b i 0) (λ i h. sym (getD-take 25 b i 0 (rw l at h)))
-      in rw
-      (mark-word (getD b 0 0) (w .present), mark-word (getD b 6 0) (w .being-sigkilled), mark-word (getD b 7 0) (w .inside-syscall),
-      mark-word (getD b 8 0) (w .stealable), mark-word (getD b 18 0) (w .queue-locked), part-get b 12 6 0 (omega arith), part-get b 12 6 1 (omega arith),
-      part-get b 12 6 2 (omega arith), part-get b 12 6 3 (omega arith), part-get b 12 6 4 (omega arith), part-get b 12 6 5 (omega arith),
-      state-forth (getD b 12 0) (w .state), length-tabulate (getD b 21 0) (entry-at b), length-tabulate (getD b 22 0) (timer-at b),
-      length-tabulate (getD b 23 0) (λ (i : ℕ). getD b (537 + i) 0), length-tabulate (getD b 24 0) (λ (i : ℕ). getD b (601 + i) 0))
+      in rw (
+        mark-word (getD b 0 0) (w .present),
+        mark-word (getD b 6 0) (w .being-sigkilled),
+        mark-word (getD b 7 0) (w .inside-syscall),
+        mark-word (getD b 8 0) (w .stealable),
+        mark-word (getD b 18 0) (w .queue-locked),
+        part-get b 12 6 0 (omega arith),
+        part-get b 12 6 1 (omega arith),
+        part-get b 12 6 2 (omega arith),
+        part-get b 12 6 3 (omega arith),
+        part-get b 12 6 4 (omega arith),
+        part-get b 12 6 5 (omega arith),
+        state-forth (getD b 12 0) (w .state),
+        length-tabulate (getD b 21 0) (entry-at b),
+        length-tabulate (getD b 22 0) (timer-at b),
+        length-tabulate (getD b 23 0) (λ (i : ℕ). getD b (537 + i) 0),
+        length-tabulate (getD b 24 0) (λ (i : ℕ). getD b (601 + i) 0),
+      )
       (rw l at t)
 
   back : flat (columns (cpu-of b)) ≡ drop 25 b

@@ -1,6 +1,5 @@
 -- `cpu_stats::state_number` meets its contract. Assumes nothing.
 use borrow.Author.Needs.{needs}
-use Rattle.cpu_stats.specs.State.{state-number}
 use Rattle.cpu_stats.proofs.state_number.Statement.{statement}
 use Rattle.cpu_stats.proofs.state_number.Tie as tie
 
@@ -14,15 +13,12 @@ enum-told-3 : tie.Need-enum-told-3
 enum-told-3 c = search needs
 
 returns : tie.Need-returns
-unfolding state-number
 returns c = rw (c .enum-told .given .1)
 
 returns-2 : tie.Need-returns-2
-unfolding state-number
 returns-2 c = rw (c .enum-told2 .given .1)
 
 returns-3 : tie.Need-returns-3
-unfolding state-number
 returns-3 c = rw (c .enum-told3 .given .1)
 
 pub state-number-spec : {M : Type 1} → statement M

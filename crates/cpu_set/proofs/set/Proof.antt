@@ -1,0 +1,14 @@
+-- `cpu_set::set` meets its contract. Assumes nothing.
+use borrow.Author.Needs.{needs}
+use Rattle.cpu_set.proofs.Members.{one-at}
+use Rattle.cpu_set.proofs.set.Statement.{statement}
+use Rattle.cpu_set.proofs.set.Tie as tie
+
+shl-result : tie.Need-shl-result
+shl-result c = search needs
+
+returns : tie.Need-returns
+returns c = rw (one-at (c .args .cpu) (c .pre))
+
+pub set-spec : {M : Type 1} → statement M
+set-spec = tie.close (tie.spec shl-result returns)

@@ -1,0 +1,68 @@
+-- The timers as a table of their CPU's block. Assumes nothing.
+use mathlib.Core.Path.{_≡_, refl, ap, _∙_}
+use mathlib.Core.Bool.{not}
+use mathlib.Core.List.{List, [], _∷_}
+use Prim.Native.Nat.{ℕ, _+_, _≤_}
+use native.Mathlib.Omega.{arith}
+use native.Mathlib.Nat.{zero-add}
+use lib.ListN.{length, getD, take, drop}
+use borrow.Author.Tests.{le-leb, leb-true}
+use Rattle.columns.specs.Common.{keep}
+use Rattle.run_queue.specs.declared.Timer.{Timer}
+use Rattle.run_queue.specs.Order.{sooner}
+use Rattle.run_queue.specs.Sorted.{Sorted}
+use Rattle.run_queue.proofs.Orders.{sooner-asym, sooner-trans, sooner-wake}
+use Rattle.cpu_stats.specs.Words.{stats-words}
+use Rattle.percpu.specs.Cpu.{Cpu}
+use Rattle.percpu.specs.Words.{block-words}
+use Rattle.percpu.specs.With.{cpu-timers}
+use Rattle.percpu.specs.Layout.{counts, columns, cpu-words, timer-at, no-timer}
+use Rattle.percpu.proofs.Read.{timer-is}
+use Rattle.table.specs.First.{first-not, lead}
+use Rattle.table.proofs.Tables.{fields}
+use Rattle.table.proofs.Search.{first-is}
+use Rattle.table.proofs.Sorted.{IsOrder}
+use Rattle.table.proofs.Rising.{lead-keeps}
+use Rattle.table.proofs.InBlock.{Table, Lies, entry-fields, count-is}
+use Rattle.timers.specs.Put.{is-due}
+
+-- the six columns of the queue come before
+abbrev pub timer-table : Table Timer
+timer-table =
+    record {
+      fs = (λ (t : Timer). t .wake) ∷ (λ (t : Timer). t .«context_ref») ∷ [];
+      get = λ (c : Cpu). c .timers;
+      put = cpu-timers;
+      before = λ (c : Cpu). fields entry-fields (c .queue);
+      after = λ (c : Cpu). c .«local_wakeup_list» ∷ c .«ipi_context_wakeup_list» ∷ [];
+      start = 409;
+      count = 22;
+      item = timer-at;
+      none = no-timer;
+    }
+
+pub timer-lies : Lies timer-table
+unfolding fields columns block-words stats-words counts cpu-words
+timer-lies =
+    record {
+      same = λ c. refl;
+      here = λ c q. refl;
+      starts = λ c. refl;
+      item-is = timer-is;
+      counts-old = λ c l. refl;
+      counts-new = λ c q. refl;
+    }
+
+pub timer-order : IsOrder sooner
+timer-order = record { asym = sooner-asym; trans = sooner-trans }
+
+-- what the walk from the front finds
+pub due-is : (time : ℕ) (b : List ℕ) (r : ℕ) → r ≡ first-not (λ (j : ℕ). is-due time (timer-at b j)) 0 (getD b 22 0) → (c : Cpu) → b ≡ cpu-words c → length (c .timers) ≤ 64 → r ≡ lead (is-due time) (c .timers)
+due-is time b r h c hb g =
+    h ∙ (λ j. first-not (λ (i : ℕ). is-due time (timer-at (hb j) i)) 0 ((ap (λ (l : List ℕ). getD l 22 0) hb ∙ count-is timer-table timer-lies c) j))
+    ∙ first-is (is-due time) (λ (i : ℕ). is-due time (timer-at (cpu-words c) i)) no-timer (c .timers) 0 (λ i k. ap (λ (m : ℕ). is-due time (timer-at (cpu-words c) m)) (zero-add i) ∙ ap (is-due time) (timer-is c i k g))
+    ∙ zero-add _
+
+-- of sorted timers, those at the front that are due are all that are due
+pub due-kept : (time : ℕ) (q : List Timer) → Sorted sooner q → (keep (is-due time) q ≡ take (lead (is-due time) q) q) × (keep (λ (t : Timer). not (is-due time t)) q ≡ drop (lead (is-due time) q) q)
+due-kept time = lead-keeps sooner (is-due time) (λ x y h t. le-leb (x .wake) (time + 1) (omega (arith, sooner-wake x y h, leb-true (y .wake) (time + 1) t)))
