@@ -8,3 +8,6 @@ pub mod SwitchTo
 pub mod Decision
 pub mod Opened
 pub mod Starred
+pub mod Tidy
+pub mod Accepted
+pub mod Demand3
