@@ -6,3 +6,6 @@ pub mod Scanned
 pub mod Firsts
 pub mod Queues
 pub mod Moves
+pub mod Before
+pub mod Entering
+pub mod Woken

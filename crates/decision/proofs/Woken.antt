@@ -1,0 +1,223 @@
+-- Serving wake-ups keeps the invariant, and every entry's context queued.
+use mathlib.Core.Path.{_≡_, refl, subst, sym, ap, _∙_}
+use mathlib.Core.Bool.{Bool, true, false, not, _&&_, _||_}
+use mathlib.Core.List.{List, [], _∷_, _++_, map}
+use mathlib.Core.Option.{Option, none, some}
+use mathlib.Core.Logic.{_⊎_, inl, inr, _≢_}
+use Prim.Native.Nat.{ℕ, _+_, _<_, _≤_}
+use native.Mathlib.Omega.{arith}
+use lib.Dec.{leb, eqb}
+use lib.ListN.{length, set}
+use borrow.Author.Tests.{eqb-true, eqb-false, leb-true}
+use Rattle.columns.specs.Common.{if_then_else_, fold, keep}
+use Rattle.context.specs.declared.Context.{Context}
+use Rattle.context.specs.Status.{is-runnable}
+use Rattle.context.specs.Block.{woken}
+use Rattle.weights.specs.Weights.{weight}
+use Rattle.run_queue.specs.declared.Entry.{Entry}
+use Rattle.run_queue.specs.declared.Timer.{Timer}
+use Rattle.run_queue.specs.Queue.{queue-insert}
+use Rattle.percpu.specs.Cpu.{Cpu}
+use Rattle.machine.specs.Machine.{Machine, context-at, cpu-at}
+use Rattle.decision.specs.State.{State, at, on-cpu, state-of}
+use Rattle.decision.specs.Wakeups.{
+  Wakeup,
+  is-due,
+  waits-for,
+  is-live-timer,
+  timer-wakeup,
+  local-wakeup,
+  wakeups,
+  drained,
+  put-back,
+  woken-by,
+  may-enter,
+  without-old-key,
+  entering,
+  entry-of,
+  enter,
+  WakeupResult,
+  dropped,
+  locked,
+  woken-only,
+  entered,
+  wakeup-result,
+  wake-as,
+  serve-wakeup,
+  serve-wakeups,
+}
+use Rattle.decision.specs.Charging.{count-switch}
+use Rattle.decision.specs.Tidy.{Sound, Tidy, Present, Live, Queued}
+use Rattle.decision.specs.Accepted.{Served, by-timer, by-name, ServesOwn}
+use Rattle.decision.proofs.Cases.{by-test, never, pick, and-both, not-is-true, not-is-false}
+use Rattle.decision.proofs.Lists.{In, fold-keeps-in, in-map, in-append, in-keep}
+use Rattle.decision.proofs.Queues.{Run, run, Fixed, fixed, on, Has, Inv, inv-same, gone-of, id-of}
+use Rattle.decision.proofs.Before.{Seat, seat, queues, Free, Kept, is-queued, start-kept}
+use Rattle.decision.proofs.Entering.{Unkeyed, unkeyed, Entered, re-entered}
+
+pub woken-run : (o : Option ℕ) (c : Context) → run (woken-by o c) ≡ run c
+woken-run none c = refl
+woken-run (some t) c = pick (λ b. run b ≡ run c) (waits-for t c) (λ e. refl) (λ e. refl)
+
+pub woken-fixed : (o : Option ℕ) (c : Context) → fixed (woken-by o c) ≡ fixed c
+woken-fixed none c = refl
+woken-fixed (some t) c = pick (λ b. fixed b ≡ fixed c) (waits-for t c) (λ e. refl) (λ e. refl)
+
+module _ (s : State) (w : Wakeup) where
+  abbrev pub asked : Context
+  asked = at s (w .«context_ref»)
+
+  abbrev pub woke : Context
+  woke = woken-by (w .wake) asked
+
+  -- what is known of a context whose wake-up is not dropped
+  pub record Asked : Type 0 where
+    pub other : eqb (w .«context_ref») (s .cpu .block .«sched_ctxt») ≡ false
+    pub live : asked .gone ≡ false
+
+  -- the cases of a wake-up, with what is known in each
+  pub wakeup-cases : (P : WakeupResult → Type 0) → P dropped → (Asked → P locked)
+      → (Asked → eqb (asked .lock) 0 ≡ true → may-enter (s .cpu) (w .«context_ref») woke ≡ true → P (entered woke))
+      → (Asked → may-enter (s .cpu) (w .«context_ref») woke ≡ false → P (woken-only woke)) → P (wakeup-result s w)
+  unfolding wakeup-result
+  wakeup-cases P d l e o =
+      pick P (eqb (w .«context_ref») (s .cpu .block .«sched_ctxt»)) (λ t. d)
+      (λ f. pick P (asked .gone) (λ t. d)
+      (λ g. let k : Asked = record { other = f; live = g } in
+      pick P (not (eqb (asked .lock) 0)) (λ t. l k)
+      (λ u. pick P (may-enter (s .cpu) (w .«context_ref») woke) (λ t. e k (not-is-false _ u) t) (λ t. o k t))))
+
+-- what a wake-up may enter by
+pub record Enters (c : Context) : Type 0 where
+  pub runnable : is-runnable (c .status) ≡ true
+  pub not-scheduled : c .«currently_scheduled» ≡ false
+  pub userspace : c .userspace ≡ true
+
+pub enters : (p : Cpu) (x : ℕ) (c : Context) → may-enter p x c ≡ true → Enters c
+enters p x c t =
+    let (u, v) = and-both (is-runnable (c .status) && not (c .«currently_scheduled») && c .userspace) _ t in
+    let (r, d) = and-both (is-runnable (c .status) && not (c .«currently_scheduled»)) _ u in
+    let (a, b) = and-both (is-runnable (c .status)) _ r in
+    record { runnable = a; not-scheduled = not-is-true _ b; userspace = d }
+
+module _ (k time : ℕ) (M : Machine) (S : Sound M) (T : Tidy M) where
+  -- the state before the choice, all along
+  pub record Waking (s : State) : Type 0 where
+    pub kept : Kept M k s
+    pub sits : seat (s .cpu) ≡ seat (cpu-at M k)
+    pub v : s .cpu .block .v ≡ (cpu-at M k) .block .v
+    pub has : (y : ℕ) → Has y (queues M) → Has y (on k (s .cpu .queue) (queues M))
+
+  -- a wake-up names a context, and is served if that can be locked
+  pub record Named (w : Wakeup) : Type 0 where
+    pub range : w .«context_ref» < length (M .contexts)
+    pub served : Live M (w .«context_ref») → (context-at (M .contexts) (w .«context_ref»)) .lock ≡ 0
+        → w .«context_ref» ≢ (cpu-at M k) .block .«sched_ctxt» → Served k time M (w .«context_ref»)
+
+  pub wakeups-named : (w : Wakeup) → In w (wakeups time (on-cpu count-switch (state-of k M))) → Named w
+  unfolding wakeups
+  wakeups-named w i = go (in-append (map timer-wakeup (keep (is-live-timer s) (keep (is-due time) (cpu-at M k .timers)))) _ w i)
+    where
+      s : State
+      s = on-cpu count-switch (state-of k M)
+
+      go : In w (map timer-wakeup (keep (is-live-timer s) (keep (is-due time) (cpu-at M k .timers)))) ⊎ In w (map local-wakeup ((cpu-at M k) .«local_wakeup_list»))
+          → Named w
+      go (inl h) =
+          let (t, j, e) = in-map timer-wakeup (keep (is-live-timer s) (keep (is-due time) (cpu-at M k .timers))) w h in
+          let (j₁, l) = in-keep (is-live-timer s) (keep (is-due time) (cpu-at M k .timers)) t j in
+          let (j₂, d) = in-keep (is-due time) (cpu-at M k .timers) t j₁ in
+          let m : w .«context_ref» ≡ t .«context_ref» = ap (λ (u : Wakeup). u .«context_ref») e in
+          record {
+            range = rw m (S .timer-is t k j₂);
+            served = λ g o n. by-timer t j₂ (leb-true _ _ d) (sym m) g (λ z. let y : _≡_ {A = ℕ} 0 2 = sym o ∙ z in omega arith) n;
+          }
+      go (inr h) =
+          let (x, j, e) = in-map local-wakeup ((cpu-at M k) .«local_wakeup_list») w h in
+          let m : w .«context_ref» ≡ x = ap (λ (u : Wakeup). u .«context_ref») e in
+          record { range = rw m (S .name-is x k j); served = λ g o n. by-name (rw m j) o }
+
+  put-back-waking : (o : Option ℕ) (x : ℕ) (s : State) → Waking s → Waking (put-back o x s)
+  put-back-waking none x s n = record { kept = n .kept; sits = n .sits; v = n .v; has = n .has }
+  put-back-waking (some t) x s n = record { kept = n .kept; sits = n .sits; v = n .v; has = n .has }
+
+  -- no in-charge and no idle context enters
+  enters-free : (s : State) (x : ℕ) (c : Context) → Waking s → fixed c ≡ fixed (at s x) → Enters c → Free M x
+  enters-free s x c n f e =
+      record {
+        not-in-charge = λ j p m.
+            never (subst (λ y. (context-at (M .contexts) y) .«currently_scheduled» ≡ true) (sym m) (T .scheduled-if j p))
+            (sym (ap (λ (z : Fixed). z .currently-scheduled) (f ∙ n .kept .same x)) ∙ e .not-scheduled);
+        not-idle = λ j p m.
+            never (sym (ap (λ (z : Fixed). z .userspace) (f ∙ n .kept .same x)) ∙ e .userspace)
+            (subst (λ y. (context-at (M .contexts) y) .userspace ≡ false) (sym m) (T .idle-not-userspace j p));
+      }
+
+  module _ (own : ServesOwn k time M) where
+    enter-waking : (s : State) (w : Wakeup) → Waking s → Named w → Asked s w → eqb ((asked s w) .lock) 0 ≡ true → Enters (woke s w)
+        → Waking (enter (w .«context_ref») (woke s w) s) × Has (w .«context_ref») (on k ((enter (w .«context_ref») (woke s w) s) .cpu .queue) (queues M))
+    unfolding enter
+    enter-waking s w n m a l e =
+        (record { kept = b .inv; sits = n .sits; v = n .v; has = λ y h. b .has y (n .has y h) }, b .new)
+      where
+        x : ℕ
+        x = w .«context_ref»
+
+        f : fixed (woke s w) ≡ fixed (asked s w)
+        f = woken-fixed (w .wake) (asked s w)
+
+        r : w .«context_ref» < length (s .contexts)
+        r = rw (n .kept .count) (m .range)
+
+        not-holder : w .«context_ref» ≢ (cpu-at M k) .block .«sched_ctxt»
+        not-holder z = eqb-false (w .«context_ref») (s .cpu .block .«sched_ctxt») (a .other) (z ∙ sym (ap (λ (y : Seat). y .sched) (n .sits)))
+
+        here : (d : Entry) (i : ℕ) → In d (on k (s .cpu .queue) (queues M) i) → d .«context_ref» ≡ w .«context_ref» → i ≡ k
+        here d i h z =
+            by-test (eqb i k) (λ t. eqb-true i k t)
+            (λ t. absurd (own (w .«context_ref»)
+            (m .served (sym (gone-of (n .kept .same (w .«context_ref»))) ∙ a .live)
+            (sym (ap (λ (y : Fixed). y .lock) (n .kept .same (w .«context_ref»))) ∙ eqb-true _ _ l) not-holder)
+            d i (is-queued M S d i (rw t at h)) (eqb-false i k t) z))
+
+        u : Unkeyed (Free M) (M .contexts) (s .contexts) k (s .cpu .queue) (queues M) (w .«context_ref») (woke s w) (without-old-key (woke s w) (s .cpu .queue))
+        u = unkeyed (Free M) (M .contexts) (s .contexts) k (s .cpu .queue) (queues M) (w .«context_ref») (woke s w) (n .kept) r (a .live)
+            (woken-run (w .wake) (asked s w)) f here
+
+        b : Entered (Free M) (M .contexts) (s .contexts) k (s .cpu .queue) (queues M) (w .«context_ref») (entering (s .cpu .block .v) (woke s w))
+            (queue-insert (entry-of (w .«context_ref») (weight ((woke s w) .prio)) (entering (s .cpu .block .v) (woke s w))) (without-old-key (woke s w) (s .cpu .queue)))
+        b = re-entered (Free M) (M .contexts) (s .contexts) k (s .cpu .queue) (queues M) (w .«context_ref») (woke s w) (entering (s .cpu .block .v) (woke s w))
+            (without-old-key (woke s w) (s .cpu .queue)) _ u r refl refl refl
+            (record { has-key = refl; key-vd = refl; key-rem-slice = refl; vd = refl; rem-slice = refl; vtime = refl })
+            (enters-free s (w .«context_ref») (woke s w) n f e)
+
+    woken-waking : (s : State) (w : Wakeup) → Waking s → Waking (wake-as s w (woken-only (woke s w)))
+    unfolding wake-as
+    woken-waking s w n =
+        record {
+          kept = inv-same (Free M) (M .contexts) (s .contexts) _ (w .«context_ref») (woke s w) (woken-run (w .wake) (asked s w)) (woken-fixed (w .wake) (asked s w)) (n .kept);
+          sits = n .sits;
+          v = n .v;
+          has = n .has;
+        }
+
+    pub serve-waking : (s : State) (w : Wakeup) → Named w → Waking s → Waking (serve-wakeup s w)
+    unfolding serve-wakeup wake-as
+    serve-waking s w m n =
+        wakeup-cases s w (λ r. Waking (wake-as s w r)) n (λ a. put-back-waking (w .wake) (w .«context_ref») s n)
+        (λ a l e. (enter-waking s w n m a l (enters (s .cpu) (w .«context_ref») (woke s w) e)) .0) (λ a t. woken-waking s w n)
+
+    start-waking : Waking (drained time (on-cpu count-switch (state-of k M)))
+    start-waking =
+        record {
+          kept = start-kept M S T k;
+          sits = refl;
+          v = refl;
+          has = λ y (e, i, h, p). (e, i, by-test (eqb i k) (λ t. rw t (subst (λ j. In e (queues M j)) (eqb-true i k t) h)) (λ t. rw t h), p);
+        }
+
+    pub wakeups-waking : Waking (serve-wakeups time (on-cpu count-switch (state-of k M)))
+    unfolding serve-wakeups
+    wakeups-waking =
+        fold-keeps-in Waking serve-wakeup (wakeups time (on-cpu count-switch (state-of k M))) (λ s w i n. serve-waking s w (wakeups-named w i) n)
+        (drained time (on-cpu count-switch (state-of k M))) start-waking
