@@ -9,3 +9,4 @@ pub mod Moves
 pub mod Before
 pub mod Entering
 pub mod Woken
+pub mod Charged
