@@ -1,0 +1,1 @@
+// Calls of the kernel's own run, replayed on the definitions in specs/.
