@@ -10,3 +10,5 @@ pub mod Before
 pub mod Entering
 pub mod Woken
 pub mod Charged
+pub mod Judged
+pub mod ScanKept
