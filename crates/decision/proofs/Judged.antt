@@ -16,8 +16,8 @@ use Rattle.runnable.specs.declared.UpdateResult.the-variants.{CanSwitch, Skip, 
 use Rattle.runnable.specs.Runnable.{update-runnable, wake-has-come}
 use Rattle.percpu.specs.Cpu.{Cpu}
 use Rattle.decision.specs.State.{without-key}
-use Rattle.decision.specs.Scan.{Visit, pass, gone, blocked, no-addr-space, ready, by-update, judge}
-use Rattle.decision.proofs.Cases.{pick}
+use Rattle.decision.specs.Scan.{Visit, pass, gone, blocked, no-addr-space, ready, is-ready, by-update, judge}
+use Rattle.decision.proofs.Cases.{pick, never}
 use Rattle.decision.proofs.Queues.{run, fixed}
 
 -- a record that can be switched to: c, woken if need be
@@ -50,3 +50,7 @@ judge-cases k time p c e P ps gn sl ns rd =
     (λ t. pick P (not (eqb (c .lock) 0)) (λ t. ps)
     (λ t. update-cases k time false (eqb (e .«context_ref») (p .block .«current_ctxt»)) c (λ u. P (by-update c u)) ps (λ r. sl l r)
     (λ d s. pick P (eqb (c .«addr_space») 2) (λ t. ns d s) (λ t. rd d s)))))
+
+pub ready-alive : (k time : ℕ) (p : Cpu) (c : Context) (e : Entry) → is-ready (judge k time p c e) ≡ true → c .gone ≡ false
+unfolding judge
+ready-alive k time p c e = pick (λ v. is-ready v ≡ true → c .gone ≡ false) (c .gone) (λ t u. never {b = false} u refl) (λ t u. t)

@@ -12,3 +12,4 @@ pub mod Woken
 pub mod Charged
 pub mod Judged
 pub mod ScanKept
+pub mod Chosen
