@@ -19,7 +19,7 @@ use Rattle.decision.specs.Wakeups.{without-old-key}
 use Rattle.decision.proofs.Cases.{by-test, never, pick}
 use Rattle.decision.proofs.Lists.{In}
 use Rattle.decision.proofs.Queues.{Run, run, fixed, set-view, on, Has, Without, Inv, Agrees, gone-of, id-of}
-use Rattle.decision.proofs.Moves.{inv-out, inv-take, taken-out, has-take, inv-put, has-put, has-new}
+use Rattle.decision.proofs.Moves.{inv-out, inv-take, now-out, has-take, inv-put, has-put, has-new}
 
 module _ (F : ℕ → Type 0) (cs₀ cs : List Context) (k : ℕ) (q : List Entry) (R : ℕ → List Entry) where
   -- what is left when x's old key is out of the queue of CPU k
@@ -35,7 +35,7 @@ module _ (F : ℕ → Type 0) (cs₀ cs : List Context) (k : ℕ) (q : List Entr
       pick (Unkeyed x c) (c .«has_queue_key»)
       (λ t. record {
         inv = inv-take F cs₀ cs k q R n x (queue-key c) r (id-of f) only (without-key c) f (λ g. refl);
-        out = taken-out F cs₀ cs k q R n x (queue-key c) r (id-of f) only;
+        out = now-out F cs₀ cs k q R n x (queue-key c) r (id-of f) only;
         has = has-take F cs₀ cs k q R n x (queue-key c) r (id-of f) only;
       })
       (λ t. let w = none-left t in record { inv = inv-out F cs₀ cs (on k q R) x (without-key c) n r f (λ g. refl) w; out = w; has = λ y m h. h })

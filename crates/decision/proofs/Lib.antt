@@ -13,3 +13,4 @@ pub mod Charged
 pub mod Judged
 pub mod ScanKept
 pub mod Chosen
+pub mod Dequeued

@@ -81,8 +81,8 @@ module _ (F : ℕ → Type 0) (cs₀ cs : List Context) (k : ℕ) (q : List Entr
     pub was-in : (e : Entry) (i : ℕ) → In e (on k (queue-remove K q) R i) → In e (on k q R i)
     was-in e i h = by-test (eqb i k) (λ t. rw t (in-remove entry-before (keyed K) e q (rw t at h))) (λ t. rw t (rw t at h))
 
-    pub taken-out : Without x (on k (queue-remove K q) R)
-    taken-out e i h m =
+    pub now-out : Without x (on k (queue-remove K q) R)
+    now-out e i h m =
         let (p, z) = only e i (was-in e i h) m in
         by-test (eqb i k) (λ t. go p (removed-at entries-ordered (keyed K) q here-sorted e (rw t at h))) (λ t. eqb-false i k t z)
       where
@@ -111,7 +111,7 @@ module _ (F : ℕ → Type 0) (cs₀ cs : List Context) (k : ℕ) (q : List Entr
           range = λ e i h. rw (length-set cs x c) (n .range e i (was-in e i h));
           id = λ e i h. id-of (set-view fixed cs x c f (e .«context_ref»)) ∙ n .id e i (was-in e i h);
           one = λ e d i j h a m. n .one e d i j (was-in e i h) (was-in d j a) m;
-          agrees = λ e i h. rw (getD-set-other cs x (e .«context_ref») c no-context (taken-out e i h)) (n .agrees e i (was-in e i h));
+          agrees = λ e i h. rw (getD-set-other cs x (e .«context_ref») c no-context (now-out e i h)) (n .agrees e i (was-in e i h));
           keyed-queued = λ y a.
               at-set (λ b. b .gone ≡ false → b .«has_queue_key» ≡ true → Without y (on k (queue-remove K q) R) → ⊥) cs x c y r (λ p l h v. never h (g l))
               (λ p l h v. n .keyed-queued y (rw (length-set cs x c) at a) l h (λ e i u m. v e i (still-in e i u (λ z. p (sym m ∙ z))) m));

@@ -7,7 +7,7 @@ use mathlib.Core.Logic.{_⊎_, inl, inr, _≢_}
 use Prim.Native.Nat.{ℕ, _<_}
 use lib.Dec.{eqb}
 use lib.ListN.{length, set}
-use lib.Seq.{set-getD, getD-set-same}
+use lib.Seq.{set-getD, getD-set-same, getD-set-other}
 use borrow.Author.Tests.{eqb-true, eqb-false, eq-eqb}
 use Rattle.columns.specs.Common.{if_then_else_, fold}
 use Rattle.context.specs.declared.Context.{Context}
@@ -75,6 +75,7 @@ module _ (F : ℕ → Type 0) (cs₀ : List Context) (k time : ℕ) (p : Cpu) (h
     pub rest : (e : Entry) → In e es → In e (left f)
     pub stays : (e : Entry) → In e q → is-removed (verdict k time p h cs e) ≡ false → In e (left f)
     pub lost : (e : Entry) → In e q → In e (left f) ⊎ Lost (context-at (f .contexts) (e .«context_ref»))
+    pub frame : (y : ℕ) → ((e : Entry) → In e q → e .«context_ref» ≢ y) → context-at (f .contexts) y ≡ context-at cs y
 
   module _ (f : Scan) (e : Entry) (es : List Entry) (s : Scanning f (e ∷ es)) (fr : context-at (f .contexts) (e .«context_ref») ≡ context-at cs (e .«context_ref»))
       (ap-art : All (λ d. d .«context_ref» ≢ e .«context_ref») es) where
@@ -104,6 +105,7 @@ module _ (F : ℕ → Type 0) (cs₀ : List Context) (k time : ℕ) (p : Cpu) (h
           rest = λ d i. rw is-left (survives d (s .rest d (inr i)) (all-at _ es ap-art d i));
           stays = λ d i u. rw is-left (survives d (s .stays d i u) (λ m. never v (rw (same-entry e d e-in i m) at u)));
           lost = λ d i. rw (e₁, is-left) (by-test (eqb (d .«context_ref») (e .«context_ref»)) (λ t. inr (at-e d (eqb-true _ _ t))) (λ t. other d (eqb-false _ _ t) (s .lost d i)));
+          frame = λ y o. rw e₁ (getD-set-other (f .contexts) (e .«context_ref») y c no-context (λ m. o e e-in (sym m)) ∙ s .frame y o);
         }
       where
         is-left : left f′ ≡ queue-remove (e .key) (left f)
@@ -115,7 +117,7 @@ module _ (F : ℕ → Type 0) (cs₀ : List Context) (k time : ℕ) (p : Cpu) (h
         other : (d : Entry) → d .«context_ref» ≢ e .«context_ref» → In d (left f) ⊎ Lost (context-at (f .contexts) (d .«context_ref»))
             → In d (queue-remove (e .key) (left f)) ⊎ Lost (context-at (set (f .contexts) (e .«context_ref») c) (d .«context_ref»))
         other d m (inl i) = inl (survives d i m)
-        other d m (inr i) = inr (rw (lib.Seq.getD-set-other (f .contexts) (e .«context_ref») (d .«context_ref») c no-context m) i)
+        other d m (inr i) = inr (rw (getD-set-other (f .contexts) (e .«context_ref») (d .«context_ref») c no-context m) i)
 
     -- the entry stays, and its record becomes c
     changed : (c : Context) (f′ : Scan) → f′ .contexts ≡ set (f .contexts) (e .«context_ref») c → f′ .contexts-to-remove ≡ f .contexts-to-remove
@@ -128,15 +130,16 @@ module _ (F : ℕ → Type 0) (cs₀ : List Context) (k time : ℕ) (p : Cpu) (h
           lost = λ d i. rw (e₁, e₂) (by-test (eqb (d .«context_ref») (e .«context_ref»))
               (λ t. inl (subst (λ z. In z (left f)) (sym (same-entry e d e-in i (eqb-true _ _ t))) (s .rest e (inl refl))))
               (λ t. other d (eqb-false _ _ t) (s .lost d i)));
+          frame = λ y o. rw e₁ (getD-set-other (f .contexts) (e .«context_ref») y c no-context (λ m. o e e-in (sym m)) ∙ s .frame y o);
         }
       where
         other : (d : Entry) → d .«context_ref» ≢ e .«context_ref» → In d (left f) ⊎ Lost (context-at (f .contexts) (d .«context_ref»))
             → In d (left f) ⊎ Lost (context-at (set (f .contexts) (e .«context_ref») c) (d .«context_ref»))
         other d m (inl i) = inl i
-        other d m (inr i) = inr (rw (lib.Seq.getD-set-other (f .contexts) (e .«context_ref») (d .«context_ref») c no-context m) i)
+        other d m (inr i) = inr (rw (getD-set-other (f .contexts) (e .«context_ref») (d .«context_ref») c no-context m) i)
 
     passed : Scanning f es
-    passed = record { inv = s .inv; rest = λ d i. s .rest d (inr i); stays = s .stays; lost = s .lost }
+    passed = record { inv = s .inv; rest = λ d i. s .rest d (inr i); stays = s .stays; lost = s .lost; frame = s .frame }
 
     -- a visit that takes the entry out only if judging by itself does
     abbrev Visits : Visit → Type 0
@@ -162,7 +165,7 @@ module _ (F : ℕ → Type 0) (cs₀ : List Context) (k time : ℕ) (p : Cpu) (h
   scanning f (e ∷ es) b d a s =
       by-test (is-ready-in k time p cs e && is-eligible p e)
       (λ t. let g = rw t at (step-best k time p h cs f e b (a .0)) in
-      rw (found-stays k time p h (scan-step k time p h f e) es (rw g)) (record { inv = next .inv; rest = λ z i. absurd i; stays = next .stays; lost = next .lost }))
+      rw (found-stays k time p h (scan-step k time p h f e) es (rw g)) (record { inv = next .inv; rest = λ z i. absurd i; stays = next .stays; lost = next .lost; frame = next .frame }))
       (λ t. scanning (scan-step k time p h f e) es (rw t at (step-best k time p h cs f e b (a .0))) (d .1) (all-fresh k time p h cs f e es b (a .0) (d .0) (a .1)) next)
     where
       next : Scanning (scan-step k time p h f e) es
@@ -176,7 +179,7 @@ module _ (F : ℕ → Type 0) (cs₀ : List Context) (k time : ℕ) (p : Cpu) (h
   unfolding scan
   scan-kept d =
       scanning (scan-start k time p h cs) q refl d (start-fresh k time p h cs q)
-      (record { inv = n; rest = λ e i. i; stays = λ e i u. i; lost = λ e i. inl i })
+      (record { inv = n; rest = λ e i. i; stays = λ e i u. i; lost = λ e i. inl i; frame = λ y o. refl })
 
   -- a ready entry stays in the queue
   pub ready-stays : Distinct q → (e : Entry) → In e q → is-ready-in k time p cs e ≡ true → In e (left (scan k time p h cs q))
