@@ -14,3 +14,4 @@ pub mod Judged
 pub mod ScanKept
 pub mod Chosen
 pub mod Dequeued
+pub mod Candidates
