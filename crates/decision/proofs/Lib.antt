@@ -15,3 +15,4 @@ pub mod ScanKept
 pub mod Chosen
 pub mod Dequeued
 pub mod Candidates
+pub mod Moving

@@ -1,0 +1,230 @@
+-- A stolen entry goes from the victim's queue to this CPU's, or wins.
+use mathlib.Core.Path.{_≡_, refl, subst, sym, ap, _∙_}
+use mathlib.Core.Bool.{Bool, true, false, not, _&&_}
+use mathlib.Core.List.{List, [], _∷_}
+use mathlib.Core.Option.{Option, none, some}
+use mathlib.Core.Logic.{_⊎_, inl, inr, _≢_}
+use Prim.Native.Nat.{ℕ, _<_}
+use lib.Dec.{eqb}
+use lib.ListN.{length, set, length-set}
+use lib.Seq.{set-set, getD-set-same}
+use borrow.Author.Tests.{eqb-true, eqb-false, eq-eqb, ne-eqb}
+use Rattle.columns.specs.Common.{if_then_else_, fold}
+use Rattle.context.specs.declared.Context.{Context}
+use Rattle.context.specs.declared.Status.{Status}
+use Rattle.run_queue.specs.declared.Entry.{Entry}
+use Rattle.run_queue.specs.Order.{entry-before}
+use Rattle.run_queue.specs.Queue.{queue-insert, queue-remove}
+use Rattle.machine.specs.Machine.{context-at, no-context}
+use Rattle.decision.specs.State.{State, at, with-new-key, is-some}
+use Rattle.decision.specs.Wakeups.{entry-of}
+use Rattle.decision.specs.Steal.{Moving, moved, first-wins, give-up, move-entry}
+use Rattle.decision.proofs.Cases.{by-test, never, pick}
+use Rattle.decision.proofs.Lists.{All, In, all-at}
+use Rattle.decision.proofs.Sorted.{in-insert}
+use Rattle.decision.proofs.Queues.{Inv, inv-ext, fixed, set-view, on, Has, Without, Agrees, gone-of}
+use Rattle.decision.proofs.Moves.{inv-take, now-out, has-take, was-in, still-in, inv-put, has-put, has-new, put-cases}
+use Rattle.decision.proofs.Before.{Seat, seat}
+use Rattle.decision.proofs.Dequeued.{Winner}
+use Rattle.decision.proofs.Scanned.{Distinct}
+use Rattle.decision.proofs.Firsts.{some-some}
+
+-- two CPUs' queues in either order
+pub on-swap : (k t : ℕ) (q v : List Entry) (R : ℕ → List Entry) → t ≢ k → (i : ℕ) → on k q (on t v R) i ≡ on t v (on k q R) i
+on-swap k t q v R n i =
+    by-test (eqb i k)
+    (λ a. rw (a, ne-eqb i t (λ z. n (sym z ∙ eqb-true i k a))))
+    (λ a. by-test (eqb i t) (λ b. rw (a, b)) (λ b. rw (a, b)))
+
+module _ (F : ℕ → Type 0) (cs₀ : List Context) (k t : ℕ) (other : t ≢ k) (R : ℕ → List Entry) (runs : Bool) where
+  abbrev pub all-queues : Moving → ℕ → List Entry
+  all-queues m = on k (m .state .cpu .queue) (on t (m .victim .queue) R)
+
+  -- a: before the first was moved; es: those to come; all: the whole lot
+  pub record Moved (a m : Moving) (all es : List Entry) : Type 0 where
+    pub inv : Inv F cs₀ (m .state .contexts) (all-queues m)
+    pub rest : (d : Entry) → In d es → In d (m .victim .queue)
+    pub winner : (x : ℕ) → m .winner ≡ some x → Winner F cs₀ k R x (m .state .contexts) (all-queues m)
+    pub keeps : (x : ℕ) → a .winner ≡ some x → m .winner ≡ some x
+    pub has : (y : ℕ) → Has y (all-queues a) → Has y (all-queues m) ⊎ (m .winner ≡ some y)
+    pub status : (y : ℕ) → (at (m .state) y) .status ≡ (at (a .state) y) .status
+    pub sits : seat (m .state .cpu) ≡ seat (a .state .cpu)
+    pub victim-sits : seat (m .victim) ≡ seat (a .victim)
+    pub v : m .state .cpu .block .v ≡ a .state .cpu .block .v
+    pub here : (d : Entry) → In d (m .state .cpu .queue) → In d (a .state .cpu .queue) ⊎ ((g : Entry) × In g all × (g .«context_ref» ≡ d .«context_ref»))
+
+  module _ (a m : Moving) (all : List Entry) (e : Entry) (es : List Entry) (n : Moved a m all (e ∷ es)) (e-all : In e all)
+      (live : (context-at cs₀ (e .«context_ref»)) .gone ≡ false) (apart : All (λ d. d .«context_ref» ≢ e .«context_ref») es) where
+    x : ℕ
+    x = e .«context_ref»
+
+    abbrev c : Context
+    c = moved (m .state .cpu .block .v) (m .victim .block .v) (e .weight) (at (m .state) (e .«context_ref»))
+
+    abbrev ds : List Context
+    ds = set (m .state .contexts) (e .«context_ref») c
+
+    abbrev left : List Entry
+    left = queue-remove (e .key) (m .victim .queue)
+
+    swapped : Inv F cs₀ (m .state .contexts) (on t (m .victim .queue) (on k (m .state .cpu .queue) R))
+    swapped = inv-ext F cs₀ (m .state .contexts) (all-queues m) _ (λ i. sym (on-swap k t (m .state .cpu .queue) (m .victim .queue) R other i)) (n .inv)
+
+    e-in : In e (on t (m .victim .queue) (on k (m .state .cpu .queue) R) t)
+    e-in = rw (eq-eqb t t refl) (n .rest e (inl refl))
+
+    e-there : In e (all-queues m t)
+    e-there = rw (on-swap k t (m .state .cpu .queue) (m .victim .queue) R other t) e-in
+
+    r : e .«context_ref» < length (m .state .contexts)
+    r = swapped .range e t e-in
+
+    own : e .key .«ctxt_id» ≡ (context-at (m .state .contexts) (e .«context_ref»)) .«debug_id»
+    own = sym (swapped .id e t e-in)
+
+    only : (d : Entry) (i : ℕ) → In d (on t (m .victim .queue) (on k (m .state .cpu .queue) R) i) → d .«context_ref» ≡ e .«context_ref»
+        → (d .key ≡ e .key) × (i ≡ t)
+    only d i g z = let (p, q) = swapped .one d e i t g e-in z in (ap (λ (b : Entry). b .key) p, q)
+
+    back : (i : ℕ) → on k (m .state .cpu .queue) (on t left R) i ≡ on t left (on k (m .state .cpu .queue) R) i
+    back i = on-swap k t (m .state .cpu .queue) left R other i
+
+    taken : Inv F cs₀ ds (on k (m .state .cpu .queue) (on t left R))
+    taken =
+        inv-ext F cs₀ ds _ _ back
+        (inv-take F cs₀ (m .state .contexts) t (m .victim .queue) (on k (m .state .cpu .queue) R) swapped (e .«context_ref») (e .key) r own only c refl (λ z. refl))
+
+    out : Without (e .«context_ref») (on k (m .state .cpu .queue) (on t left R))
+    out d i g =
+        now-out F cs₀ (m .state .contexts) t (m .victim .queue) (on k (m .state .cpu .queue) R) swapped (e .«context_ref») (e .key) r own only d i (rw (back i) at g)
+
+    subset : (d : Entry) (i : ℕ) → In d (on k (m .state .cpu .queue) (on t left R) i) → In d (all-queues m i)
+    subset d i g =
+        rw (on-swap k t (m .state .cpu .queue) (m .victim .queue) R other i)
+        (was-in F cs₀ (m .state .contexts) t (m .victim .queue) (on k (m .state .cpu .queue) R) swapped (e .«context_ref») (e .key) r own only d i (rw (back i) at g))
+
+    has-left : (y : ℕ) → y ≢ e .«context_ref» → Has y (all-queues m) → Has y (on k (m .state .cpu .queue) (on t left R))
+    has-left y z (d, i, g, p) =
+        (d, i, rw (back i) (still-in F cs₀ (m .state .contexts) t (m .victim .queue) (on k (m .state .cpu .queue) R) swapped (e .«context_ref») (e .key) r own only d i (rw (on-swap k t (m .state .cpu .queue) (m .victim .queue) R other i) at g) (λ w. z (sym p ∙ w))), p)
+
+    rest-left : (d : Entry) → In d es → In d left
+    rest-left d i =
+        rw (eq-eqb t t refl) at
+        (still-in F cs₀ (m .state .contexts) t (m .victim .queue) (on k (m .state .cpu .queue) R) swapped (e .«context_ref») (e .key) r own only d t
+        (rw (eq-eqb t t refl) (n .rest d (inr i))) (all-at _ es apart d i))
+
+    r₁ : e .«context_ref» < length ds
+    r₁ = rw (length-set (m .state .contexts) (e .«context_ref») c) r
+
+    is-c : context-at ds (e .«context_ref») ≡ c
+    is-c = getD-set-same (m .state .contexts) (e .«context_ref») c no-context r
+
+    status-set : (d : Context) → d .status ≡ (at (m .state) (e .«context_ref»)) .status → (y : ℕ)
+        → (context-at (set (m .state .contexts) (e .«context_ref») d) y) .status ≡ (at (a .state) y) .status
+    status-set d z y = set-view (λ (b : Context). b .status) (m .state .contexts) (e .«context_ref») d z y ∙ n .status y
+
+    -- the first stolen wins
+    first : first-wins runs (m .winner) ≡ true → (m′ : Moving) → m′ .state .contexts ≡ ds → m′ .state .cpu .queue ≡ m .state .cpu .queue
+        → m′ .victim .queue ≡ left → m′ .winner ≡ some (e .«context_ref») → seat (m′ .state .cpu) ≡ seat (m .state .cpu) → seat (m′ .victim) ≡ seat (m .victim)
+        → m′ .state .cpu .block .v ≡ m .state .cpu .block .v → Moved a m′ all es
+    first t₁ m′ e₁ e₂ e₃ e₄ e₅ e₆ e₇ =
+        record {
+          inv = rw (e₁, e₂, e₃) taken;
+          rest = λ d i. rw e₃ (rest-left d i);
+          winner = λ y z. subst (λ w. Winner F cs₀ k R w (m′ .state .contexts) (all-queues m′)) (some-some (sym e₄ ∙ z)) won;
+          keeps = λ y z. never {b = false} (rw (n .keeps y z) at t₁) refl;
+          has = λ y h. stays y (n .has y h);
+          status = λ y. rw e₁ (status-set c refl y);
+          sits = e₅ ∙ n .sits;
+          victim-sits = e₆ ∙ n .victim-sits;
+          v = e₇ ∙ n .v;
+          here = λ d i. n .here d (rw e₂ at i);
+        }
+      where
+        won : Winner F cs₀ k R (e .«context_ref») (m′ .state .contexts) (all-queues m′)
+        won =
+            rw (e₁, e₂, e₃)
+            (record { range = r₁; live = gone-of (taken .same (e .«context_ref»)) ∙ live; out = out; free = n .inv .free e t e-there })
+
+        stays : (y : ℕ) → Has y (all-queues m) ⊎ (m .winner ≡ some y) → Has y (all-queues m′) ⊎ (m′ .winner ≡ some y)
+        stays y (inl h) =
+            by-test (eqb y (e .«context_ref»)) (λ z. inr (e₄ ∙ ap some (sym (eqb-true y (e .«context_ref») z))))
+            (λ z. inl (rw (e₂, e₃) (has-left y (eqb-false y (e .«context_ref») z) h)))
+        stays y (inr z) = never {b = false} (rw z at t₁) refl
+
+    abbrev entry : Entry
+    entry = entry-of (e .«context_ref») (e .weight) c
+
+    own₁ : entry .key .«ctxt_id» ≡ (context-at ds (e .«context_ref»)) .«debug_id»
+    own₁ = sym (ap (λ (b : Context). b .«debug_id») is-c)
+
+    -- it is queued here
+    queued : (m′ : Moving) → m′ .state .contexts ≡ set (m .state .contexts) (e .«context_ref») (with-new-key c)
+        → m′ .state .cpu .queue ≡ queue-insert entry (m .state .cpu .queue) → m′ .victim .queue ≡ left → m′ .winner ≡ m .winner
+        → seat (m′ .state .cpu) ≡ seat (m .state .cpu) → seat (m′ .victim) ≡ seat (m .victim)
+        → m′ .state .cpu .block .v ≡ m .state .cpu .block .v → Moved a m′ all es
+    queued m′ e₁ e₂ e₃ e₄ e₅ e₆ e₇ =
+        record {
+          inv = rw (e₁, e₂, e₃) put;
+          rest = λ d i. rw e₃ (rest-left d i);
+          winner = λ y z. rw (e₁, e₂, e₃) (still y (n .winner y (sym e₄ ∙ z)));
+          keeps = λ y z. e₄ ∙ n .keeps y z;
+          has = λ y h. rw (e₂, e₃, e₄) (stays y (n .has y h));
+          status = λ y. rw e₁ (status-set (with-new-key c) refl y);
+          sits = e₅ ∙ n .sits;
+          victim-sits = e₆ ∙ n .victim-sits;
+          v = e₇ ∙ n .v;
+          here = λ d i. came d (in-insert entry-before entry d (m .state .cpu .queue) (rw e₂ at i));
+        }
+      where
+        ds₁ : List Context
+        ds₁ = set (m .state .contexts) (e .«context_ref») (with-new-key c)
+
+        put : Inv F cs₀ (set (m .state .contexts) (e .«context_ref») (with-new-key c)) (on k (queue-insert entry (m .state .cpu .queue)) (on t left R))
+        put =
+            subst (λ l. Inv F cs₀ l (on k (queue-insert entry (m .state .cpu .queue)) (on t left R))) (set-set (m .state .contexts) (e .«context_ref») c (with-new-key c))
+            (inv-put F cs₀ ds k (m .state .cpu .queue) (on t left R) taken (e .«context_ref») entry r₁ own₁ refl out (with-new-key c)
+            (subst (λ b. fixed (with-new-key c) ≡ fixed b) (sym is-c) refl)
+            (record { has-key = refl; key-vd = refl; key-rem-slice = refl; vd = refl; rem-slice = refl; vtime = refl }) (n .inv .free e t e-there))
+
+        still : (y : ℕ) → Winner F cs₀ k R y (m .state .contexts) (all-queues m)
+            → Winner F cs₀ k R y (set (m .state .contexts) (e .«context_ref») (with-new-key c)) (on k (queue-insert entry (m .state .cpu .queue)) (on t left R))
+        still y w =
+            record {
+              range = rw (length-set (m .state .contexts) (e .«context_ref») (with-new-key c)) (w .range);
+              live = gone-of (put .same y ∙ sym (n .inv .same y)) ∙ w .live;
+              out = λ d i g. gone d i (put-cases F cs₀ ds k (m .state .cpu .queue) (on t left R) taken (e .«context_ref») entry r₁ own₁ refl out d i g);
+              free = w .free;
+            }
+          where
+            gone : (d : Entry) (i : ℕ) → ((d ≡ entry) × (i ≡ k)) ⊎ In d (on k (m .state .cpu .queue) (on t left R) i) → d .«context_ref» ≢ y
+            gone d i (inl (p, z)) u = w .out e t e-there (sym (ap (λ (b : Entry). b .«context_ref») p) ∙ u)
+            gone d i (inr g) u = w .out d i (subset d i g) u
+
+        stays : (y : ℕ) → Has y (all-queues m) ⊎ (m .winner ≡ some y) → Has y (on k (queue-insert entry (m .state .cpu .queue)) (on t left R)) ⊎ (m .winner ≡ some y)
+        stays y (inl h) =
+            by-test (eqb y (e .«context_ref»))
+            (λ z. inl (subst (λ w. Has w (on k (queue-insert entry (m .state .cpu .queue)) (on t left R))) (sym (eqb-true y (e .«context_ref») z))
+            (has-new F cs₀ ds k (m .state .cpu .queue) (on t left R) taken (e .«context_ref») entry r₁ own₁ refl out)))
+            (λ z. inl (has-put F cs₀ ds k (m .state .cpu .queue) (on t left R) taken (e .«context_ref») entry r₁ own₁ refl out y
+            (has-left y (eqb-false y (e .«context_ref») z) h)))
+        stays y (inr z) = inr z
+
+        came : (d : Entry) → (d ≡ entry) ⊎ In d (m .state .cpu .queue)
+            → In d (a .state .cpu .queue) ⊎ ((g : Entry) × In g all × (g .«context_ref» ≡ d .«context_ref»))
+        came d (inl p) = inr (e, e-all, sym (ap (λ (b : Entry). b .«context_ref») p))
+        came d (inr i) = n .here d i
+
+    pub move-moved : Moved a (move-entry runs m e) all es
+    unfolding move-entry
+    move-moved =
+        pick (λ (z : Moving). Moved a z all es) (first-wins runs (m .winner)) (λ u. first u _ refl refl refl refl refl refl refl)
+        (λ u. queued _ refl refl refl refl refl refl refl)
+
+  -- the whole lot
+  pub lot-moved : (a m : Moving) (all es : List Entry) → ((d : Entry) → In d es → In d all) → ((d : Entry) → In d es → (context-at cs₀ (d .«context_ref»)) .gone ≡ false)
+      → Distinct es → Moved a m all es → Moved a (fold (move-entry runs) m es) all []
+  lot-moved a m all [] s l d n = n
+  lot-moved a m all (e ∷ es) s l d n =
+      lot-moved a (move-entry runs m e) all es (λ g i. s g (inr i)) (λ g i. l g (inr i)) (d .1)
+      (move-moved a m all e es n (s e (inl refl)) (l e (inl refl)) (d .0))
