@@ -16,3 +16,4 @@ pub mod Chosen
 pub mod Dequeued
 pub mod Candidates
 pub mod Moving
+pub mod Stolen
