@@ -17,3 +17,4 @@ pub mod Dequeued
 pub mod Candidates
 pub mod Moving
 pub mod Stolen
+pub mod Ended
