@@ -18,3 +18,4 @@ pub mod Candidates
 pub mod Moving
 pub mod Stolen
 pub mod Ended
+pub mod Settled
