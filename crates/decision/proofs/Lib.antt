@@ -19,3 +19,4 @@ pub mod Moving
 pub mod Stolen
 pub mod Ended
 pub mod Settled
+pub mod TidyAfter

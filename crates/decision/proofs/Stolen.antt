@@ -90,6 +90,7 @@ module _ (k : ℕ) (M : Machine) (runs : Bool) (locked : List ℕ) (w : Option �
     pub v : l .state .cpu .block .v ≡ C .cpu .block .v
     pub count : length (l .cpus) ≡ length (M .cpus)
     pub others : (i : ℕ) → i ≢ k → seat (getD (l .cpus) i no-cpu) ≡ seat (cpu-at M i)
+    pub absent : (i : ℕ) → (cpu-at M i) .block .present ≡ false → queue-list (l .cpus) i ≡ queues M i
 
   -- entries of CPU t were stolen, e the first
   pub record Robbed (l : Stealing) (t : ℕ) (e : Entry) (es : List Entry) : Type 0 where
@@ -120,6 +121,7 @@ module _ (k : ℕ) (M : Machine) (runs : Bool) (locked : List ℕ) (w : Option �
           v = refl;
           count = refl;
           others = λ i o. refl;
+          absent = λ i z. refl;
         }
 
     module _ (t : ℕ) (o : t ≢ k) (pr : (getD (M .cpus) t no-cpu) .block .present ≡ true) (e : Entry) (es : List Entry)
@@ -188,6 +190,8 @@ module _ (k : ℕ) (M : Machine) (runs : Bool) (locked : List ℕ) (w : Option �
             others = λ i z. by-test (eqb i t)
                 (λ u. rw (eqb-true i t u, getD-set-same (M .cpus) t (mark-stealable (published (m .victim))) no-cpu r) (moved .victim-sits))
                 (λ u. rw (getD-set-other (M .cpus) t i (mark-stealable (published (m .victim))) no-cpu (eqb-false i t u)));
+            absent = λ i z. by-test (eqb i t) (λ u. never pr (subst (λ j. (getD (M .cpus) j no-cpu) .block .present ≡ false) (eqb-true i t u) z))
+                (λ u. ap (λ (c : Cpu). c .queue) (getD-set-other (M .cpus) t i (mark-stealable (published (m .victim))) no-cpu (eqb-false i t u)));
           }
         where
           back : (y : ℕ) → Has y (on k (m .state .cpu .queue) (on t (m .victim .queue) (queues M))) ⊎ (m .winner ≡ some y)
