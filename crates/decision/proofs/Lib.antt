@@ -20,3 +20,4 @@ pub mod Stolen
 pub mod Ended
 pub mod Settled
 pub mod TidyAfter
+pub mod ReadyIs

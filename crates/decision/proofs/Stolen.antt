@@ -100,6 +100,7 @@ module _ (k : ℕ) (M : Machine) (runs : Bool) (locked : List ℕ) (w : Option �
     pub from : (d : Entry) → In d (e ∷ es) → In d (queues M t)
     pub here : (d : Entry) → In d (l .state .cpu .queue) → In d (C .cpu .queue) ⊎ ((g : Entry) × In g (e ∷ es) × (g .«context_ref» ≡ d .«context_ref»))
     pub first : first-wins runs w ≡ true → l .winner ≡ some (e .«context_ref»)
+    pub second : first-wins runs w ≡ false → l .winner ≡ w
     pub kept : Kept l
 
   pub data Theft (l : Stealing) : Type 0 where
@@ -210,11 +211,22 @@ module _ (k : ℕ) (M : Machine) (runs : Bool) (locked : List ℕ) (w : Option �
               winner-stays (move-entry runs z d) ds x
               (pick (λ (y : Moving). y .winner ≡ some x) (first-wins runs (z .winner)) (λ q. never {b = false} (rw p at q) refl) (λ q. p))
 
+      -- where another runs none of the lot wins
+      none-won : first-wins runs w ≡ false → m .winner ≡ w
+      unfolding move-entry
+      none-won u = same m₀ (e ∷ es) refl
+        where
+          same : (z : Moving) (ds : List Entry) → z .winner ≡ w → (fold (move-entry runs) z ds) .winner ≡ w
+          same z [] p = p
+          same z (d ∷ ds) p =
+              same (move-entry runs z d) ds
+              (pick (λ (y : Moving). y .winner ≡ w) (first-wins runs (z .winner)) (λ q. never q (ap (first-wins runs) p ∙ u)) (λ q. p))
+
       pub theft-after : Theft (after-moving t (M .cpus) m)
       unfolding cpu-at
       theft-after =
           robbed refl t e es
-          (record { other = o; present = pr; sorted = s; from = from; here = moved .here; first = first-won; kept = kept-after })
+          (record { other = o; present = pr; sorted = s; from = from; here = moved .here; first = first-won; second = none-won; kept = kept-after })
 
     theft-entries : (t : ℕ) → t ≢ k → (getD (M .cpus) t no-cpu) .block .present ≡ true → (es : List Entry) → Sorted entry-before es
         → ((d : Entry) → In d es → In d (queues M t)) → ((d : Entry) → In d es → (context-at (C .contexts) (d .«context_ref»)) .gone ≡ false)
