@@ -21,3 +21,4 @@ pub mod Ended
 pub mod Settled
 pub mod TidyAfter
 pub mod ReadyIs
+pub mod Assembled

@@ -1,0 +1,174 @@
+-- A whole decision: its stages put together, and who is in charge at its end.
+use mathlib.Core.Path.{_≡_, refl, subst, sym, ap, _∙_}
+use mathlib.Core.Bool.{Bool, true, false, not, _&&_, _||_}
+use mathlib.Core.List.{List}
+use mathlib.Core.Option.{Option, none, some}
+use mathlib.Core.Logic.{_⊎_, inl, inr, _≢_}
+use Prim.Native.Nat.{ℕ, _-_, _<_}
+use lib.Dec.{eqb}
+use lib.ListN.{length, getD}
+use borrow.Author.Tests.{eqb-true, eqb-false}
+use Rattle.columns.specs.Common.{if_then_else_}
+use Rattle.context.specs.declared.Context.{Context}
+use Rattle.ticks.specs.Ticks.{ticks}
+use Rattle.run_queue.specs.declared.Entry.{Entry}
+use Rattle.percpu.specs.Cpu.{Cpu}
+use Rattle.machine.specs.Machine.{Machine, context-at, cpu-at, no-cpu}
+use Rattle.decision.specs.State.{State, at, state-of, holder, is-idle, prev-runnable}
+use Rattle.decision.specs.Charging.{elapsed, was-idle, before-choice}
+use Rattle.decision.specs.Choice.{Choice, choice}
+use Rattle.decision.specs.Steal.{Stealing, steal, first-wins}
+use Rattle.decision.specs.SwitchTo.{next-context}
+use Rattle.decision.specs.Decision.{Outcome, locks, scanned, choose-and-steal, settled, picked-as, schedule, after-schedule}
+use Rattle.decision.specs.Tidy.{Sound, Tidy, Present}
+use Rattle.decision.specs.Accepted.{ServesOwn}
+use Rattle.decision.specs.Demand3.{judged}
+use Rattle.decision.proofs.Cases.{by-test, never, pick, and-both, not-is-true, not-is-false}
+use Rattle.decision.proofs.Lists.{In}
+use Rattle.decision.proofs.Queues.{Inv, on, Has, Without}
+use Rattle.decision.proofs.Before.{Seat, seat, queues, Free}
+use Rattle.decision.proofs.Woken.{Waking}
+use Rattle.decision.proofs.Charged.{before-waking}
+use Rattle.decision.proofs.Chosen.{Follows, choice-follows}
+use Rattle.decision.proofs.Dequeued.{Winner, AfterChoice, choice-of, chosen-state, after-choice}
+use Rattle.decision.proofs.Stolen.{queue-list, present-in-range, start, Kept, Robbed, Theft, nothing, robbed, theft, theft-kept}
+use Rattle.decision.proofs.Settled.{Fit, successor, gain, Settled, settles}
+use Rattle.decision.proofs.Ended.{Ends, Finished, finished-none, finished-some}
+use Rattle.decision.proofs.TidyAfter.{Ending}
+
+-- the machine after `schedule` and what follows it
+abbrev pub scheduled-machine : (k time : ℕ) → Machine → Machine
+scheduled-machine k time M = (after-schedule k time (schedule k time (M .cpus) (state-of k M))) .machine
+
+module _ (k time : ℕ) (M : Machine) (S : Sound M) (T : Tidy M) (P : Present M k) (own : ServesOwn k time M) where
+  abbrev pub J : State
+  J = judged k time M
+
+  pub waking : Waking k time M S T (judged k time M)
+  waking = before-waking k time M S T P own
+
+  abbrev pub chose : Choice
+  chose = choice J (scanned k time J)
+
+  abbrev pub C : State
+  C = chosen-state k time M S T J waking
+
+  pub chosen-after : AfterChoice k time M S T (judged k time M) waking (chose .winner) C
+  chosen-after = after-choice k time M S T (judged k time M) waking
+
+  pub follows : Follows k time (judged k time M) chose
+  follows = choice-follows (Free M) (M .contexts) k time (queues M) (judged k time M) (waking .kept)
+
+  abbrev pub runs : Bool
+  runs = prev-runnable J
+
+  abbrev pub locked : List ℕ
+  locked = locks k time J chose
+
+  abbrev pub l : Stealing
+  l = steal k runs locked (M .cpus) (chose .winner) C
+
+  pub in-range : k < length (M .cpus)
+  unfolding cpu-at
+  in-range = present-in-range (M .cpus) k P
+
+  pub stole : Theft k M runs locked (chose .winner) C l
+  stole = theft k M runs locked (chose .winner) C (chosen-after .inv) (chosen-after .winner) in-range
+
+  pub kept : Kept k M runs locked (chose .winner) C l
+  kept = theft-kept k M runs locked (chose .winner) C (chosen-after .inv) (chosen-after .winner) l stole
+
+  pub sat : seat (l .state .cpu) ≡ seat (cpu-at M k)
+  sat = kept .sits ∙ chosen-after .sits
+
+  is-sched : J .cpu .block .«sched_ctxt» ≡ (cpu-at M k) .block .«sched_ctxt»
+  is-sched = ap (λ (z : Seat). z .sched) (waking .sits)
+
+  is-idle-word : J .cpu .block .«idle_ctxt» ≡ (cpu-at M k) .block .«idle_ctxt»
+  is-idle-word = ap (λ (z : Seat). z .idle) (waking .sits)
+
+  -- a runnable holder is not idle
+  pub awake : runs ≡ true → (cpu-at M k) .block .«sched_ctxt» ≢ (cpu-at M k) .block .«idle_ctxt»
+  awake t z = eqb-false _ _ (not-is-true _ ((and-both (not (is-idle J)) _ t) .0)) (is-sched ∙ z ∙ sym is-idle-word)
+
+  abbrev pub n : ℕ
+  n = ticks (time - (cpu-at M k) .block .«schedule_time»)
+
+  abbrev pub s : State
+  s = settled k time runs n l
+
+  pub is-settled : Settled k M S T P runs n l (kept .inv) (kept .winner) sat awake s
+  is-settled = settles k M S T P runs n l (kept .inv) (kept .winner) sat awake time
+
+  -- who is in charge at the end
+  abbrev pub c : ℕ
+  c = successor k M runs (l .winner)
+
+  s-sched : s .cpu .block .«sched_ctxt» ≡ (cpu-at M k) .block .«sched_ctxt»
+  s-sched = ap (λ (z : Seat). z .sched) (is-settled .sits)
+
+  s-idle : s .cpu .block .«idle_ctxt» ≡ (cpu-at M k) .block .«idle_ctxt»
+  s-idle = ap (λ (z : Seat). z .idle) (is-settled .sits)
+
+  sched-range : s .cpu .block .«sched_ctxt» < length (s .contexts)
+  sched-range = rw (is-settled .inv .count, s-sched) (S .in-charge-is k P)
+
+  sched-marked : (at s (s .cpu .block .«sched_ctxt»)) .«currently_scheduled» ≡ true
+  sched-marked =
+      ap (λ (z : Rattle.decision.proofs.Queues.Fixed). z .currently-scheduled) (is-settled .inv .same (s .cpu .block .«sched_ctxt»))
+      ∙ ap (λ y. (context-at (M .contexts) y) .«currently_scheduled») s-sched ∙ T .scheduled-if k P
+
+  finished : (was b : Bool) (w : Option ℕ) → runs ≡ b → l .winner ≡ w
+      → Finished k time s (successor k M b w) (l .cpus) ((after-schedule k time (picked-as k time was (l .cpus) (next-context b w s) s)) .machine)
+  unfolding next-context
+  finished was b (some x) p q =
+      finished-some k time was (l .cpus) x s (rw (is-settled .inv .count, ← kept .inv .count) ((kept .winner x q) .range)) sched-range
+  finished was true none p q =
+      subst (λ y. Finished k time s y (l .cpus) ((after-schedule k time (picked-as k time was (l .cpus) none s)) .machine)) s-sched
+      (finished-none k time was (l .cpus) s sched-marked)
+  finished was false none p q =
+      pick (λ o. Finished k time s ((cpu-at M k) .block .«idle_ctxt») (l .cpus) ((after-schedule k time (picked-as k time was (l .cpus) o s)) .machine)) (is-idle s)
+      (λ t. subst (λ y. Finished k time s y (l .cpus) ((after-schedule k time (picked-as k time was (l .cpus) none s)) .machine)) (eqb-true _ _ t ∙ s-idle)
+      (finished-none k time was (l .cpus) s sched-marked))
+      (λ t. subst (λ y. Finished k time s y (l .cpus) ((after-schedule k time (picked-as k time was (l .cpus) (some (s .cpu .block .«idle_ctxt»)) s)) .machine)) s-idle
+      (finished-some k time was (l .cpus) (s .cpu .block .«idle_ctxt») s (rw (is-settled .inv .count, s-idle) (S .idle-is k P)) sched-range))
+
+  -- c is in charge of no other CPU, and idle only at home
+  elsewhere : (b : Bool) (w : Option ℕ) → l .winner ≡ w → (j : ℕ) → Present M j → j ≢ k → successor k M b w ≢ (cpu-at M j) .block .«sched_ctxt»
+  elsewhere b (some x) q j p o m = (kept .winner x q) .free .not-in-charge j p m
+  elsewhere true none q j p o m = o (sym (T .one-in-charge k j P p m))
+  elsewhere false none q j p o m = o (T .idle-at-home j k p P (sym m))
+
+  at-home : (b : Bool) (w : Option ℕ) → l .winner ≡ w → (j : ℕ) → Present M j → successor k M b w ≡ (cpu-at M j) .block .«idle_ctxt» → k ≡ j
+  at-home b (some x) q j p m = absurd ((kept .winner x q) .free .not-idle j p m)
+  at-home true none q j p m = T .idle-at-home k j P p m
+  at-home false none q j p m = T .one-idle k j P p m
+
+  pub ending : Ending k time M S T P in-range c s (l .cpus) (scheduled-machine k time M)
+  unfolding schedule choose-and-steal
+  ending =
+      record {
+        inv = is-settled .inv;
+        sits = is-settled .sits;
+        count = kept .count;
+        others = kept .others;
+        absent = kept .absent;
+        finished = finished (was-idle (cpu-at M k)) runs (l .winner) refl refl;
+        not-elsewhere = elsewhere runs (l .winner) refl;
+        idle-at-home = at-home runs (l .winner) refl;
+      }
+
+  -- where somebody was chosen, that one is in charge
+  pub chosen-in-charge : (x : ℕ) → chose .winner ≡ some x → c ≡ x
+  chosen-in-charge x z = ap (successor k M runs) (kept .keeps x z)
+
+  -- where nobody was chosen and the holder runs, the holder is
+  pub holder-in-charge : chose .winner ≡ none → runs ≡ true → c ≡ (cpu-at M k) .block .«sched_ctxt»
+  holder-in-charge z t = go stole
+    where
+      stays : l .winner ≡ chose .winner → c ≡ (cpu-at M k) .block .«sched_ctxt»
+      stays y = ap (successor k M runs) (y ∙ z) ∙ rw t
+
+      go : Theft k M runs locked (chose .winner) C l → c ≡ (cpu-at M k) .block .«sched_ctxt»
+      go (nothing p) = stays (ap (λ (q : Stealing). q .winner) p)
+      go (robbed d t′ e es b) = stays (b .second (rw (z, t)))
