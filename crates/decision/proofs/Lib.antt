@@ -22,3 +22,4 @@ pub mod Settled
 pub mod TidyAfter
 pub mod ReadyIs
 pub mod Assembled
+pub mod Outcomes
