@@ -81,7 +81,7 @@ module _ (F : ℕ → Type 0) (cs₀ : List Context) (k time : ℕ) (R : ℕ →
   s : Scan
   s = scanned k time d
 
-  sorted : Sorted entry-before (d .cpu .queue)
+  pub sorted : Sorted entry-before (d .cpu .queue)
   sorted = rw (eq-eqb k k refl) at (n .sorted k)
 
   -- no two entries here are of one context

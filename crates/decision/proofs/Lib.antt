@@ -23,3 +23,4 @@ pub mod TidyAfter
 pub mod ReadyIs
 pub mod Assembled
 pub mod Outcomes
+pub mod Demanded

@@ -1,0 +1,282 @@
+-- Demand 3 of a call that runs `schedule`.
+use mathlib.Core.Path.{_≡_, refl, subst, sym, ap, _∙_}
+use mathlib.Core.Bool.{Bool, true, false, not, _&&_, _||_}
+use mathlib.Core.List.{List, [], _∷_}
+use mathlib.Core.Option.{Option, none, some}
+use mathlib.Core.Logic.{_⊎_, inl, inr, _≢_}
+use Prim.Native.Nat.{ℕ, _+_, _<_, _≤_}
+use native.Mathlib.Omega.{arith}
+use Rattle.run_queue.specs.declared.Entry.{Entry}
+use Rattle.run_queue.specs.Order.{before, entry-before}
+use Rattle.machine.specs.Machine.{Machine, cpu-at}
+use Rattle.decision.specs.State.{State, at, holder, is-some, prev-runnable}
+use Rattle.decision.specs.Choice.{prev-is-eligible}
+use Rattle.decision.specs.Steal.{Stealing, first-wins}
+use Rattle.decision.specs.Tidy.{Sound, Tidy, Present}
+use Rattle.decision.specs.Accepted.{ServesOwn}
+use Rattle.decision.specs.Demand3.{
+  Ready,
+  Eligible,
+  HolderRunnable,
+  HolderEligible,
+  HolderFirst,
+  LeastKey,
+  FirstLeast,
+  LeastWaiting,
+  MovedTo,
+  to-entry,
+  to-holder,
+  nowhere,
+  NobodyEligible,
+  NobodyWaits,
+  in-charge,
+  own-advance,
+  Stole,
+  FirstStolen,
+  StoleNothing,
+  Contest,
+  LateContest,
+  Rule,
+  Demand3,
+}
+use Rattle.decision.proofs.Cases.{by-test, never, and-both}
+use Rattle.decision.proofs.Lists.{In, all-at}
+use Rattle.decision.proofs.Queues.{Inv}
+use Rattle.decision.proofs.Before.{queues}
+use Rattle.decision.proofs.Stolen.{Robbed, Theft, nothing, robbed}
+use Rattle.decision.proofs.Settled.{successor}
+use Rattle.decision.proofs.Chosen.{
+  is-waiting,
+  is-on-time,
+  Follows,
+  entry-first,
+  holder-kept,
+  holder-alone,
+  holder-least,
+  holder-by-deadline,
+  entry-least,
+  nobody-waits,
+  sorted,
+}
+use Rattle.decision.proofs.Scanned.{least}
+use Rattle.decision.proofs.Firsts.{IsFirst, IsLeast, least-is, least-none, some-none, some-some}
+use Rattle.decision.proofs.ReadyIs.{
+  ready-waits,
+  waits-ready,
+  both-on-time,
+  on-time-eligible,
+  runs-holder,
+  holder-runs,
+  prev-eligible,
+  eligible-prev,
+  first-key,
+  key-first,
+  least-key,
+  first-least,
+  vtime-is,
+  vd-is,
+}
+use Rattle.decision.proofs.Assembled.{scheduled-machine, J, waking, chose, C, runs, locked, l, stole, kept, awake, c, follows, chosen-in-charge, holder-in-charge}
+use Rattle.decision.proofs.Outcomes.{tidied, charge-is, v-after, nothing-stolen, of-the-lot, nobody-lost}
+
+module _ (k time : ℕ) (M : Machine) (S : Sound M) (T : Tidy M) (P : Present M k) (own : ServesOwn k time M) where
+  abbrev M′ : Machine
+  M′ = scheduled-machine k time M
+
+  abbrev here : State
+  here = J k time M S T P own
+
+  abbrev idle : ℕ
+  idle = (cpu-at M k) .block .«idle_ctxt»
+
+  abbrev h : ℕ
+  h = (cpu-at M k) .block .«sched_ctxt»
+
+  -- who is in charge: the chosen, or a runnable holder
+  won : (x : ℕ) → (chose k time M S T P own) .winner ≡ some x → in-charge k time M M′ ≡ x
+  won x z = charge-is k time M S T P own ∙ chosen-in-charge k time M S T P own x z
+
+  stayed : (chose k time M S T P own) .winner ≡ none → prev-runnable here ≡ true → in-charge k time M M′ ≡ h
+  stayed z t = charge-is k time M S T P own ∙ holder-in-charge k time M S T P own z t
+
+  runs-if : prev-is-eligible here ≡ true → prev-runnable here ≡ true
+  runs-if t = (and-both (prev-runnable here) _ t) .0
+
+  ready-of : (e : Entry) → Ready k time M e → is-waiting k time here e ≡ true
+  ready-of = ready-waits k time M S T (waking k time M S T P own)
+
+  on-time-of : (e : Entry) → Ready k time M e → Eligible k time M e → is-on-time k time here e ≡ true
+  on-time-of = both-on-time k time M S T (waking k time M S T P own)
+
+  late : (v a b : ℕ) → v < a → a ≤ v → ⊥
+  late v a b x y = omega arith
+
+  -- V before the choice is that of the machine
+  v-is : here .cpu .block .v ≡ (cpu-at M k) .block .v
+  v-is = waking k time M S T P own .v
+
+  -- the contest of an eligible entry
+  eligible : (f : Entry) → Ready k time M f → Eligible k time M f → (e : Entry) × Contest k time M M′ e
+  eligible f a b = go (follows k time M S T P own)
+    where
+      eligible-late : here .cpu .block .v < f .vtime → ⊥
+      eligible-late m = late (here .cpu .block .v) (f .vtime) 0 m (rw v-is b)
+
+      go : Follows k time here (chose k time M S T P own) → (e : Entry) × Contest k time M M′ e
+      go (entry-first e i nb z v) = (
+        e,
+        record {
+          least-key = least-key k time M S T (waking k time M S T P own) e i;
+          holder-stayed = λ hf.
+              never (first-key k time M S T (waking k time M S T P own) e hf) (nb (eligible-prev k time M S T (waking k time M S T P own) (hf .eligible)));
+          entry-won = λ q. won (e .«context_ref») z;
+        },
+      )
+      go (holder-kept e i o b′ z v) = (
+        e,
+        record {
+          least-key = least-key k time M S T (waking k time M S T P own) e i;
+          holder-stayed = λ hf. stayed z (runs-if o);
+          entry-won = λ q. absurd (q (key-first k time M S T (waking k time M S T P own) e o b′));
+        },
+      )
+      go (holder-alone i o z v) = never (on-time-of f a b) (i f (a .is-in))
+      go (holder-least i r g z v) = absurd (eligible-late (i .entries f (a .is-in) (ready-of f a)))
+      go (holder-by-deadline i r e g l′ b′ z v) = absurd (eligible-late (i .entries f (a .is-in) (ready-of f a)))
+      go (entry-least i e g l′ z v) = absurd (eligible-late (i .entries f (a .is-in) (ready-of f a)))
+      go (nobody-waits i r z v) = never (ready-of f a) (i f (a .is-in))
+
+  alone : HolderEligible k time M → ((e : Entry) → Ready k time M e → Eligible k time M e → ⊥) → in-charge k time M M′ ≡ h
+  alone a none-ready = go (follows k time M S T P own)
+    where
+      first-not : (e : Entry) → IsFirst (is-on-time k time here) (here .cpu .queue) e → ⊥
+      first-not e i = let q = least-key k time M S T (waking k time M S T P own) e i in none-ready e (q .is-ready) (q .is-eligible)
+
+      in-time : (holder here) .vtime ≤ here .cpu .block .v
+      in-time = rw (vtime-is k time M S T (waking k time M S T P own), v-is) (a .in-time)
+
+      go : Follows k time here (chose k time M S T P own) → in-charge k time M M′ ≡ h
+      go (entry-first e i nb z v) = absurd (first-not e i)
+      go (holder-kept e i o b z v) = absurd (first-not e i)
+      go (holder-alone i o z v) = stayed z (runs-if o)
+      go (holder-least i r g z v) = stayed z r
+      go (holder-by-deadline i r e g l′ b z v) = stayed z r
+      go (entry-least i e g l′ z v) =
+          absurd (late (here .cpu .block .v) ((holder here) .vtime) 0 (i .holder (holder-runs k time M S T (waking k time M S T P own) (a .runnable))) in-time)
+      go (nobody-waits i r z v) = never (holder-runs k time M S T (waking k time M S T P own) (a .runnable)) r
+
+  -- nobody won before the stealing, and no holder runs: nobody waits
+  none-waits : (chose k time M S T P own) .winner ≡ none → prev-runnable here ≡ false → NobodyWaits k time M
+  none-waits w r = go (follows k time M S T P own)
+    where
+      go : Follows k time here (chose k time M S T P own) → NobodyWaits k time M
+      go (entry-first e i nb z v) = absurd (some-none z w)
+      go (holder-kept e i o b z v) = never (runs-if o) r
+      go (holder-alone i o z v) = never (runs-if o) r
+      go (holder-least i t g z v) = never t r
+      go (holder-by-deadline i t e g l′ b z v) = never t r
+      go (entry-least i e g l′ z v) = absurd (some-none z w)
+      go (nobody-waits i t z v) =
+          record {
+            entries = λ e a. never (ready-of e a) (i e (a .is-in));
+            holder = λ a. never (holder-runs k time M S T (waking k time M S T P own) a) r;
+          }
+
+  -- where nobody waits nobody won before the stealing, and no holder runs
+  waits-none : NobodyWaits k time M → ((chose k time M S T P own) .winner ≡ none) × (prev-runnable here ≡ false)
+  waits-none a = go (follows k time M S T P own)
+    where
+      not-running : prev-runnable here ≡ true → ⊥
+      not-running t = a .holder (runs-holder k time M S T (waking k time M S T P own) t)
+
+      go : Follows k time here (chose k time M S T P own) → ((chose k time M S T P own) .winner ≡ none) × (prev-runnable here ≡ false)
+      go (entry-first e i nb z v) = absurd (a .entries e ((least-key k time M S T (waking k time M S T P own) e i) .is-ready))
+      go (holder-kept e i o b z v) = absurd (not-running (runs-if o))
+      go (holder-alone i o z v) = absurd (not-running (runs-if o))
+      go (holder-least i t g z v) = absurd (not-running t)
+      go (holder-by-deadline i t e g l′ b z v) = absurd (not-running t)
+      go (entry-least i e g l′ z v) = absurd (a .entries e (waits-ready k time M S T (waking k time M S T P own) e (g .is-in) (g .passes)))
+      go (nobody-waits i t z v) = (z, t)
+
+  -- with nobody else the first stolen wins, and idle is in charge if there is none
+  stolen-first : NobodyWaits k time M → (x : ℕ) → Stole k time M M′ x → (y : ℕ) × FirstStolen k time M M′ y × (in-charge k time M M′ ≡ y)
+  stolen-first a x y = go (stole k time M S T P own)
+    where
+      none-chosen : (chose k time M S T P own) .winner ≡ none
+      none-chosen = (waits-none a) .0
+
+      fw : first-wins (runs k time M S T P own) ((chose k time M S T P own) .winner) ≡ true
+      fw = rw (none-chosen, (waits-none a) .1)
+
+      go : Theft k M (runs k time M S T P own) (locked k time M S T P own) ((chose k time M S T P own) .winner) (C k time M S T P own) (l k time M S T P own)
+          → (z : ℕ) × FirstStolen k time M M′ z × (in-charge k time M M′ ≡ z)
+      go (nothing p) = absurd (nothing-stolen k time M S T P own x y p)
+      go (robbed d t e es b) = (
+        e .«context_ref»,
+        record {
+          stolen = record {
+            entry = e;
+            cpu = t;
+            was-queued = record { present = b .present; is-in = b .from e (inl refl) };
+            elsewhere = b .other;
+            of = refl;
+            is-here = inr charged;
+          };
+          first = λ z s. let (i, q) = of-the-lot k time M S T P own z s t e es b (b .first fw) in order z s q i;
+        },
+        charged,
+      )
+        where
+          charged : in-charge k time M M′ ≡ e .«context_ref»
+          charged = charge-is k time M S T P own ∙ ap (successor k M (runs k time M S T P own)) (b .first fw)
+
+          order : (z : ℕ) (s : Stole k time M M′ z) → s .cpu ≡ t → (s .entry ≡ e) ⊎ In (s .entry) es
+              → (z ≡ e .«context_ref») ⊎ ((s .cpu ≡ t) × (before (e .key) (s .entry .key) ≡ true))
+          order z s q (inl p) = inl (sym (s .of) ∙ ap (λ (g : Entry). g .«context_ref») p)
+          order z s q (inr i) = inr (q, all-at (λ g. entry-before e g ≡ true) es (b .sorted .0) (s .entry) i)
+
+  idle-left : NobodyWaits k time M → StoleNothing k time M M′ → in-charge k time M M′ ≡ idle
+  idle-left a nothing-taken = go (stole k time M S T P own)
+    where
+      go : Theft k M (runs k time M S T P own) (locked k time M S T P own) ((chose k time M S T P own) .winner) (C k time M S T P own) (l k time M S T P own)
+          → in-charge k time M M′ ≡ idle
+      go (nothing p) =
+          charge-is k time M S T P own
+          ∙ ap (successor k M (runs k time M S T P own)) (ap (λ (q : Stealing). q .winner) p ∙ (waits-none a) .0)
+          ∙ rw ((waits-none a) .1)
+      go (robbed d t e es b) =
+          absurd (nothing-taken (e .«context_ref»)
+          (record {
+            entry = e;
+            cpu = t;
+            was-queued = record { present = b .present; is-in = b .from e (inl refl) };
+            elsewhere = b .other;
+            of = refl;
+            is-here = inr (charge-is k time M S T P own ∙ ap (successor k M (runs k time M S T P own)) (b .first (rw ((waits-none a) .0, (waits-none a) .1))));
+          }))
+
+  -- idle is in charge only so
+  idle-only : in-charge k time M M′ ≡ idle → NobodyWaits k time M × StoleNothing k time M M′
+  idle-only m = go (runs k time M S T P own) ((l k time M S T P own) .winner) refl refl
+    where
+      is-idle : c k time M S T P own ≡ idle
+      is-idle = sym (charge-is k time M S T P own) ∙ m
+
+      unchosen : (l k time M S T P own) .winner ≡ none → (w : Option ℕ) → (chose k time M S T P own) .winner ≡ w → (chose k time M S T P own) .winner ≡ none
+      unchosen z none p = p
+      unchosen z (some x) p = absurd (some-none (kept k time M S T P own .keeps x p) z)
+
+      go : (b : Bool) (w : Option ℕ) → runs k time M S T P own ≡ b → (l k time M S T P own) .winner ≡ w → NobodyWaits k time M × StoleNothing k time M M′
+      go b (some x) p q =
+          absurd ((kept k time M S T P own .winner x q) .free .not-idle k P (sym (ap (successor k M (runs k time M S T P own)) q) ∙ is-idle))
+      go true none p q =
+          absurd (awake k time M S T P own p
+          (sym (ap (λ b. successor k M b ((l k time M S T P own) .winner)) p ∙ ap (successor k M true) q) ∙ is-idle))
+      go false none p q =
+          let z = unchosen q ((chose k time M S T P own) .winner) refl in
+          (none-waits z p, λ x y. took z x y (stole k time M S T P own))
+        where
+          took : (chose k time M S T P own) .winner ≡ none → (x : ℕ) → Stole k time M M′ x
+              → Theft k M (runs k time M S T P own) (locked k time M S T P own) ((chose k time M S T P own) .winner) (C k time M S T P own) (l k time M S T P own) → ⊥
+          took z x y (nothing t) = nothing-stolen k time M S T P own x y t
+          took z x y (robbed d t e es b) = some-none (b .first (rw (z, p))) q
