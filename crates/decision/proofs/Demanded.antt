@@ -80,29 +80,29 @@ use Rattle.decision.proofs.Assembled.{scheduled-machine, J, waking, cho
 use Rattle.decision.proofs.Outcomes.{tidied, charge-is, v-after, nothing-stolen, of-the-lot, nobody-lost}
 
 module _ (k time : ℕ) (M : Machine) (S : Sound M) (T : Tidy M) (P : Present M k) (own : ServesOwn k time M) where
-  abbrev M′ : Machine
+  abbrev pub M′ : Machine
   M′ = scheduled-machine k time M
 
-  abbrev here : State
+  abbrev pub here : State
   here = J k time M S T P own
 
-  abbrev idle : ℕ
+  abbrev pub idle : ℕ
   idle = (cpu-at M k) .block .«idle_ctxt»
 
-  abbrev h : ℕ
+  abbrev pub h : ℕ
   h = (cpu-at M k) .block .«sched_ctxt»
 
   -- who is in charge: the chosen, or a runnable holder
-  won : (x : ℕ) → (chose k time M S T P own) .winner ≡ some x → in-charge k time M M′ ≡ x
+  pub won : (x : ℕ) → (chose k time M S T P own) .winner ≡ some x → in-charge k time M M′ ≡ x
   won x z = charge-is k time M S T P own ∙ chosen-in-charge k time M S T P own x z
 
-  stayed : (chose k time M S T P own) .winner ≡ none → prev-runnable here ≡ true → in-charge k time M M′ ≡ h
+  pub stayed : (chose k time M S T P own) .winner ≡ none → prev-runnable here ≡ true → in-charge k time M M′ ≡ h
   stayed z t = charge-is k time M S T P own ∙ holder-in-charge k time M S T P own z t
 
-  runs-if : prev-is-eligible here ≡ true → prev-runnable here ≡ true
+  pub runs-if : prev-is-eligible here ≡ true → prev-runnable here ≡ true
   runs-if t = (and-both (prev-runnable here) _ t) .0
 
-  ready-of : (e : Entry) → Ready k time M e → is-waiting k time here e ≡ true
+  pub ready-of : (e : Entry) → Ready k time M e → is-waiting k time here e ≡ true
   ready-of = ready-waits k time M S T (waking k time M S T P own)
 
   on-time-of : (e : Entry) → Ready k time M e → Eligible k time M e → is-on-time k time here e ≡ true
@@ -112,11 +112,11 @@ module _ (k time : ℕ) (M : Machine) (S : Sound M) (T : Tidy M) (P : Present M 
   late v a b x y = omega arith
 
   -- V before the choice is that of the machine
-  v-is : here .cpu .block .v ≡ (cpu-at M k) .block .v
+  pub v-is : here .cpu .block .v ≡ (cpu-at M k) .block .v
   v-is = waking k time M S T P own .v
 
   -- the contest of an eligible entry
-  eligible : (f : Entry) → Ready k time M f → Eligible k time M f → (e : Entry) × Contest k time M M′ e
+  pub eligible : (f : Entry) → Ready k time M f → Eligible k time M f → (e : Entry) × Contest k time M M′ e
   eligible f a b = go (follows k time M S T P own)
     where
       eligible-late : here .cpu .block .v < f .vtime → ⊥
@@ -146,7 +146,7 @@ module _ (k time : ℕ) (M : Machine) (S : Sound M) (T : Tidy M) (P : Present M 
       go (entry-least i e g l′ z v) = absurd (eligible-late (i .entries f (a .is-in) (ready-of f a)))
       go (nobody-waits i r z v) = never (ready-of f a) (i f (a .is-in))
 
-  alone : HolderEligible k time M → ((e : Entry) → Ready k time M e → Eligible k time M e → ⊥) → in-charge k time M M′ ≡ h
+  pub alone : HolderEligible k time M → ((e : Entry) → Ready k time M e → Eligible k time M e → ⊥) → in-charge k time M M′ ≡ h
   alone a none-ready = go (follows k time M S T P own)
     where
       first-not : (e : Entry) → IsFirst (is-on-time k time here) (here .cpu .queue) e → ⊥
@@ -166,7 +166,7 @@ module _ (k time : ℕ) (M : Machine) (S : Sound M) (T : Tidy M) (P : Present M 
       go (nobody-waits i r z v) = never (holder-runs k time M S T (waking k time M S T P own) (a .runnable)) r
 
   -- nobody won before the stealing, and no holder runs: nobody waits
-  none-waits : (chose k time M S T P own) .winner ≡ none → prev-runnable here ≡ false → NobodyWaits k time M
+  pub none-waits : (chose k time M S T P own) .winner ≡ none → prev-runnable here ≡ false → NobodyWaits k time M
   none-waits w r = go (follows k time M S T P own)
     where
       go : Follows k time here (chose k time M S T P own) → NobodyWaits k time M
@@ -199,7 +199,7 @@ module _ (k time : ℕ) (M : Machine) (S : Sound M) (T : Tidy M) (P : Present M 
       go (nobody-waits i t z v) = (z, t)
 
   -- with nobody else the first stolen wins, and idle is in charge if there is none
-  stolen-first : NobodyWaits k time M → (x : ℕ) → Stole k time M M′ x → (y : ℕ) × FirstStolen k time M M′ y × (in-charge k time M M′ ≡ y)
+  pub stolen-first : NobodyWaits k time M → (x : ℕ) → Stole k time M M′ x → (y : ℕ) × FirstStolen k time M M′ y × (in-charge k time M M′ ≡ y)
   stolen-first a x y = go (stole k time M S T P own)
     where
       none-chosen : (chose k time M S T P own) .winner ≡ none
@@ -235,7 +235,7 @@ module _ (k time : ℕ) (M : Machine) (S : Sound M) (T : Tidy M) (P : Present M 
           order z s q (inl p) = inl (sym (s .of) ∙ ap (λ (g : Entry). g .«context_ref») p)
           order z s q (inr i) = inr (q, all-at (λ g. entry-before e g ≡ true) es (b .sorted .0) (s .entry) i)
 
-  idle-left : NobodyWaits k time M → StoleNothing k time M M′ → in-charge k time M M′ ≡ idle
+  pub idle-left : NobodyWaits k time M → StoleNothing k time M M′ → in-charge k time M M′ ≡ idle
   idle-left a nothing-taken = go (stole k time M S T P own)
     where
       go : Theft k M (runs k time M S T P own) (locked k time M S T P own) ((chose k time M S T P own) .winner) (C k time M S T P own) (l k time M S T P own)
@@ -256,7 +256,7 @@ module _ (k time : ℕ) (M : Machine) (S : Sound M) (T : Tidy M) (P : Present M 
           }))
 
   -- idle is in charge only so
-  idle-only : in-charge k time M M′ ≡ idle → NobodyWaits k time M × StoleNothing k time M M′
+  pub idle-only : in-charge k time M M′ ≡ idle → NobodyWaits k time M × StoleNothing k time M M′
   idle-only m = go (runs k time M S T P own) ((l k time M S T P own) .winner) refl refl
     where
       is-idle : c k time M S T P own ≡ idle

@@ -24,3 +24,4 @@ pub mod ReadyIs
 pub mod Assembled
 pub mod Outcomes
 pub mod Demanded
+pub mod Ruled

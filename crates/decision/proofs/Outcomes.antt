@@ -69,10 +69,10 @@ advance-is true total m = by-test (eqb total 0) (λ t. rw t) (λ t. rw t)
 advance-is false total m = refl
 
 module _ (k time : ℕ) (M : Machine) (S : Sound M) (T : Tidy M) (P : Present M k) (own : ServesOwn k time M) where
-  abbrev M′ : Machine
+  abbrev pub M′ : Machine
   M′ = scheduled-machine k time M
 
-  abbrev h : ℕ
+  abbrev pub h : ℕ
   h = (cpu-at M k) .block .«sched_ctxt»
 
   abbrev steal-of : Stealing
