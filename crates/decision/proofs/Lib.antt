@@ -25,3 +25,4 @@ pub mod Assembled
 pub mod Outcomes
 pub mod Demanded
 pub mod Ruled
+pub mod Demand
