@@ -9,6 +9,7 @@ pub mod Moves
 pub mod Before
 pub mod Entering
 pub mod Woken
+pub mod WokenAll
 pub mod Charged
 pub mod Judged
 pub mod ScanKept

@@ -76,3 +76,8 @@ module _ {A : Type 0} where
       go : p x ≡ true → (In a (keep p xs) → In a xs × (p a ≡ true)) → (a ≡ x) ⊎ In a (keep p xs) → In a (x ∷ xs) × (p a ≡ true)
       go t r (inl e) = (inl e, rw e t)
       go t r (inr j) = let (m, q) = r j in (inr m, q)
+
+  pub keep-in : (p : A → Bool) (l : List A) (a : A) → In a l → p a ≡ true → In a (keep p l)
+  keep-in p [] a i t = absurd i
+  keep-in p (x ∷ xs) a (inl e) t = rw (← e, t) (inl refl)
+  keep-in p (x ∷ xs) a (inr i) t = by-test (p x) (λ z. rw z (inr (keep-in p xs a i t))) (λ z. rw z (keep-in p xs a i t))

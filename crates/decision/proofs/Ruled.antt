@@ -32,6 +32,7 @@ use Rattle.decision.specs.Demand3.{
 use Rattle.decision.proofs.Cases.{never, and-both}
 use Rattle.decision.proofs.Lists.{In}
 use Rattle.decision.proofs.Before.{queues, Free}
+use Rattle.decision.proofs.WokenAll.{woken-entry}
 use Rattle.decision.proofs.Chosen.{
   is-waiting,
   is-on-time,
@@ -191,6 +192,7 @@ module _ (k time : ℕ) (M : Machine) (S : Sound M) (T : Tidy M) (P : Present M 
   demanded =
       record {
         tidy = tidied k time M S T P own;
+        woken = woken-entry k time M S T own;
         nobody-lost = nobody-lost k time M S T P own;
         eligible = eligible k time M S T P own;
         holder-alone = alone k time M S T P own;

@@ -154,15 +154,16 @@ module _ (k time : ℕ) (M : Machine) (S : Sound M) (T : Tidy M) where
       }
 
   module _ (own : ServesOwn k time M) where
-    enter-waking : (s : State) (w : Wakeup) → Waking s → Named w → Asked s w → eqb ((asked s w) .lock) 0 ≡ true → Enters (woke s w)
-        → Waking (enter (w .«context_ref») (woke s w) s) × Has (w .«context_ref») (on k ((enter (w .«context_ref») (woke s w) s) .cpu .queue) (queues M))
-    unfolding enter
-    enter-waking s w n m a l e =
-        (record { kept = b .inv; sits = n .sits; v = n .v; has = λ y h. b .has y (n .has y h) }, b .new)
+    -- a context that enters has its entry here, and all others keep theirs
+    pub enter-entered : (s : State) (w : Wakeup) → Waking s → Named w → Asked s w → eqb ((asked s w) .lock) 0 ≡ true → Enters (woke s w)
+        → Entered (Free M) (M .contexts) (s .contexts) k (s .cpu .queue) (queues M) (w .«context_ref») (entering (s .cpu .block .v) (woke s w))
+        (queue-insert (entry-of (w .«context_ref») (weight ((woke s w) .prio)) (entering (s .cpu .block .v) (woke s w))) (without-old-key (woke s w) (s .cpu .queue)))
+    enter-entered s w n m a l e =
+        re-entered (Free M) (M .contexts) (s .contexts) k (s .cpu .queue) (queues M) (w .«context_ref») (woke s w) (entering (s .cpu .block .v) (woke s w))
+        (without-old-key (woke s w) (s .cpu .queue)) _ u r refl refl refl
+        (record { has-key = refl; key-vd = refl; key-rem-slice = refl; vd = refl; rem-slice = refl; vtime = refl })
+        (enters-free s (w .«context_ref») (woke s w) n f e)
       where
-        x : ℕ
-        x = w .«context_ref»
-
         f : fixed (woke s w) ≡ fixed (asked s w)
         f = woken-fixed (w .wake) (asked s w)
 
@@ -184,12 +185,12 @@ module _ (k time : ℕ) (M : Machine) (S : Sound M) (T : Tidy M) where
         u = unkeyed (Free M) (M .contexts) (s .contexts) k (s .cpu .queue) (queues M) (w .«context_ref») (woke s w) (n .kept) r (a .live)
             (woken-run (w .wake) (asked s w)) f here
 
-        b : Entered (Free M) (M .contexts) (s .contexts) k (s .cpu .queue) (queues M) (w .«context_ref») (entering (s .cpu .block .v) (woke s w))
-            (queue-insert (entry-of (w .«context_ref») (weight ((woke s w) .prio)) (entering (s .cpu .block .v) (woke s w))) (without-old-key (woke s w) (s .cpu .queue)))
-        b = re-entered (Free M) (M .contexts) (s .contexts) k (s .cpu .queue) (queues M) (w .«context_ref») (woke s w) (entering (s .cpu .block .v) (woke s w))
-            (without-old-key (woke s w) (s .cpu .queue)) _ u r refl refl refl
-            (record { has-key = refl; key-vd = refl; key-rem-slice = refl; vd = refl; rem-slice = refl; vtime = refl })
-            (enters-free s (w .«context_ref») (woke s w) n f e)
+    enter-waking : (s : State) (w : Wakeup) → Waking s → Named w → Asked s w → eqb ((asked s w) .lock) 0 ≡ true → Enters (woke s w)
+        → Waking (enter (w .«context_ref») (woke s w) s)
+    unfolding enter
+    enter-waking s w n m a l e =
+        let b = enter-entered s w n m a l e in
+        record { kept = b .inv; sits = n .sits; v = n .v; has = λ y h. b .has y (n .has y h) }
 
     woken-waking : (s : State) (w : Wakeup) → Waking s → Waking (wake-as s w (woken-only (woke s w)))
     unfolding wake-as
@@ -205,9 +206,9 @@ module _ (k time : ℕ) (M : Machine) (S : Sound M) (T : Tidy M) where
     unfolding serve-wakeup wake-as
     serve-waking s w m n =
         wakeup-cases s w (λ r. Waking (wake-as s w r)) n (λ a. put-back-waking (w .wake) (w .«context_ref») s n)
-        (λ a l e. (enter-waking s w n m a l (enters (s .cpu) (w .«context_ref») (woke s w) e)) .0) (λ a t. woken-waking s w n)
+        (λ a l e. enter-waking s w n m a l (enters (s .cpu) (w .«context_ref») (woke s w) e)) (λ a t. woken-waking s w n)
 
-    start-waking : Waking (drained time (on-cpu count-switch (state-of k M)))
+    pub start-waking : Waking (drained time (on-cpu count-switch (state-of k M)))
     start-waking =
         record {
           kept = start-kept M S T k;

@@ -6,16 +6,17 @@ use Prim.Native.Nat.{ℕ, _+_, _-_, _/_, _<_, _≤_}
 use lib.Dec.{eqb}
 use Rattle.columns.specs.Common.{if_then_else_, In}
 use Rattle.context.specs.declared.Context.{Context}
-use Rattle.context.specs.Status.{is-runnable}
+use Rattle.context.specs.Status.{is-runnable, is-soft-blocked}
 use Rattle.ticks.specs.Ticks.{ticks}
 use Rattle.run_queue.specs.declared.Entry.{Entry}
+use Rattle.run_queue.specs.declared.Timer.{Timer}
 use Rattle.run_queue.specs.Order.{before}
 use Rattle.runnable.specs.Runnable.{update-runnable}
 use Rattle.percpu.specs.Cpu.{Cpu}
 use Rattle.machine.specs.Machine.{Machine, context-at, cpu-at}
 use Rattle.decision.specs.State.{State, state-of}
 use Rattle.decision.specs.Charging.{before-choice}
-use Rattle.decision.specs.Tidy.{Tidy, Live, Runnable, Queued, InCharge, Idle, IsContext}
+use Rattle.decision.specs.Tidy.{Tidy, Live, Runnable, Queued, InCharge, Idle, IsContext, context}
 use Rattle.decision.specs.Accepted.{can-switch}
 
 -- the call is on CPU k, document 01's 'here', in machine M
@@ -29,6 +30,22 @@ module _ (k time : ℕ) (M : Machine) where
 
   abbrev pub record-of : ℕ → Context
   record-of x = context-at (judged .contexts) x
+
+  -- x is runnable and named by the local list, or waits for the wake of a due timer
+  pub data Wakes (x : ℕ) : Type 0 where
+    by-name : In x (here .«local_wakeup_list») → Runnable M x → Wakes x
+    by-timer : (t : Timer) → In t (here .timers) → t .«context_ref» ≡ x → t .wake ≤ time + 1 → is-soft-blocked ((context M x) .status) ≡ true
+        → (context M x) .«has_wake» ≡ true → (context M x) .wake ≡ t .wake → Wakes x
+
+  -- x wakes here: it is free, a user context, in charge nowhere, and runs nowhere but perhaps here
+  pub record WakesHere (x : ℕ) : Type 0 where
+    pub wakes : Wakes x
+    pub live : Live M x
+    pub unlocked : (context M x) .lock ≡ 0
+    pub not-in-charge : x ≢ here .block .«sched_ctxt»
+    pub not-scheduled : (context M x) .«currently_scheduled» ≡ false
+    pub userspace : (context M x) .userspace ≡ true
+    pub not-running : ((context M x) .running ≡ false) ⊎ (x ≡ here .block .«current_ctxt»)
 
   -- an entry here that is ready
   pub record Ready (e : Entry) : Type 0 where
@@ -160,6 +177,8 @@ module _ (k time : ℕ) (M : Machine) where
 
     pub record Demand3 : Type 0 where
       pub tidy : Tidy M′
+      -- the entries here are those after wake-ups: none of them is dropped
+      pub woken : (x : ℕ) → WakesHere x → (e : Entry) × In e (judged .cpu .queue) × (e .«context_ref» ≡ x)
       pub nobody-lost : (x : ℕ) → IsContext M′ x → Live M′ x → Runnable M′ x → ((j : ℕ) → Idle M′ x j → ⊥) → QueuedOrInCharge x → Kept x
       pub eligible : (f : Entry) → Ready f → Eligible f → (e : Entry) × Contest e
       pub holder-alone : HolderEligible → ((e : Entry) → Ready e → Eligible e → ⊥) → in-charge ≡ holder-number
