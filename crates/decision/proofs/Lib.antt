@@ -27,3 +27,4 @@ pub mod Outcomes
 pub mod Demanded
 pub mod Ruled
 pub mod Demand
+pub mod Strayed

@@ -11,3 +11,4 @@ pub mod Starred
 pub mod Tidy
 pub mod Accepted
 pub mod Demand3
+pub mod Stray

@@ -65,11 +65,9 @@ pub record Agrees (c : Context) (e : Entry) : Type 0 where
 -- what refusals 3 and 4 rule out, as far as demand 3 needs it
 pub record Sound (M : Machine) : Type 0 where
   pub ids-differ : (x y : ℕ) → IsContext M x → IsContext M y → (context M x) .«debug_id» ≡ (context M y) .«debug_id» → x ≡ y
-  pub current-is : (i : ℕ) → Present M i → IsContext M ((cpu-at M i) .block .«current_ctxt»)
   pub in-charge-is : (i : ℕ) → Present M i → IsContext M ((cpu-at M i) .block .«sched_ctxt»)
   pub idle-is : (i : ℕ) → Present M i → IsContext M ((cpu-at M i) .block .«idle_ctxt»)
   pub in-charge-live : (i : ℕ) → Present M i → Live M ((cpu-at M i) .block .«sched_ctxt»)
-  pub idle-live : (i : ℕ) → Present M i → Live M ((cpu-at M i) .block .«idle_ctxt»)
   pub entry-is : (e : Entry) (i : ℕ) → In e ((cpu-at M i) .queue) → IsContext M (e .«context_ref»)
   pub entry-id : (e : Entry) (i : ℕ) → In e ((cpu-at M i) .queue) → (context M (e .«context_ref»)) .«debug_id» ≡ e .key .«ctxt_id»
   pub timer-is : (t : Timer) (i : ℕ) → In t ((cpu-at M i) .timers) → IsContext M (t .«context_ref»)
