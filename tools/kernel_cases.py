@@ -1,7 +1,7 @@
 #!/usr/bin/env python3
 """Cases of the kernel's own run as one antt file.
 
-usage: kernel_cases.py CASES > crates/kernel_cases/specs/KernelCases.antt
+usage: kernel_cases.py CASES > crates/decision_cases/specs/KernelCases.antt
 
 A line of CASES is `op cpu time ctx | idx:value .. | refusal result interrupt | idx:newvalue ..`:
 the call, the image's nonzero words, what was returned, and the words that changed.
@@ -15,7 +15,7 @@ use mathlib.Core.Bool.{Bool, true, false}
 use mathlib.Core.List.{List, [], _∷_}
 use Prim.Native.Nat.{ℕ}
 use Rattle.decision.specs.Opened.{opened}
-use Rattle.kernel_cases.specs.Replay.{KernelCase, every-passes, zeros, sparse, same-words, replay, passes}
+use Rattle.decision_cases.specs.Replay.{KernelCase, every-passes, zeros, sparse, same-words, replay, passes}
 
 unfoldable pub kernel-cases : List KernelCase
 kernel-cases =

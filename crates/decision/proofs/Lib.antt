@@ -27,4 +27,3 @@ pub mod Outcomes
 pub mod Demanded
 pub mod Ruled
 pub mod Demand
-pub mod Strayed

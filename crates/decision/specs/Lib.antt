@@ -7,8 +7,6 @@ pub mod Steal
 pub mod SwitchTo
 pub mod Decision
 pub mod Opened
-pub mod Starred
 pub mod Tidy
 pub mod Accepted
 pub mod Demand3
-pub mod Stray

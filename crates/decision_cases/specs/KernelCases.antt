@@ -4,7 +4,7 @@ use mathlib.Core.Bool.{Bool, true, false}
 use mathlib.Core.List.{List, [], _∷_}
 use Prim.Native.Nat.{ℕ}
 use Rattle.decision.specs.Opened.{opened}
-use Rattle.kernel_cases.specs.Replay.{KernelCase, every-passes, zeros, sparse, same-words, replay, passes}
+use Rattle.decision_cases.specs.Replay.{KernelCase, every-passes, zeros, sparse, same-words, replay, passes}
 
 unfoldable pub kernel-cases : List KernelCase
 kernel-cases =

@@ -10,13 +10,13 @@ use Rattle.columns.specs.Common.{In}
 use Rattle.run_queue.specs.declared.Entry.{Entry}
 use Rattle.run_queue.specs.declared.Timer.{Timer}
 use Rattle.machine.specs.Machine.{Machine, cpu-at}
 use Rattle.decision.specs.Opened.{opened}
-use Rattle.decision.specs.Starred.{idler, worker, queued, start}
-use Rattle.decision.specs.Stray.{stray}
+use Rattle.decision_cases.specs.Starred.{idler, worker, queued, start}
+use Rattle.decision_cases.specs.Stray.{stray}
 use Rattle.decision.specs.Decision.{switch}
 use Rattle.decision.specs.Tidy.{Sound, Tidy, Agrees, Queued, InCharge, Present, Live, IsContext, context}
 use Rattle.decision.specs.Accepted.{Accepted, by-switch, Served, by-name, ServesOwn}
 use Rattle.decision.proofs.Cases.{never}
 
 here : (i : ℕ) → Present stray i → (i ≡ 0) ⊎ (i ≡ 1)
 unfolding opened start stray

@@ -5,9 +5,9 @@ use Prim.Native.Nat.{ℕ}
 use Rattle.context.specs.With.{with-debug-id}
 use Rattle.percpu.specs.With.{cpu-queue, cpu-local-wakeup-list, cpu-idle-ctxt, cpu-current-ctxt, cpu-sched-ctxt, cpu-total-weight, cpu-queue-len}
 use Rattle.machine.specs.Machine.{Machine, cpu-at}
 use Rattle.decision.specs.Decision.{switch}
 use Rattle.decision.specs.Opened.{opened}
-use Rattle.decision.specs.Starred.{idler, worker, queued, start}
+use Rattle.decision_cases.specs.Starred.{idler, worker, queued, start}
 
 -- contexts: 0 idle of CPU 0, 1 the worker, 2 idle of CPU 1
 unfoldable pub stray : Machine

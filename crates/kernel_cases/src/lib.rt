@@ -1,1 +1,0 @@
-// Calls of the kernel's own run, replayed on the definitions in specs/.
