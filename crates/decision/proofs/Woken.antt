@@ -63,6 +63,11 @@ pub woken-fixed : (o : Option ℕ) (c : Context) → fixed (woken-by o c) ≡ fi
 woken-fixed none c = refl
 woken-fixed (some t) c = pick (λ b. fixed b ≡ fixed c) (waits-for t c) (λ e. refl) (λ e. refl)
 
+-- every wake-up is served, in order
+pub every-wakeup : (time : ℕ) (s : State) → serve-wakeups time s ≡ fold serve-wakeup (drained time s) (wakeups time s)
+unfolding serve-wakeups
+every-wakeup time s = refl
+
 module _ (s : State) (w : Wakeup) where
   abbrev pub asked : Context
   asked = at s (w .«context_ref»)
@@ -218,7 +223,7 @@ module _ (k time : ℕ) (M : Machine) (S : Sound M) (T : Tidy M) where
         }
 
     pub wakeups-waking : Waking (serve-wakeups time (on-cpu count-switch (state-of k M)))
-    unfolding serve-wakeups
     wakeups-waking =
-        fold-keeps-in Waking serve-wakeup (wakeups time (on-cpu count-switch (state-of k M))) (λ s w i n. serve-waking s w (wakeups-named w i) n)
-        (drained time (on-cpu count-switch (state-of k M))) start-waking
+        subst Waking (sym (every-wakeup time (on-cpu count-switch (state-of k M))))
+        (fold-keeps-in Waking serve-wakeup (wakeups time (on-cpu count-switch (state-of k M))) (λ s w i n. serve-waking s w (wakeups-named w i) n)
+        (drained time (on-cpu count-switch (state-of k M))) start-waking)

@@ -52,7 +52,7 @@ use Rattle.decision.proofs.Cases.{by-test, never, pick, and-both, and-t
 use Rattle.decision.proofs.Lists.{In, keep-in, map-in, in-left, in-right}
 use Rattle.decision.proofs.Queues.{on, Has}
 use Rattle.decision.proofs.Before.{Seat, seat, queues, is-queued}
-use Rattle.decision.proofs.Woken.{Waking, Named, wakeups-named, start-waking, serve-waking, asked, woke, Asked, wakeup-cases, Enters, enters, enter-entered}
+use Rattle.decision.proofs.Woken.{every-wakeup, Waking, Named, wakeups-named, start-waking, serve-waking, asked, woke, Asked, wakeup-cases, Enters, enters, enter-entered}
 
 -- what a context needs to enter, once it is runnable
 pub record Able (p : Cpu) (x : ℕ) (c : Context) : Type 0 where
@@ -208,7 +208,7 @@ module _ (k time : ℕ) (M : Machine) (S : Sound M) (T : Tidy M) (own : ServesOw
   s₀ = on-cpu count-switch (state-of k M)
 
   pub woken-entry : (x : ℕ) → WakesHere k time M x → (e : Entry) × In e ((judged k time M) .cpu .queue) × (e .«context_ref» ≡ x)
-  unfolding serve-wakeups wakeups
+  unfolding wakeups
   woken-entry x a = go (a .wakes)
     where
       able : Able (cpu-at M k) x (context M x)
@@ -224,7 +224,9 @@ module _ (k time : ℕ) (M : Machine) (S : Sound M) (T : Tidy M) (own : ServesOw
 
       served : (w : Wakeup) → w .«context_ref» ≡ x → is-runnable ((woken-by (w .wake) (context M x)) .status) ≡ true → In w (wakeups time s₀)
           → (e : Entry) × In e ((judged k time M) .cpu .queue) × (e .«context_ref» ≡ x)
-      served w z r i = found (all-served k time M S T own x able w z r (wakeups time s₀) (wakeups-named k time M S T) i (drained time s₀) (start-waking k time M S T own) (inr refl))
+      served w z r i =
+          found (subst (λ (s : State). Has x (on k (s .cpu .queue) (queues M))) (sym (every-wakeup time s₀))
+          (all-served k time M S T own x able w z r (wakeups time s₀) (wakeups-named k time M S T) i (drained time s₀) (start-waking k time M S T own) (inr refl)))
         where
           is-served : Served k time M x
           is-served =
