@@ -1,39 +1,32 @@
 -- A whole decision: its stages put together, and who is in charge at its end.
 use mathlib.Core.Path.{_≡_, refl, subst, sym, ap, _∙_}
-use mathlib.Core.Bool.{Bool, true, false, not, _&&_, _||_}
+use mathlib.Core.Bool.{Bool, true, false, not}
 use mathlib.Core.List.{List}
 use mathlib.Core.Option.{Option, none, some}
-use mathlib.Core.Logic.{_⊎_, inl, inr, _≢_}
+use mathlib.Core.Logic.{_≢_}
 use Prim.Native.Nat.{ℕ, _-_, _<_}
-use lib.Dec.{eqb}
-use lib.ListN.{length, getD}
+use lib.ListN.{length}
 use borrow.Author.Tests.{eqb-true, eqb-false}
-use Rattle.columns.specs.Common.{if_then_else_}
-use Rattle.context.specs.declared.Context.{Context}
 use Rattle.ticks.specs.Ticks.{ticks}
-use Rattle.run_queue.specs.declared.Entry.{Entry}
-use Rattle.percpu.specs.Cpu.{Cpu}
-use Rattle.machine.specs.Machine.{Machine, context-at, cpu-at, no-cpu}
-use Rattle.decision.specs.State.{State, at, state-of, holder, is-idle, prev-runnable}
-use Rattle.decision.specs.Charging.{elapsed, was-idle, before-choice}
+use Rattle.machine.specs.Machine.{Machine, context-at, cpu-at}
+use Rattle.decision.specs.State.{State, at, state-of, is-idle, prev-runnable}
+use Rattle.decision.specs.Charging.{was-idle}
 use Rattle.decision.specs.Choice.{Choice, choice}
-use Rattle.decision.specs.Steal.{Stealing, steal, first-wins}
+use Rattle.decision.specs.Steal.{Stealing, steal}
 use Rattle.decision.specs.SwitchTo.{next-context}
-use Rattle.decision.specs.Decision.{Outcome, locks, scanned, choose-and-steal, settled, picked-as, schedule, after-schedule}
+use Rattle.decision.specs.Decision.{locks, scanned, choose-and-steal, settled, picked-as, schedule, after-schedule}
 use Rattle.decision.specs.Tidy.{Sound, Tidy, Present}
 use Rattle.decision.specs.Accepted.{ServesOwn}
 use Rattle.decision.specs.Demand3.{judged}
-use Rattle.decision.proofs.Cases.{by-test, never, pick, and-both, not-is-true, not-is-false}
-use Rattle.decision.proofs.Lists.{In}
-use Rattle.decision.proofs.Queues.{Inv, on, Has, Without}
+use Rattle.decision.proofs.Cases.{pick, and-both, not-is-true}
 use Rattle.decision.proofs.Before.{Seat, seat, queues, Free}
 use Rattle.decision.proofs.Woken.{Waking}
 use Rattle.decision.proofs.Charged.{before-waking}
 use Rattle.decision.proofs.Chosen.{Follows, choice-follows}
-use Rattle.decision.proofs.Dequeued.{Winner, AfterChoice, choice-of, chosen-state, after-choice}
-use Rattle.decision.proofs.Stolen.{queue-list, present-in-range, start, Kept, Robbed, Theft, nothing, robbed, theft, theft-kept}
-use Rattle.decision.proofs.Settled.{Fit, successor, gain, Settled, settles}
-use Rattle.decision.proofs.Ended.{Ends, Finished, finished-none, finished-some}
+use Rattle.decision.proofs.Dequeued.{AfterChoice, chosen-state, after-choice}
+use Rattle.decision.proofs.Stolen.{present-in-range, Kept, Theft, nothing, robbed, theft, theft-kept}
+use Rattle.decision.proofs.Settled.{successor, Settled, settles}
+use Rattle.decision.proofs.Ended.{Finished, finished-none, finished-some}
 use Rattle.decision.proofs.TidyAfter.{Ending}
 
 -- the machine after `schedule` and what follows it

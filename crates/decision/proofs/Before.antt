@@ -1,20 +1,19 @@
 -- A tidy machine: its queues keep the invariant, and what the stages before the choice work with.
-use mathlib.Core.Path.{_≡_, refl, subst, sym, ap, _∙_}
-use mathlib.Core.Bool.{Bool, true, false}
-use mathlib.Core.List.{List, [], _∷_}
-use mathlib.Core.Logic.{_⊎_, inl, inr, _≢_}
-use Prim.Native.Nat.{ℕ, _<_}
+use mathlib.Core.Path.{refl}
+use mathlib.Core.Bool.{Bool}
+use mathlib.Core.List.{List}
+use mathlib.Core.Logic.{_≢_}
+use Prim.Native.Nat.{ℕ}
 use lib.Dec.{eqb}
-use lib.ListN.{length}
 use borrow.Author.Tests.{eqb-true}
-use Rattle.columns.specs.Common.{if_then_else_, In}
+use Rattle.columns.specs.Common.{In}
 use Rattle.run_queue.specs.declared.Entry.{Entry}
 use Rattle.percpu.specs.Cpu.{Cpu}
-use Rattle.machine.specs.Machine.{Machine, context-at, cpu-at}
+use Rattle.machine.specs.Machine.{Machine, cpu-at}
 use Rattle.decision.specs.State.{State, state-of}
-use Rattle.decision.specs.Tidy.{Sound, Tidy, Queued, Present, Live, IsContext}
+use Rattle.decision.specs.Tidy.{Sound, Tidy, Queued, Present}
 use Rattle.decision.proofs.Cases.{by-test, never}
-use Rattle.decision.proofs.Queues.{Inv, inv-ext, on, fixed}
+use Rattle.decision.proofs.Queues.{Inv, inv-ext, on}
 
 -- a view: the words that only a switch writes, and V
 pub record Seat : Type 0 where

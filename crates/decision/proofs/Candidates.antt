@@ -1,23 +1,23 @@
 -- The entries that can be stolen: alive, of the victim's queue, in its order. And the victims: never the CPU itself.
-use mathlib.Core.Path.{_≡_, refl, subst, sym, ap, _∙_}
-use mathlib.Core.Bool.{Bool, true, false, not, _&&_, _||_}
+use mathlib.Core.Path.{_≡_, refl, sym, _∙_}
+use mathlib.Core.Bool.{true, false, _&&_}
 use mathlib.Core.List.{List, [], _∷_, _++_}
-use mathlib.Core.Option.{Option, none, some}
+use mathlib.Core.Option.{Option}
 use mathlib.Core.Logic.{_⊎_, inl, inr, _≢_}
 use Prim.Native.Nat.{ℕ, zero, suc, _+_, _-_, _%_, _<_, _≤_}
 use native.Mathlib.Omega.{arith}
 use native.Mathlib.Nat.{mod-eq-of-lt, mod-eq-sub-mod}
-use lib.Dec.{ltb, eqb}
+use lib.Dec.{ltb}
 use lib.ListN.{length}
 use borrow.Author.Tests.{ltb-true, ltb-false}
-use Rattle.columns.specs.Common.{if_then_else_, fold, tabulate}
+use Rattle.columns.specs.Common.{fold, tabulate}
 use Rattle.context.specs.declared.Context.{Context}
 use Rattle.run_queue.specs.declared.Entry.{Entry}
 use Rattle.run_queue.specs.Order.{entry-before}
 use Rattle.machine.specs.Machine.{context-at}
 use Rattle.decision.specs.Steal.{can-be-stolen, take-candidate, candidates, targets}
 use Rattle.decision.proofs.Cases.{by-test, never, and-both}
-use Rattle.decision.proofs.Lists.{All, In, all-at, all-in, in-append, in-left}
+use Rattle.decision.proofs.Lists.{In, all-at, all-in, in-append}
 use Rattle.decision.proofs.Sorted.{Sorted}
 
 sorted-snoc : (l : List Entry) (e : Entry) → Sorted entry-before l → ((g : Entry) → In g l → entry-before g e ≡ true) → Sorted entry-before (l ++ (e ∷ []))

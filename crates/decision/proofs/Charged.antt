@@ -1,8 +1,6 @@
 -- Times and charging keep the invariant.
-use mathlib.Core.Path.{_≡_, refl, subst, sym, ap, _∙_}
+use mathlib.Core.Path.{_≡_, refl, ap, _∙_}
 use mathlib.Core.Bool.{Bool, true, false}
-use mathlib.Core.List.{List}
-use mathlib.Core.Logic.{_≢_}
 use Prim.Native.Nat.{ℕ, _+_, _-_, _/_, _<_, max}
 use lib.Dec.{eqb}
 use lib.ListN.{length}
@@ -13,18 +11,15 @@ use Rattle.context.specs.With.{with-vtime, with-vd, with-rem-slice}
 use Rattle.ticks.specs.Ticks.{ticks}
 use Rattle.weights.specs.Weights.{weight}
 use Rattle.charge.specs.Charge.{charged, renewed, is-yield, stopped}
-use Rattle.run_queue.specs.declared.Entry.{Entry}
-use Rattle.machine.specs.Machine.{Machine, context-at, cpu-at}
-use Rattle.decision.specs.State.{State, at, put-context, on-cpu, state-of, holder, is-idle}
-use Rattle.decision.specs.Charging.{count-switch, elapsed, times, inactive, holder-stopped, charge-holder, before-choice}
-use Rattle.decision.specs.Wakeups.{serve-wakeups}
+use Rattle.machine.specs.Machine.{Machine, context-at}
+use Rattle.decision.specs.State.{State, put-context, on-cpu, state-of, holder, is-idle}
+use Rattle.decision.specs.Charging.{times, inactive, holder-stopped, charge-holder, before-choice}
 use Rattle.decision.specs.Tidy.{Sound, Tidy, Present}
 use Rattle.decision.specs.Accepted.{ServesOwn}
 use Rattle.decision.proofs.Cases.{pick}
-use Rattle.decision.proofs.Lists.{In}
 use Rattle.decision.proofs.Queues.{fixed, on, Without, gone-of}
 use Rattle.decision.proofs.Moves.{no-key, inv-out}
-use Rattle.decision.proofs.Before.{Seat, seat, queues, Free, Kept}
+use Rattle.decision.proofs.Before.{Seat, queues, Free}
 use Rattle.decision.proofs.Woken.{Waking, wakeups-waking}
 
 -- a record that keeps a view, renewed if need be

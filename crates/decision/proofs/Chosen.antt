@@ -1,13 +1,13 @@
 -- The choice follows the written rule.
-use mathlib.Core.Path.{_≡_, refl, subst, sym, ap, _∙_}
+use mathlib.Core.Path.{_≡_, refl, subst, sym, _∙_}
 use mathlib.Core.Bool.{Bool, true, false, not, _&&_, _||_}
-use mathlib.Core.List.{List, [], _∷_, _++_}
+use mathlib.Core.List.{List, [], _∷_}
 use mathlib.Core.Option.{Option, none, some}
-use mathlib.Core.Logic.{_⊎_, inl, inr, _≢_}
+use mathlib.Core.Logic.{_⊎_, inl, inr}
 use Prim.Native.Nat.{ℕ, _<_, _≤_}
 use native.Mathlib.Omega.{arith}
 use lib.Dec.{ltb, leb, eqb}
-use borrow.Author.Tests.{ltb-true, ltb-false, leb-true, leb-false, le-leb, eq-eqb}
+use borrow.Author.Tests.{ltb-true, ltb-false, leb-true, leb-false, eq-eqb}
 use Rattle.columns.specs.Common.{if_then_else_}
 use Rattle.context.specs.declared.Context.{Context}
 use Rattle.run_queue.specs.declared.Key.{Key}
@@ -15,17 +15,17 @@ use Rattle.run_queue.specs.declared.Entry.{Entry}
 use Rattle.run_queue.specs.Order.{entry-before}
 use Rattle.machine.specs.Machine.{context-at}
 use Rattle.decision.specs.State.{State, at, holder, prev-runnable}
-use Rattle.decision.specs.Scan.{Scan, scan, is-eligible, is-ready-in, below, judge, Visit}
-use Rattle.decision.specs.Choice.{Choice, choice, choice-by, without-entry, nobody, against, goes-before, named, prev-is-eligible, ineligible-holder}
+use Rattle.decision.specs.Scan.{Scan, is-eligible, is-ready-in, below}
+use Rattle.decision.specs.Choice.{Choice, choice, choice-by, without-entry, nobody, against, goes-before, prev-is-eligible, ineligible-holder}
 use Rattle.decision.specs.Decision.{scanned}
-use Rattle.decision.proofs.Cases.{by-test, never, pick, and-both, and-true, not-is-true, or-either, or-neither}
+use Rattle.decision.proofs.Cases.{by-test, never, pick, and-both, or-either, or-neither}
 use Rattle.decision.proofs.Lists.{In, all-in, all-at}
 use Rattle.decision.proofs.Sorted.{Sorted}
 use Rattle.decision.proofs.Queues.{Inv, on, Agrees, gone-of, not-before-itself}
 use Rattle.decision.proofs.ScanKept.{scan-kept, ready-stays}
 use Rattle.decision.proofs.Judged.{ready-alive}
-use Rattle.decision.proofs.Scanned.{Distinct, first, least, scan-best, scan-late}
-use Rattle.decision.proofs.Firsts.{IsFirst, IsLeast, first-is, first-none, least-is, least-none, least-agree, some-none}
+use Rattle.decision.proofs.Scanned.{Distinct, least, scan-best, scan-late}
+use Rattle.decision.proofs.Firsts.{IsFirst, IsLeast, first-is, first-none, least-is, least-none, least-agree}
 
 pub distinct : (q : List Entry) → Sorted entry-before q → ((e f : Entry) → In e q → In f q → e .«context_ref» ≡ f .«context_ref» → e ≡ f) → Distinct q
 distinct [] s o = tt

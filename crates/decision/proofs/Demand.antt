@@ -1,13 +1,11 @@
 -- Demand 3: what every accepted decision on a tidy machine leaves.
 use mathlib.Core.Path.{_≡_, refl, subst, sym, ap, _∙_}
-use mathlib.Core.Bool.{Bool, true, false, not, _&&_, _||_}
+use mathlib.Core.Bool.{true, false, not, _&&_}
 use mathlib.Core.List.{List}
-use mathlib.Core.Option.{Option, none, some}
-use Prim.Native.Nat.{ℕ, _+_, _≤_}
+use mathlib.Core.Option.{Option, none}
+use Prim.Native.Nat.{ℕ, _+_}
 use lib.Dec.{ltb, leb, eqb}
 use borrow.Author.Tests.{leb-true, le-ltb}
-use Rattle.columns.specs.Common.{if_then_else_}
-use Rattle.context.specs.declared.Context.{Context}
 use Rattle.runnable.specs.declared.UpdateResult.{UpdateResult}
 use Rattle.runnable.specs.declared.UpdateResult.the-variants.{CanSwitch, Skip, Blocked}
 use Rattle.runnable.specs.Runnable.{update-runnable}
@@ -28,10 +26,10 @@ use Rattle.decision.specs.Decision.{
   direct-switch-or,
   direct-switch-to,
 }
-use Rattle.decision.specs.Tidy.{Sound, Tidy, Present}
-use Rattle.decision.specs.Accepted.{Call, by-tick, by-switch, by-direct-switch, outcome, can-switch, switches-back, decides, Accepted, ServesOwn}
+use Rattle.decision.specs.Tidy.{Sound, Tidy}
+use Rattle.decision.specs.Accepted.{Call, by-tick, by-switch, by-direct-switch, outcome, can-switch, decides, Accepted, ServesOwn}
 use Rattle.decision.specs.Demand3.{Demand3}
-use Rattle.decision.proofs.Cases.{by-test, never, pick, and-both, not-is-true}
+use Rattle.decision.proofs.Cases.{never, pick, and-both, not-is-true}
 use Rattle.decision.proofs.Assembled.{scheduled-machine}
 use Rattle.decision.proofs.Ruled.{demanded}
 

@@ -1,49 +1,22 @@
 -- Demand 3 of a call that runs `schedule`.
-use mathlib.Core.Path.{_≡_, refl, subst, sym, ap, _∙_}
-use mathlib.Core.Bool.{Bool, true, false, not, _&&_, _||_}
-use mathlib.Core.List.{List, [], _∷_}
+use mathlib.Core.Path.{_≡_, refl, sym, ap, _∙_}
+use mathlib.Core.Bool.{Bool, true, false}
 use mathlib.Core.Option.{Option, none, some}
-use mathlib.Core.Logic.{_⊎_, inl, inr, _≢_}
-use Prim.Native.Nat.{ℕ, _+_, _<_, _≤_}
+use mathlib.Core.Logic.{_⊎_, inl, inr}
+use Prim.Native.Nat.{ℕ, _<_, _≤_}
 use native.Mathlib.Omega.{arith}
 use Rattle.run_queue.specs.declared.Entry.{Entry}
 use Rattle.run_queue.specs.Order.{before, entry-before}
 use Rattle.machine.specs.Machine.{Machine, cpu-at}
-use Rattle.decision.specs.State.{State, at, holder, is-some, prev-runnable}
+use Rattle.decision.specs.State.{State, holder, prev-runnable}
 use Rattle.decision.specs.Choice.{prev-is-eligible}
 use Rattle.decision.specs.Steal.{Stealing, first-wins}
 use Rattle.decision.specs.Tidy.{Sound, Tidy, Present}
 use Rattle.decision.specs.Accepted.{ServesOwn}
-use Rattle.decision.specs.Demand3.{
-  Ready,
-  Eligible,
-  HolderRunnable,
-  HolderEligible,
-  HolderFirst,
-  LeastKey,
-  FirstLeast,
-  LeastWaiting,
-  MovedTo,
-  to-entry,
-  to-holder,
-  nowhere,
-  NobodyEligible,
-  NobodyWaits,
-  in-charge,
-  own-advance,
-  Stole,
-  FirstStolen,
-  StoleNothing,
-  Contest,
-  LateContest,
-  Rule,
-  Demand3,
-}
-use Rattle.decision.proofs.Cases.{by-test, never, and-both}
+use Rattle.decision.specs.Demand3.{Ready, Eligible, HolderEligible, NobodyWaits, in-charge, Stole, FirstStolen, StoleNothing, Contest}
+use Rattle.decision.proofs.Cases.{never, and-both}
 use Rattle.decision.proofs.Lists.{In, all-at}
-use Rattle.decision.proofs.Queues.{Inv}
-use Rattle.decision.proofs.Before.{queues}
-use Rattle.decision.proofs.Stolen.{Robbed, Theft, nothing, robbed}
+use Rattle.decision.proofs.Stolen.{Theft, nothing, robbed}
 use Rattle.decision.proofs.Settled.{successor}
 use Rattle.decision.proofs.Chosen.{
   is-waiting,
@@ -58,26 +31,21 @@ use Rattle.decision.proofs.Chosen.{
   nobody-waits,
   sorted,
 }
-use Rattle.decision.proofs.Scanned.{least}
-use Rattle.decision.proofs.Firsts.{IsFirst, IsLeast, least-is, least-none, some-none, some-some}
+use Rattle.decision.proofs.Firsts.{IsFirst, some-none}
 use Rattle.decision.proofs.ReadyIs.{
   ready-waits,
   waits-ready,
   both-on-time,
-  on-time-eligible,
   runs-holder,
   holder-runs,
-  prev-eligible,
   eligible-prev,
   first-key,
   key-first,
   least-key,
-  first-least,
   vtime-is,
-  vd-is,
 }
 use Rattle.decision.proofs.Assembled.{scheduled-machine, J, waking, chose, C, runs, locked, l, stole, kept, awake, c, follows, chosen-in-charge, holder-in-charge}
-use Rattle.decision.proofs.Outcomes.{tidied, charge-is, v-after, nothing-stolen, of-the-lot, nobody-lost}
+use Rattle.decision.proofs.Outcomes.{charge-is, nothing-stolen, of-the-lot}
 
 module _ (k time : ℕ) (M : Machine) (S : Sound M) (T : Tidy M) (P : Present M k) (own : ServesOwn k time M) where
   abbrev pub M′ : Machine

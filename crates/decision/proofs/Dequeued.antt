@@ -1,24 +1,20 @@
 -- The winner leaves the queue by its record's key: the state after the choice.
 use mathlib.Core.Path.{_≡_, refl, subst, sym, ap, _∙_}
-use mathlib.Core.Bool.{Bool, true, false}
+use mathlib.Core.Bool.{true, false}
 use mathlib.Core.List.{List, []}
 use mathlib.Core.Option.{Option, none, some}
 use mathlib.Core.Logic.{_⊎_, inl, inr, _≢_}
 use Prim.Native.Nat.{ℕ, _<_}
 use lib.Dec.{eqb}
-use lib.ListN.{length, set, length-set}
+use lib.ListN.{length, length-set}
 use borrow.Author.Tests.{eqb-true, eqb-false, eq-eqb}
-use Rattle.columns.specs.Common.{if_then_else_}
 use Rattle.context.specs.declared.Context.{Context}
-use Rattle.context.specs.declared.Status.{Status}
 use Rattle.context.specs.Status.{is-runnable}
-use Rattle.run_queue.specs.declared.Key.{Key}
 use Rattle.run_queue.specs.declared.Entry.{Entry}
-use Rattle.run_queue.specs.Queue.{queue-remove}
 use Rattle.percpu.specs.With.{cpu-v}
 use Rattle.machine.specs.Machine.{Machine, context-at, cpu-at}
-use Rattle.decision.specs.State.{State, at, on-cpu, put-context, remove-key, queue-key, without-key, state-of, prev-runnable}
-use Rattle.decision.specs.Scan.{Scan, scan}
+use Rattle.decision.specs.State.{State, at, on-cpu, queue-key, without-key}
+use Rattle.decision.specs.Scan.{Scan}
 use Rattle.decision.specs.Choice.{Choice, choice, chosen, cleaned-up, dequeued, taken-out, ineligible-holder}
 use Rattle.decision.specs.Decision.{scanned}
 use Rattle.decision.specs.Tidy.{Sound, Tidy}
@@ -26,12 +22,11 @@ use Rattle.decision.proofs.Cases.{by-test, never, pick, and-both}
 use Rattle.decision.proofs.Lists.{In}
 use Rattle.decision.proofs.Queues.{Inv, fixed, set-view, on, Has, Without, Agrees, gone-of}
 use Rattle.decision.proofs.Moves.{inv-take, now-out, has-take, was-in}
-use Rattle.decision.proofs.Before.{Seat, seat, queues, Free}
+use Rattle.decision.proofs.Before.{seat, queues, Free}
 use Rattle.decision.proofs.Woken.{Waking}
-use Rattle.decision.proofs.ScanKept.{Lost, Scanning, scan-kept, ready-stays, still-subset}
+use Rattle.decision.proofs.ScanKept.{Lost, Scanning, scan-kept, ready-stays}
 use Rattle.decision.proofs.Chosen.{
   is-waiting,
-  is-on-time,
   Follows,
   entry-first,
   holder-kept,
@@ -42,7 +37,6 @@ use Rattle.decision.proofs.Chosen.{
   nobody-waits,
   separate,
   choice-follows,
-  found-agrees,
 }
 use Rattle.decision.proofs.Firsts.{some-none, some-some}
 

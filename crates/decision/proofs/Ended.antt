@@ -1,14 +1,13 @@
 -- The slice changes hands and the CPU switches: what that writes, and what it leaves alone.
-use mathlib.Core.Path.{_≡_, refl, subst, sym, ap, _∙_}
+use mathlib.Core.Path.{_≡_, refl, ap, _∙_}
 use mathlib.Core.Bool.{Bool, true, false, not, _&&_}
 use mathlib.Core.List.{List}
-use mathlib.Core.Option.{Option, none, some}
+use mathlib.Core.Option.{none, some}
 use mathlib.Core.Logic.{_≢_}
 use Prim.Native.Nat.{ℕ, _+_, _-_, _<_}
 use lib.Dec.{eqb}
-use lib.ListN.{length, getD, set, length-set}
+use lib.ListN.{length, set, length-set}
 use lib.Seq.{getD-set-same, getD-set-other}
-use borrow.Author.Tests.{eqb-true, eqb-false}
 use Rattle.columns.specs.Common.{if_then_else_}
 use Rattle.context.specs.declared.Context.{Context}
 use Rattle.context.specs.declared.Status.{Status}
@@ -21,18 +20,17 @@ use Rattle.context.specs.With.{
   with-inside-syscall,
   with-currently-scheduled,
   with-sched-cpu-time,
-  with-schedule-time,
 }
 use Rattle.run_queue.specs.declared.Entry.{Entry}
 use Rattle.cpu_stats.specs.declared.CpuState.the-variants.{Idle}
 use Rattle.cpu_stats.specs.With.{stats-state}
 use Rattle.percpu.specs.Cpu.{Cpu}
 use Rattle.percpu.specs.With.{cpu-stats}
-use Rattle.machine.specs.Machine.{Machine, context-at, no-context, cpu-at, no-cpu}
+use Rattle.machine.specs.Machine.{Machine, context-at, no-context}
 use Rattle.decision.specs.State.{State, at, on-cpu, holder}
 use Rattle.decision.specs.SwitchTo.{hand-over, saved, left, comes, switch-to}
-use Rattle.decision.specs.Decision.{Scheduled, Outcome, picked-as, switch-as, after-schedule}
-use Rattle.decision.proofs.Cases.{by-test, pick}
+use Rattle.decision.specs.Decision.{picked-as, switch-as, after-schedule}
+use Rattle.decision.proofs.Cases.{pick}
 use Rattle.decision.proofs.Queues.{Run, run, set-view}
 
 -- a view: what tidy and demand 3 read of a record, but for the scheduled mark

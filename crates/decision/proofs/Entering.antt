@@ -1,24 +1,22 @@
 -- A context's old key leaves, and it enters the queue anew.
 use mathlib.Core.Path.{_≡_, refl, subst, sym, ap, _∙_}
-use mathlib.Core.Bool.{Bool, true, false}
-use mathlib.Core.List.{List, [], _∷_}
-use mathlib.Core.Logic.{_⊎_, inl, inr, _≢_}
+use mathlib.Core.Bool.{false}
+use mathlib.Core.List.{List}
+use mathlib.Core.Logic.{_≢_}
 use Prim.Native.Nat.{ℕ, _<_}
 use lib.Dec.{eqb}
 use lib.ListN.{length, set, length-set}
 use lib.Seq.{set-set, getD-set-same}
 use borrow.Author.Tests.{eqb-true, eqb-false}
-use Rattle.columns.specs.Common.{if_then_else_}
 use Rattle.context.specs.declared.Context.{Context}
-use Rattle.run_queue.specs.declared.Key.{Key}
 use Rattle.run_queue.specs.declared.Entry.{Entry}
-use Rattle.run_queue.specs.Queue.{queue-insert, queue-remove}
+use Rattle.run_queue.specs.Queue.{queue-insert}
 use Rattle.machine.specs.Machine.{context-at, no-context}
 use Rattle.decision.specs.State.{queue-key, without-key}
 use Rattle.decision.specs.Wakeups.{without-old-key}
 use Rattle.decision.proofs.Cases.{by-test, never, pick}
 use Rattle.decision.proofs.Lists.{In}
-use Rattle.decision.proofs.Queues.{Run, run, fixed, set-view, on, Has, Without, Inv, Agrees, gone-of, id-of}
+use Rattle.decision.proofs.Queues.{Run, run, fixed, on, Has, Without, Inv, Agrees, id-of}
 use Rattle.decision.proofs.Moves.{inv-out, inv-take, now-out, has-take, inv-put, has-put, has-new}
 
 module _ (F : ℕ → Type 0) (cs₀ cs : List Context) (k : ℕ) (q : List Entry) (R : ℕ → List Entry) where

@@ -1,19 +1,18 @@
 -- `first` and `least` find what the rule says. Assumes scan-start.
-use mathlib.Core.Path.{_≡_, refl, subst, sym, ap, _∙_}
-use mathlib.Core.Bool.{Bool, true, false, not, _&&_, _||_}
-use mathlib.Core.List.{List, [], _∷_, _++_}
+use mathlib.Core.Path.{_≡_, refl, sym, ap, _∙_}
+use mathlib.Core.Bool.{Bool, true, false, _&&_}
+use mathlib.Core.List.{List, [], _∷_}
 use mathlib.Core.Option.{Option, none, some}
-use mathlib.Core.Logic.{_⊎_, inl, inr, _≢_}
+use mathlib.Core.Logic.{_⊎_, inl, inr}
 use Prim.Native.Nat.{ℕ, _<_, _≤_}
 use native.Mathlib.Omega.{arith}
-use lib.Dec.{ltb, leb, eqb}
-use borrow.Author.Tests.{ltb-true, ltb-false, le-ltb, lt-ltb}
+use lib.Dec.{ltb}
+use borrow.Author.Tests.{ltb-true, ltb-false, lt-ltb}
 use Rattle.run_queue.specs.declared.Entry.{Entry}
-use Rattle.columns.specs.Common.{if_then_else_}
 use Rattle.run_queue.specs.Order.{entry-before}
 use Rattle.decision.specs.Scan.{below, ineligible-min-vtime}
-use Rattle.decision.proofs.Cases.{by-test, never, and-both, and-true}
-use Rattle.decision.proofs.Lists.{All, In, all-at}
+use Rattle.decision.proofs.Cases.{by-test, never, and-both}
+use Rattle.decision.proofs.Lists.{In, all-at}
 use Rattle.decision.proofs.Sorted.{Sorted}
 use Rattle.decision.proofs.Scanned.{first, least}
 

@@ -1,12 +1,12 @@
 -- All and In, too-many lists. Assumes scan-start.
 use mathlib.Core.Path.{_≡_, refl, subst, sym, ap}
-use mathlib.Core.Bool.{Bool, true, false}
+use mathlib.Core.Bool.{Bool, true}
 use mathlib.Core.List.{List, [], _∷_, _++_, map}
 use mathlib.Core.Logic.{_⊎_, inl, inr}
 use Prim.Native.Nat.{ℕ, suc, _<_}
 use lib.ListN.{length, getD, drop}
 use lib.Seq.{drop-cons}
-use Rattle.columns.specs.Common.{if_then_else_, fold, keep}
+use Rattle.columns.specs.Common.{fold, keep}
 use Rattle.decision.proofs.Cases.{by-test}
 pub use Rattle.columns.specs.Common.{All, In}
 

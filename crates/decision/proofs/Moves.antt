@@ -1,44 +1,24 @@
 -- An entry leaves a queue, or enters one, with the change of its context.
 use mathlib.Core.Path.{_≡_, refl, subst, sym, ap, _∙_}
-use mathlib.Core.Bool.{Bool, true, false}
-use mathlib.Core.List.{List, [], _∷_}
+use mathlib.Core.Bool.{true, false}
+use mathlib.Core.List.{List}
 use mathlib.Core.Logic.{_⊎_, inl, inr, _≢_}
-use Prim.Native.Nat.{ℕ, _<_, _≤_}
-use lib.Dec.{ltb, eqb}
-use lib.ListN.{length, getD, set, length-set}
-use lib.Seq.{getD-set-other, getD-set-same}
+use Prim.Native.Nat.{ℕ, _<_}
+use lib.Dec.{eqb}
+use lib.ListN.{length, set, length-set}
+use lib.Seq.{getD-set-other}
 use borrow.Author.Tests.{eqb-true, eqb-false, eq-eqb}
-use Rattle.columns.specs.Common.{if_then_else_}
 use Rattle.context.specs.declared.Context.{Context}
 use Rattle.run_queue.specs.declared.Key.{Key}
 use Rattle.run_queue.specs.declared.Entry.{Entry}
-use Rattle.run_queue.specs.Order.{before, entry-before}
-use Rattle.run_queue.specs.Queue.{insert, remove, queue-insert, queue-remove, keyed}
+use Rattle.run_queue.specs.Order.{entry-before}
+use Rattle.run_queue.specs.Queue.{queue-insert, queue-remove, keyed}
 use Rattle.machine.specs.Machine.{context-at, no-context}
-use Rattle.decision.specs.State.{queue-key, without-key}
-use Rattle.decision.specs.Wakeups.{without-old-key}
-use Rattle.decision.proofs.Cases.{by-test, never, pick}
-use Rattle.decision.proofs.Lists.{All, In}
+use Rattle.decision.proofs.Cases.{by-test, never}
+use Rattle.decision.proofs.Lists.{In}
 use Rattle.decision.proofs.Sorted.{Sorted, insert-sorted, remove-sorted, in-insert, in-inserted, in-remove, removed-at, still-in-insert, still-in-remove, Apart}
 use Rattle.decision.proofs.Keys.{entries-ordered}
-use Rattle.decision.proofs.Queues.{
-  Run,
-  run,
-  Fixed,
-  fixed,
-  set-view,
-  at-set,
-  on,
-  Has,
-  Without,
-  apart-by-id,
-  not-before-itself,
-  IdsDiffer,
-  Inv,
-  Agrees,
-  gone-of,
-  id-of,
-}
+use Rattle.decision.proofs.Queues.{fixed, set-view, at-set, on, Has, Without, apart-by-id, not-before-itself, IdsDiffer, Inv, Agrees, id-of}
 
 module _ (F : ℕ → Type 0) (cs₀ cs : List Context) where
   -- a live context without an entry has no key

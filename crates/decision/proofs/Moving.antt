@@ -1,30 +1,29 @@
 -- A stolen entry goes from the victim's queue to this CPU's, or wins.
 use mathlib.Core.Path.{_≡_, refl, subst, sym, ap, _∙_}
-use mathlib.Core.Bool.{Bool, true, false, not, _&&_}
+use mathlib.Core.Bool.{Bool, true, false}
 use mathlib.Core.List.{List, [], _∷_}
-use mathlib.Core.Option.{Option, none, some}
+use mathlib.Core.Option.{some}
 use mathlib.Core.Logic.{_⊎_, inl, inr, _≢_}
 use Prim.Native.Nat.{ℕ, _<_}
 use lib.Dec.{eqb}
 use lib.ListN.{length, set, length-set}
 use lib.Seq.{set-set, getD-set-same}
 use borrow.Author.Tests.{eqb-true, eqb-false, eq-eqb, ne-eqb}
-use Rattle.columns.specs.Common.{if_then_else_, fold}
+use Rattle.columns.specs.Common.{fold}
 use Rattle.context.specs.declared.Context.{Context}
-use Rattle.context.specs.declared.Status.{Status}
 use Rattle.run_queue.specs.declared.Entry.{Entry}
 use Rattle.run_queue.specs.Order.{entry-before}
 use Rattle.run_queue.specs.Queue.{queue-insert, queue-remove}
 use Rattle.machine.specs.Machine.{context-at, no-context}
-use Rattle.decision.specs.State.{State, at, with-new-key, is-some}
+use Rattle.decision.specs.State.{at, with-new-key}
 use Rattle.decision.specs.Wakeups.{entry-of}
-use Rattle.decision.specs.Steal.{Moving, moved, first-wins, give-up, move-entry}
+use Rattle.decision.specs.Steal.{Moving, moved, first-wins, move-entry}
 use Rattle.decision.proofs.Cases.{by-test, never, pick}
 use Rattle.decision.proofs.Lists.{All, In, all-at}
 use Rattle.decision.proofs.Sorted.{in-insert}
-use Rattle.decision.proofs.Queues.{Inv, inv-ext, fixed, set-view, on, Has, Without, Agrees, gone-of}
-use Rattle.decision.proofs.Moves.{inv-take, now-out, has-take, was-in, still-in, inv-put, has-put, has-new, put-cases}
-use Rattle.decision.proofs.Before.{Seat, seat}
+use Rattle.decision.proofs.Queues.{Inv, inv-ext, fixed, set-view, on, Has, Without, gone-of}
+use Rattle.decision.proofs.Moves.{inv-take, now-out, was-in, still-in, inv-put, has-put, has-new, put-cases}
+use Rattle.decision.proofs.Before.{seat}
 use Rattle.decision.proofs.Dequeued.{Winner}
 use Rattle.decision.proofs.Scanned.{Distinct}
 use Rattle.decision.proofs.Firsts.{some-some}

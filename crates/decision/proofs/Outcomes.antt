@@ -1,47 +1,31 @@
 -- What the decision's end says of V, of what was stolen, and of those that waited.
 use mathlib.Core.Path.{_≡_, refl, subst, sym, ap, _∙_}
 use mathlib.Core.Bool.{Bool, true, false, not, _&&_, _||_}
-use mathlib.Core.List.{List, [], _∷_}
+use mathlib.Core.List.{List, _∷_}
 use mathlib.Core.Option.{Option, none, some}
 use mathlib.Core.Logic.{_⊎_, inl, inr, _≢_}
-use Prim.Native.Nat.{ℕ, _+_, _-_, _/_, _<_, _≤_}
+use Prim.Native.Nat.{ℕ, _+_, _/_}
 use lib.Dec.{eqb}
-use lib.ListN.{length, getD}
-use borrow.Author.Tests.{eqb-true, eqb-false, eq-eqb, ne-eqb}
+use borrow.Author.Tests.{eqb-true, eq-eqb, ne-eqb}
 use Rattle.columns.specs.Common.{if_then_else_}
-use Rattle.context.specs.declared.Context.{Context}
 use Rattle.context.specs.Status.{is-runnable}
 use Rattle.run_queue.specs.declared.Entry.{Entry}
-use Rattle.run_queue.specs.Order.{entry-before}
-use Rattle.machine.specs.Machine.{Machine, context-at, cpu-at}
-use Rattle.decision.specs.State.{State, at, is-some, is-idle, prev-runnable}
-use Rattle.decision.specs.Steal.{Stealing, first-wins}
-use Rattle.decision.specs.Tidy.{Sound, Tidy, Present, Live, Runnable, Queued, InCharge, Idle, IsContext, context}
+use Rattle.machine.specs.Machine.{Machine, cpu-at}
+use Rattle.decision.specs.State.{at, is-some, is-idle}
+use Rattle.decision.specs.Steal.{Stealing}
+use Rattle.decision.specs.Tidy.{Sound, Tidy, Present, Live, Runnable, Queued, Idle, IsContext, context}
 use Rattle.decision.specs.Accepted.{ServesOwn}
-use Rattle.decision.specs.Demand3.{
-  judged,
-  in-charge,
-  own-advance,
-  Stole,
-  StoleNothing,
-  Kept,
-  queued-once,
-  put-in-charge,
-  QueuedOrInCharge,
-  was-queued,
-  was-in-charge,
-}
-use Rattle.decision.proofs.Cases.{by-test, never, pick, and-both, and-true, not-is-true, not-is-false}
-use Rattle.decision.proofs.Lists.{In, all-at}
-use Rattle.decision.proofs.Queues.{Inv, gone-of, on, Has, Without}
-use Rattle.decision.proofs.Before.{Seat, seat, queues, Free, is-queued}
+use Rattle.decision.specs.Demand3.{in-charge, own-advance, Stole, Kept, queued-once, put-in-charge, QueuedOrInCharge, was-queued, was-in-charge}
+use Rattle.decision.proofs.Cases.{by-test, never, and-true}
+use Rattle.decision.proofs.Lists.{In}
+use Rattle.decision.proofs.Queues.{gone-of, on, Has, Without}
+use Rattle.decision.proofs.Before.{Seat, queues}
 use Rattle.decision.proofs.Charged.{holder-out}
-use Rattle.decision.proofs.Dequeued.{Winner}
-use Rattle.decision.proofs.Stolen.{queue-list, start, Robbed, Theft, nothing, robbed}
+use Rattle.decision.proofs.Stolen.{queue-list, start, Robbed}
 use Rattle.decision.proofs.Settled.{successor, gain}
 use Rattle.decision.proofs.Ended.{Lasting, lasting, Standing}
 use Rattle.decision.proofs.ScanKept.{Lost}
-use Rattle.decision.proofs.TidyAfter.{Ending, here-stands, sched-here, queue-is, present-is, lasts, gone-is, count-is, queued, idle-is, tidy-after}
+use Rattle.decision.proofs.TidyAfter.{Ending, here-stands, sched-here, present-is, lasts, queued, idle-is, tidy-after}
 use Rattle.decision.proofs.Assembled.{
   scheduled-machine,
   J,
@@ -53,7 +37,6 @@ use Rattle.decision.proofs.Assembled.{
   locked,
   l,
   in-range,
-  stole,
   kept,
   awake,
   n,
@@ -62,7 +45,7 @@ use Rattle.decision.proofs.Assembled.{
   c,
   ending,
 }
-use Rattle.decision.proofs.Firsts.{some-none, some-some}
+use Rattle.decision.proofs.Firsts.{some-some}
 
 advance-is : (won : Bool) (total m : ℕ) → if not won || eqb total 0 then 0 else m / total ≡ if won && not (eqb total 0) then m / total else 0
 advance-is true total m = by-test (eqb total 0) (λ t. rw t) (λ t. rw t)

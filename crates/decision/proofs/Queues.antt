@@ -1,11 +1,11 @@
 -- The queues of all CPUs over the contexts: what every stage keeps, and how it is kept.
-use mathlib.Core.Path.{_≡_, refl, subst, sym, ap, _∙_}
+use mathlib.Core.Path.{_≡_, refl, sym, ap, _∙_}
 use mathlib.Core.Bool.{Bool, true, false}
-use mathlib.Core.List.{List, [], _∷_}
-use mathlib.Core.Logic.{_⊎_, inl, inr, _≢_}
-use Prim.Native.Nat.{ℕ, _<_, _≤_}
+use mathlib.Core.List.{List}
+use mathlib.Core.Logic.{inl, inr, _≢_}
+use Prim.Native.Nat.{ℕ, _<_}
 use lib.Dec.{ltb, eqb}
-use lib.ListN.{length, getD, set, length-set}
+use lib.ListN.{length, set, length-set}
 use lib.Seq.{getD-set-other, getD-set-same, set-out}
 use borrow.Author.Tests.{eqb-true, eqb-false, eq-eqb, ne-eqb, ltb-true, ltb-false}
 use Rattle.columns.specs.Common.{if_then_else_}
@@ -13,12 +13,11 @@ use Rattle.context.specs.declared.Context.{Context}
 use Rattle.run_queue.specs.declared.Key.{Key}
 use Rattle.run_queue.specs.declared.Entry.{Entry}
 use Rattle.run_queue.specs.Order.{before, entry-before}
-use Rattle.run_queue.specs.Queue.{insert, remove, queue-insert, queue-remove, keyed}
 use Rattle.machine.specs.Machine.{context-at, no-context}
 pub use Rattle.decision.specs.Tidy.{Agrees}
 use Rattle.decision.proofs.Cases.{by-test, never}
-use Rattle.decision.proofs.Lists.{All, In, all-at, all-in}
-use Rattle.decision.proofs.Sorted.{Sorted, insert-sorted, remove-sorted, in-insert, in-inserted, in-remove, removed-at, still-in-insert, still-in-remove, Apart}
+use Rattle.decision.proofs.Lists.{In}
+use Rattle.decision.proofs.Sorted.{Sorted, Apart}
 use Rattle.decision.proofs.Keys.{entries-ordered, same-key}
 
 -- a view: what an entry has to agree with

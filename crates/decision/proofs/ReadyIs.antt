@@ -1,16 +1,13 @@
 -- Ready as the scan judges it is ready as document 01 says it.
-use mathlib.Core.Path.{_≡_, refl, subst, sym, ap, _∙_}
-use mathlib.Core.Bool.{Bool, true, false, not, _&&_, _||_}
-use mathlib.Core.List.{List}
-use mathlib.Core.Logic.{_⊎_, inl, inr, _≢_}
-use Prim.Native.Nat.{ℕ, _<_, _≤_}
+use mathlib.Core.Path.{_≡_, refl, sym, ap, _∙_}
+use mathlib.Core.Bool.{true, false, not, _&&_, _||_}
+use mathlib.Core.Logic.{_⊎_, inl, inr}
+use Prim.Native.Nat.{ℕ, _<_}
 use native.Mathlib.Omega.{arith}
 use lib.Dec.{leb, eqb, ltb}
 use borrow.Author.Tests.{eqb-true, eqb-false, eq-eqb, ne-eqb, leb-true, le-leb, ltb-true, lt-ltb, le-ltb}
-use Rattle.columns.specs.Common.{if_then_else_}
 use Rattle.context.specs.declared.Context.{Context}
 use Rattle.context.specs.Status.{is-runnable}
-use Rattle.run_queue.specs.declared.Key.{Key}
 use Rattle.run_queue.specs.declared.Entry.{Entry}
 use Rattle.runnable.specs.declared.UpdateResult.{UpdateResult}
 use Rattle.runnable.specs.declared.UpdateResult.the-variants.{CanSwitch, Skip, Blocked}
@@ -18,14 +15,14 @@ use Rattle.runnable.specs.Runnable.{update-runnable}
 use Rattle.percpu.specs.Cpu.{Cpu}
 use Rattle.machine.specs.Machine.{Machine, cpu-at}
 use Rattle.decision.specs.State.{State, at, holder, is-idle, prev-runnable}
-use Rattle.decision.specs.Scan.{Visit, pass, gone, ready, is-ready, by-update, is-eligible, judge}
+use Rattle.decision.specs.Scan.{pass, gone, is-ready, by-update, is-eligible, judge}
 use Rattle.decision.specs.Choice.{prev-is-eligible}
-use Rattle.decision.specs.Tidy.{Sound, Tidy, Present}
+use Rattle.decision.specs.Tidy.{Sound, Tidy}
 use Rattle.decision.specs.Accepted.{can-switch}
 use Rattle.decision.specs.Demand3.{Ready, Eligible, HolderRunnable, HolderEligible, HolderFirst, LeastKey, FirstLeast, judged}
 use Rattle.decision.proofs.Cases.{by-test, never, pick, and-both, and-true, or-neither, or-either, not-is-true, not-is-false}
 use Rattle.decision.proofs.Lists.{In}
-use Rattle.decision.proofs.Before.{Seat, seat}
+use Rattle.decision.proofs.Before.{Seat}
 use Rattle.decision.proofs.Woken.{Waking}
 use Rattle.decision.proofs.Chosen.{is-waiting, is-on-time, before-key}
 use Rattle.decision.proofs.Firsts.{IsFirst, IsLeast}

@@ -1,9 +1,8 @@
 -- The rule where nobody is eligible, and demand 3 of a call that runs `schedule`.
-use mathlib.Core.Path.{_≡_, refl, subst, sym, ap, _∙_}
-use mathlib.Core.Bool.{Bool, true, false, _&&_}
+use mathlib.Core.Path.{_≡_, refl, ap, _∙_}
+use mathlib.Core.Bool.{Bool, true}
 use mathlib.Core.List.{List}
 use mathlib.Core.Option.{Option, none, some}
-use mathlib.Core.Logic.{_⊎_, inl, inr, _≢_}
 use Prim.Native.Nat.{ℕ, _+_, _<_, _≤_}
 use native.Mathlib.Omega.{arith}
 use Rattle.run_queue.specs.declared.Entry.{Entry}
@@ -15,21 +14,19 @@ use Rattle.decision.specs.Accepted.{ServesOwn}
 use Rattle.decision.specs.Demand3.{
   Ready,
   HolderRunnable,
-  HolderEligible,
   LeastWaiting,
   MovedTo,
   to-entry,
   to-holder,
   nowhere,
   NobodyEligible,
-  NobodyWaits,
   in-charge,
   own-advance,
   LateContest,
   Rule,
   Demand3,
 }
-use Rattle.decision.proofs.Cases.{never, and-both}
+use Rattle.decision.proofs.Cases.{never}
 use Rattle.decision.proofs.Lists.{In}
 use Rattle.decision.proofs.Before.{queues, Free}
 use Rattle.decision.proofs.WokenAll.{woken-entry}
@@ -51,7 +48,7 @@ use Rattle.decision.proofs.Firsts.{IsFirst, IsLeast, least-is, least-no
 use Rattle.decision.proofs.ReadyIs.{waits-ready, runs-holder, holder-runs, prev-eligible, least-key, first-least, vtime-is, vd-is}
 use Rattle.decision.proofs.Assembled.{scheduled-machine, J, waking, chose, follows}
 use Rattle.decision.proofs.Outcomes.{tidied, v-after, nobody-lost}
-use Rattle.decision.proofs.Demanded.{won, stayed, runs-if, ready-of, v-is, eligible, alone, none-waits, stolen-first, idle-left, idle-only}
+use Rattle.decision.proofs.Demanded.{won, stayed, ready-of, v-is, eligible, alone, none-waits, stolen-first, idle-left, idle-only}
 
 -- among those that pass, if any does, one is the first of the least vtime
 least-exists : (p : Entry → Bool) (q : List Entry) → Rattle.decision.proofs.Sorted.Sorted Rattle.run_queue.specs.Order.entry-before q → (f : Entry) → In f q → p f ≡ true

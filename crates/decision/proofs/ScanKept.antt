@@ -1,15 +1,15 @@
 -- The scan and the clean-up keep the invariant; what leaves the queue is gone or not runnable.
 use mathlib.Core.Path.{_≡_, refl, subst, sym, ap, _∙_}
-use mathlib.Core.Bool.{Bool, true, false, not, _&&_, _||_}
+use mathlib.Core.Bool.{Bool, true, false, _&&_}
 use mathlib.Core.List.{List, [], _∷_, _++_}
-use mathlib.Core.Option.{Option, none, some}
+use mathlib.Core.Option.{Option, none}
 use mathlib.Core.Logic.{_⊎_, inl, inr, _≢_}
 use Prim.Native.Nat.{ℕ, _<_}
 use lib.Dec.{eqb}
 use lib.ListN.{length, set}
 use lib.Seq.{set-getD, getD-set-same, getD-set-other}
 use borrow.Author.Tests.{eqb-true, eqb-false, eq-eqb}
-use Rattle.columns.specs.Common.{if_then_else_, fold}
+use Rattle.columns.specs.Common.{fold}
 use Rattle.context.specs.declared.Context.{Context}
 use Rattle.context.specs.Status.{is-runnable}
 use Rattle.run_queue.specs.declared.Key.{Key}
@@ -18,16 +18,15 @@ use Rattle.run_queue.specs.Order.{entry-before}
 use Rattle.run_queue.specs.Queue.{queue-remove, keyed}
 use Rattle.percpu.specs.Cpu.{Cpu}
 use Rattle.machine.specs.Machine.{context-at, no-context}
-use Rattle.decision.specs.State.{is-some}
-use Rattle.decision.specs.Scan.{Scan, Visit, pass, gone, blocked, no-addr-space, ready, is-ready, is-ready-in, is-eligible, judge, visited, scan-step, scan-start, scan}
+use Rattle.decision.specs.Scan.{Scan, Visit, pass, gone, blocked, no-addr-space, ready, is-ready, is-ready-in, is-eligible, visited, scan-step, scan-start, scan}
 use Rattle.decision.specs.Choice.{without-keys}
 use Rattle.decision.proofs.Cases.{by-test, never, pick}
 use Rattle.decision.proofs.Lists.{All, In, all-at}
 use Rattle.decision.proofs.Sorted.{in-remove}
-use Rattle.decision.proofs.Queues.{run, fixed, gone-of, on, Has, Without, Inv, inv-same}
+use Rattle.decision.proofs.Queues.{run, fixed, on, Inv, inv-same}
 use Rattle.decision.proofs.Moves.{inv-take, still-in}
-use Rattle.decision.proofs.Judged.{Switchable, put-to-sleep, judge-cases}
-use Rattle.decision.proofs.Scanned.{Distinct, Fresh, beyond, verdict, step-is, step-best, all-fresh, found-stays, start-fresh, on-time}
+use Rattle.decision.proofs.Judged.{put-to-sleep, judge-cases}
+use Rattle.decision.proofs.Scanned.{Distinct, Fresh, beyond, verdict, step-is, step-best, all-fresh, found-stays, start-fresh}
 
 -- gone, or not runnable
 abbrev pub Lost : Context → Type 0

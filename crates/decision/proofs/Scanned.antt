@@ -1,13 +1,11 @@
 -- What the walk too-many the queue finds. Assumes scan-start.
-use mathlib.Core.Path.{_≡_, refl, subst, sym, ap, _∙_}
-use mathlib.Core.Bool.{Bool, true, false, not, _&&_, _||_}
-use mathlib.Core.List.{List, [], _∷_, _++_}
+use mathlib.Core.Path.{_≡_, refl, sym, _∙_}
+use mathlib.Core.Bool.{Bool, true, false, not, _&&_}
+use mathlib.Core.List.{List, [], _∷_}
 use mathlib.Core.Option.{Option, none, some}
-use mathlib.Core.Logic.{_⊎_, inl, inr, _≢_}
-use Prim.Native.Nat.{ℕ, _<_, _≤_}
+use mathlib.Core.Logic.{_≢_}
+use Prim.Native.Nat.{ℕ, _<_}
 use native.Mathlib.Omega.{arith}
-use lib.Dec.{ltb, leb, eqb}
-use lib.ListN.{getD, set}
 use lib.Seq.{getD-set-other}
 use borrow.Author.Tests.{ltb-true, le-ltb, ne-eqb}
 use Rattle.run_queue.specs.declared.Entry.{Entry}
@@ -38,8 +36,8 @@ use Rattle.decision.specs.Scan.{
   scan-start,
   scan,
 }
-use Rattle.decision.proofs.Cases.{by-test, never, and-both, not-is-true}
-use Rattle.decision.proofs.Lists.{All, In, all-map}
+use Rattle.decision.proofs.Cases.{by-test, and-both, not-is-true}
+use Rattle.decision.proofs.Lists.{All}
 
 -- the first of a list that passes a test
 abbrev pub first : {A : Type 0} → (A → Bool) → List A → Option A

@@ -1,10 +1,8 @@
 -- Sorted lists: inserting and removing. Assumes scan-start.
-use mathlib.Core.Path.{_≡_, refl, subst, sym}
+use mathlib.Core.Path.{_≡_, refl}
 use mathlib.Core.Bool.{Bool, true, false}
-use mathlib.Core.List.{List, [], _∷_, _++_}
+use mathlib.Core.List.{List, [], _∷_}
 use mathlib.Core.Logic.{_⊎_, inl, inr}
-use Prim.Native.Nat.{ℕ}
-use Rattle.columns.specs.Common.{if_then_else_}
 use Rattle.run_queue.specs.Queue.{insert, remove}
 pub use Rattle.decision.specs.Tidy.{Sorted}
 use Rattle.decision.proofs.Cases.{by-test, never}

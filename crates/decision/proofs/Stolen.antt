@@ -1,22 +1,21 @@
 -- Work stealing: nothing is stolen, or entries of one other CPU are, the first of them winning where nobody else runs.
 use mathlib.Core.Path.{_≡_, refl, subst, sym, ap, _∙_}
-use mathlib.Core.Bool.{Bool, true, false, not, _&&_, _||_}
+use mathlib.Core.Bool.{Bool, true, false, not, _||_}
 use mathlib.Core.List.{List, [], _∷_}
-use mathlib.Core.Option.{Option, none, some}
+use mathlib.Core.Option.{Option, some}
 use mathlib.Core.Logic.{_⊎_, inl, inr, _≢_}
-use Prim.Native.Nat.{ℕ, _<_, _≤_}
+use Prim.Native.Nat.{ℕ, _<_}
 use lib.Dec.{eqb, ltb}
 use lib.ListN.{length, getD, set, length-set, List·getD-eq-default}
 use lib.Seq.{getD-set-same, getD-set-other}
-use borrow.Author.Tests.{eqb-true, eqb-false, eq-eqb, ne-eqb, ltb-true, ltb-false}
-use Rattle.columns.specs.Common.{if_then_else_, fold}
-use Rattle.context.specs.declared.Context.{Context}
+use borrow.Author.Tests.{eqb-true, eqb-false, ne-eqb, ltb-true, ltb-false}
+use Rattle.columns.specs.Common.{fold}
 use Rattle.run_queue.specs.declared.Entry.{Entry}
 use Rattle.run_queue.specs.Order.{entry-before}
 use Rattle.percpu.specs.Cpu.{Cpu}
 use Rattle.percpu.specs.Words.{block-of}
 use Rattle.machine.specs.Machine.{Machine, context-at, cpu-at, no-cpu}
-use Rattle.decision.specs.State.{State, at, on-cpu, is-some}
+use Rattle.decision.specs.State.{State, at, on-cpu}
 use Rattle.decision.specs.Steal.{
   Stealing,
   Moving,
@@ -25,7 +24,6 @@ use Rattle.decision.specs.Steal.{
   targets,
   can-steal-from,
   want,
-  candidates,
   first-wins,
   move-entry,
   published,
@@ -35,17 +33,16 @@ use Rattle.decision.specs.Steal.{
   steal-from,
   steal,
 }
-use Rattle.decision.specs.Tidy.{Sound, Tidy, Present}
+use Rattle.decision.specs.Tidy.{Present}
 use Rattle.decision.proofs.Cases.{by-test, never, pick, or-neither, not-is-false}
 use Rattle.decision.proofs.Lists.{In, fold-keeps-in}
 use Rattle.decision.proofs.Sorted.{Sorted}
-use Rattle.decision.proofs.Queues.{Inv, inv-ext, on, Has, Without, gone-of}
-use Rattle.decision.proofs.Before.{Seat, seat, queues, Free}
-use Rattle.decision.proofs.Scanned.{Distinct}
+use Rattle.decision.proofs.Queues.{Inv, inv-ext, on, Has, gone-of}
+use Rattle.decision.proofs.Before.{seat, queues, Free}
 use Rattle.decision.proofs.Chosen.{distinct}
 use Rattle.decision.proofs.Dequeued.{Winner}
-use Rattle.decision.proofs.Candidates.{Taking, candidates-taking, candidates-in, target-is-other}
-use Rattle.decision.proofs.Moving.{on-swap, all-queues, Moved, lot-moved}
+use Rattle.decision.proofs.Candidates.{candidates-taking, candidates-in, target-is-other}
+use Rattle.decision.proofs.Moving.{Moved, lot-moved}
 
 abbrev pub queue-list : List Cpu → ℕ → List Entry
 queue-list cpus i = (getD cpus i no-cpu) .queue

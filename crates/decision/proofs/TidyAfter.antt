@@ -1,28 +1,25 @@
 -- The machine after the call is tidy.
 use mathlib.Core.Path.{_≡_, refl, subst, sym, ap, _∙_}
-use mathlib.Core.Bool.{Bool, true, false}
-use mathlib.Core.List.{List, []}
-use mathlib.Core.Option.{Option, none, some}
-use mathlib.Core.Logic.{_⊎_, inl, inr, _≢_}
+use mathlib.Core.Bool.{true, false}
+use mathlib.Core.List.{List}
+use mathlib.Core.Logic.{_≢_}
 use Prim.Native.Nat.{ℕ, _<_}
 use lib.Dec.{eqb}
-use lib.ListN.{length, getD, set}
+use lib.ListN.{length, getD}
 use lib.Seq.{getD-set-same, getD-set-other}
-use borrow.Author.Tests.{eqb-true, eqb-false, eq-eqb, ne-eqb}
-use Rattle.columns.specs.Common.{if_then_else_}
-use Rattle.context.specs.declared.Context.{Context}
+use borrow.Author.Tests.{eqb-true, eqb-false}
 use Rattle.run_queue.specs.declared.Entry.{Entry}
 use Rattle.percpu.specs.Cpu.{Cpu}
 use Rattle.machine.specs.Machine.{Machine, context-at, cpu-at, no-cpu}
 use Rattle.decision.specs.State.{State, at}
-use Rattle.decision.specs.Tidy.{Sound, Tidy, Present, Live, Queued, InCharge, IsContext, context}
+use Rattle.decision.specs.Tidy.{Sound, Tidy, Present, Queued, InCharge, IsContext, context}
 use Rattle.decision.proofs.Cases.{by-test, never}
 use Rattle.decision.proofs.Lists.{In}
-use Rattle.decision.proofs.Queues.{Run, run, Fixed, Inv, on, Agrees, agrees-run}
+use Rattle.decision.proofs.Queues.{Fixed, Inv, on, agrees-run}
 use Rattle.decision.proofs.Before.{Seat, seat, queues}
 use Rattle.decision.proofs.Stolen.{queue-list}
 use Rattle.decision.proofs.Settled.{Fit}
-use Rattle.decision.proofs.Ended.{Lasting, lasting, Standing, standing, Ends, Finished}
+use Rattle.decision.proofs.Ended.{Lasting, lasting, Standing, standing, Finished}
 
 module _ (k time : ℕ) (M : Machine) (S : Sound M) (T : Tidy M) (P : Present M k) (r : k < length (M .cpus)) (c : ℕ) (s : State) (cpus : List Cpu)
     (M′ : Machine) where

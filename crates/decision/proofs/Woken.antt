@@ -1,21 +1,19 @@
 -- Serving wake-ups keeps the invariant, and every entry's context queued.
 use mathlib.Core.Path.{_≡_, refl, subst, sym, ap, _∙_}
-use mathlib.Core.Bool.{Bool, true, false, not, _&&_, _||_}
-use mathlib.Core.List.{List, [], _∷_, _++_, map}
+use mathlib.Core.Bool.{true, false, not, _&&_}
+use mathlib.Core.List.{map}
 use mathlib.Core.Option.{Option, none, some}
 use mathlib.Core.Logic.{_⊎_, inl, inr, _≢_}
-use Prim.Native.Nat.{ℕ, _+_, _<_, _≤_}
+use Prim.Native.Nat.{ℕ, _<_}
 use native.Mathlib.Omega.{arith}
-use lib.Dec.{leb, eqb}
-use lib.ListN.{length, set}
+use lib.Dec.{eqb}
+use lib.ListN.{length}
 use borrow.Author.Tests.{eqb-true, eqb-false, leb-true}
-use Rattle.columns.specs.Common.{if_then_else_, fold, keep}
+use Rattle.columns.specs.Common.{fold, keep}
 use Rattle.context.specs.declared.Context.{Context}
 use Rattle.context.specs.Status.{is-runnable}
-use Rattle.context.specs.Block.{woken}
 use Rattle.weights.specs.Weights.{weight}
 use Rattle.run_queue.specs.declared.Entry.{Entry}
-use Rattle.run_queue.specs.declared.Timer.{Timer}
 use Rattle.run_queue.specs.Queue.{queue-insert}
 use Rattle.percpu.specs.Cpu.{Cpu}
 use Rattle.machine.specs.Machine.{Machine, context-at, cpu-at}
@@ -47,11 +45,11 @@ use Rattle.decision.specs.Wakeups.{
   serve-wakeups,
 }
 use Rattle.decision.specs.Charging.{count-switch}
-use Rattle.decision.specs.Tidy.{Sound, Tidy, Present, Live, Queued}
+use Rattle.decision.specs.Tidy.{Sound, Tidy, Live}
 use Rattle.decision.specs.Accepted.{Served, by-timer, by-name, ServesOwn}
 use Rattle.decision.proofs.Cases.{by-test, never, pick, and-both, not-is-true, not-is-false}
 use Rattle.decision.proofs.Lists.{In, fold-keeps-in, in-map, in-append, in-keep}
-use Rattle.decision.proofs.Queues.{Run, run, Fixed, fixed, on, Has, Inv, inv-same, gone-of, id-of}
+use Rattle.decision.proofs.Queues.{run, Fixed, fixed, on, Has, inv-same, gone-of}
 use Rattle.decision.proofs.Before.{Seat, seat, queues, Free, Kept, is-queued, start-kept}
 use Rattle.decision.proofs.Entering.{Unkeyed, unkeyed, Entered, re-entered}
 

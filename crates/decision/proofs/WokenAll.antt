@@ -1,19 +1,18 @@
 -- Every wake-up that can enter the queue does: none is dropped.
 use mathlib.Core.Path.{_≡_, refl, subst, sym, ap, _∙_}
-use mathlib.Core.Bool.{Bool, true, false, not, _&&_, _||_}
-use mathlib.Core.List.{List, [], _∷_, _++_, map}
+use mathlib.Core.Bool.{true, false, not, _&&_, _||_}
+use mathlib.Core.List.{List, [], _∷_, map}
 use mathlib.Core.Option.{Option, none, some}
 use mathlib.Core.Logic.{_⊎_, inl, inr, _≢_}
-use Prim.Native.Nat.{ℕ, _+_, _<_, _≤_}
+use Prim.Native.Nat.{ℕ, _<_}
 use native.Mathlib.Omega.{arith}
-use lib.Dec.{leb, eqb}
+use lib.Dec.{eqb}
 use lib.ListN.{length, set}
 use lib.Seq.{getD-set-same, getD-set-other}
 use borrow.Author.Tests.{eqb-true, eqb-false, eq-eqb, ne-eqb, le-leb}
-use Rattle.columns.specs.Common.{if_then_else_, fold, keep}
+use Rattle.columns.specs.Common.{fold, keep}
 use Rattle.context.specs.declared.Context.{Context}
 use Rattle.context.specs.Status.{is-runnable, is-soft-blocked}
-use Rattle.context.specs.Block.{woken}
 use Rattle.run_queue.specs.declared.Entry.{Entry}
 use Rattle.run_queue.specs.declared.Timer.{Timer}
 use Rattle.percpu.specs.Cpu.{Cpu}
@@ -35,8 +34,6 @@ use Rattle.decision.specs.Wakeups.{
   entering,
   enter,
   WakeupResult,
-  dropped,
-  locked,
   woken-only,
   entered,
   wakeup-result,
@@ -44,15 +41,15 @@ use Rattle.decision.specs.Wakeups.{
   serve-wakeup,
   serve-wakeups,
 }
-use Rattle.decision.specs.Charging.{count-switch, times, inactive, holder-stopped, charge-holder, before-choice}
-use Rattle.decision.specs.Tidy.{Sound, Tidy, Present, Live, Queued, context}
+use Rattle.decision.specs.Charging.{count-switch, times, holder-stopped, charge-holder, before-choice}
+use Rattle.decision.specs.Tidy.{Sound, Tidy, Live, context}
 use Rattle.decision.specs.Accepted.{Served, ServesOwn}
 use Rattle.decision.specs.Demand3.{Wakes, by-name, by-timer, WakesHere, judged}
-use Rattle.decision.proofs.Cases.{by-test, never, pick, and-both, and-true, not-is-true, not-is-false}
+use Rattle.decision.proofs.Cases.{by-test, never, pick, and-true, not-is-true, not-is-false}
 use Rattle.decision.proofs.Lists.{In, keep-in, map-in, in-left, in-right}
 use Rattle.decision.proofs.Queues.{on, Has}
-use Rattle.decision.proofs.Before.{Seat, seat, queues, is-queued}
-use Rattle.decision.proofs.Woken.{every-wakeup, Waking, Named, wakeups-named, start-waking, serve-waking, asked, woke, Asked, wakeup-cases, Enters, enters, enter-entered}
+use Rattle.decision.proofs.Before.{Seat, queues, is-queued}
+use Rattle.decision.proofs.Woken.{every-wakeup, Waking, Named, wakeups-named, start-waking, serve-waking, asked, woke, Asked, wakeup-cases, enters, enter-entered}
 
 -- what a context needs to enter, once it is runnable
 pub record Able (p : Cpu) (x : ℕ) (c : Context) : Type 0 where

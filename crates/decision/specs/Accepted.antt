@@ -2,18 +2,16 @@
 use mathlib.Core.Path.{_≡_}
 use mathlib.Core.Logic.{_≢_}
 use mathlib.Core.Bool.{Bool, true, false, not, _&&_}
-use mathlib.Core.List.{List}
 use Prim.Native.Nat.{ℕ, _+_, _≤_}
 use lib.Dec.{leb, eqb}
 use Rattle.columns.specs.Common.{In}
-use Rattle.context.specs.declared.Context.{Context}
 use Rattle.run_queue.specs.declared.Entry.{Entry}
 use Rattle.run_queue.specs.declared.Timer.{Timer}
 use Rattle.runnable.specs.declared.UpdateResult.{UpdateResult}
 use Rattle.runnable.specs.declared.UpdateResult.the-variants.{CanSwitch, Skip, Blocked}
 use Rattle.runnable.specs.Runnable.{update-runnable}
 use Rattle.percpu.specs.Cpu.{Cpu}
-use Rattle.machine.specs.Machine.{Machine, context-at, cpu-at}
+use Rattle.machine.specs.Machine.{Machine, cpu-at}
 use Rattle.decision.specs.Decision.{Outcome, tick, switch, direct-switch-to}
 use Rattle.decision.specs.Tidy.{Live, Present, Queued, context}
 

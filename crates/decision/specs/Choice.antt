@@ -1,8 +1,8 @@
 -- Cleaning up after the scan, and the choice. Assumes nothing.
-use mathlib.Core.Bool.{Bool, true, false, not, _&&_, _||_}
-use mathlib.Core.List.{List, [], _∷_, _++_}
+use mathlib.Core.Bool.{Bool, not, _&&_, _||_}
+use mathlib.Core.List.{List, [], _∷_}
 use mathlib.Core.Option.{Option, none, some}
-use Prim.Native.Nat.{ℕ, _+_, _-_}
+use Prim.Native.Nat.{ℕ, _-_}
 use lib.Dec.{ltb, leb, eqb}
 use lib.ListN.{length}
 use Rattle.columns.specs.Common.{if_then_else_, fold}
@@ -10,11 +10,10 @@ use Rattle.context.specs.declared.Context.{Context}
 use Rattle.run_queue.specs.declared.Key.{Key}
 use Rattle.run_queue.specs.declared.Entry.{Entry}
 use Rattle.run_queue.specs.Queue.{queue-remove}
-use Rattle.percpu.specs.Cpu.{Cpu}
 use Rattle.percpu.specs.With.{cpu-queue, cpu-total-weight, cpu-queue-len, cpu-published-weight, cpu-v}
 use Rattle.machine.specs.Machine.{context-at}
 use Rattle.decision.specs.State.{State, at, put-context, on-cpu, remove-key, queue-key, without-key, holder, prev-runnable}
-use Rattle.decision.specs.Scan.{Scan, scan}
+use Rattle.decision.specs.Scan.{Scan}
 
 -- a queue without the keys that the scan gave up
 abbrev pub without-keys : List Entry → List Key → List Entry

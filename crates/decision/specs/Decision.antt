@@ -1,22 +1,19 @@
 -- `schedule` and the calls that decide: `tick`, `switch` and `direct_switch_to`. Assumes nothing.
-use mathlib.Core.Bool.{Bool, true, false, not, _&&_, _||_}
-use mathlib.Core.List.{List, [], _∷_}
+use mathlib.Core.Bool.{Bool, false, _&&_}
+use mathlib.Core.List.{List, _∷_}
 use mathlib.Core.Option.{Option, none, some}
 use Prim.Native.Nat.{ℕ, _+_}
 use lib.Dec.{ltb, eqb}
 use lib.ListN.{set}
 use Rattle.columns.specs.Common.{if_then_else_}
-use Rattle.context.specs.declared.Context.{Context}
 use Rattle.cpu_stats.specs.declared.CpuState.the-variants.{Idle}
 use Rattle.cpu_stats.specs.With.{stats-state}
 use Rattle.ticks.specs.Ticks.{ticks}
-use Rattle.runnable.specs.declared.UpdateResult.{UpdateResult}
-use Rattle.runnable.specs.declared.UpdateResult.the-variants.{CanSwitch, Skip, Blocked}
 use Rattle.runnable.specs.Runnable.{update-runnable}
 use Rattle.percpu.specs.Cpu.{Cpu}
 use Rattle.percpu.specs.With.{cpu-pit-ticks, cpu-stats}
 use Rattle.machine.specs.Machine.{Machine}
-use Rattle.decision.specs.State.{State, at, put-context, on-cpu, state-of, is-some, is-idle, prev-runnable}
+use Rattle.decision.specs.State.{State, at, on-cpu, state-of, is-some, prev-runnable}
 use Rattle.decision.specs.Charging.{elapsed, was-idle, before-choice}
 use Rattle.decision.specs.Scan.{Scan, scan}
 use Rattle.decision.specs.Choice.{Choice, choice, chosen, ineligible-holder}

@@ -1,7 +1,7 @@
 -- Demand 3: what a decision on a tidy machine leaves, in document 01's words. Assumes nothing.
 use mathlib.Core.Path.{_≡_}
 use mathlib.Core.Logic.{_≢_, _⊎_, _↔_}
-use mathlib.Core.Bool.{Bool, true, false, _||_}
+use mathlib.Core.Bool.{true, false, _||_}
 use Prim.Native.Nat.{ℕ, _+_, _-_, _/_, _<_, _≤_}
 use lib.Dec.{eqb}
 use Rattle.columns.specs.Common.{if_then_else_, In}

@@ -2,10 +2,9 @@
 use mathlib.Core.Bool.{Bool, true, false, not, _&&_, _||_}
 use mathlib.Core.List.{List, [], _∷_, _++_}
 use mathlib.Core.Option.{Option, none, some}
-use Prim.Native.Nat.{ℕ, _+_}
+use Prim.Native.Nat.{ℕ}
 use lib.Dec.{ltb, eqb}
-use lib.ListN.{length, getD, set}
-use Rattle.columns.specs.Common.{if_then_else_}
+use lib.ListN.{length, set}
 use Rattle.context.specs.declared.Context.{Context}
 use Rattle.context.specs.Status.{is-runnable}
 use Rattle.context.specs.With.{with-has-queue-key, with-queue-key-vd, with-queue-key-rem-slice}

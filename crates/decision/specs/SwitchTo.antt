@@ -16,7 +16,6 @@ use Rattle.context.specs.With.{
   with-sched-cpu-time,
   with-inside-syscall,
 }
-use Rattle.cpu_stats.specs.declared.CpuState.{CpuState}
 use Rattle.cpu_stats.specs.declared.CpuState.the-variants.{Kernel, User}
 use Rattle.cpu_stats.specs.With.{stats-state}
 use Rattle.weights.specs.Weights.{weight}

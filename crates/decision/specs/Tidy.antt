@@ -11,7 +11,6 @@ use Rattle.context.specs.Status.{is-runnable}
 use Rattle.run_queue.specs.declared.Entry.{Entry}
 use Rattle.run_queue.specs.declared.Timer.{Timer}
 use Rattle.run_queue.specs.Order.{entry-before}
-use Rattle.percpu.specs.Cpu.{Cpu}
 use Rattle.machine.specs.Machine.{Machine, context-at, cpu-at}
 
 -- strictly rising in an order

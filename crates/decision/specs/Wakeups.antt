@@ -1,6 +1,6 @@
 -- Wake-ups: due timers and the local list. Assumes nothing.
-use mathlib.Core.Bool.{Bool, true, false, not, _&&_, _||_}
-use mathlib.Core.List.{List, [], _∷_, _++_, map}
+use mathlib.Core.Bool.{Bool, true, not, _&&_, _||_}
+use mathlib.Core.List.{List, [], _++_, map}
 use mathlib.Core.Option.{Option, none, some}
 use Prim.Native.Nat.{ℕ, _+_, max}
 use lib.Dec.{leb, eqb}
@@ -15,18 +15,7 @@ use Rattle.run_queue.specs.declared.Timer.{Timer}
 use Rattle.run_queue.specs.Queue.{queue-remove}
 use Rattle.percpu.specs.Cpu.{Cpu}
 use Rattle.percpu.specs.With.{cpu-total-weight, cpu-published-weight, cpu-timers, cpu-local-wakeup-list, cpu-queue}
-use Rattle.decision.specs.State.{
-  State,
-  at,
-  put-context,
-  on-cpu,
-  insert-entry,
-  insert-timer,
-  push-local,
-  queue-key,
-  new-key,
-  with-new-key,
-}
+use Rattle.decision.specs.State.{State, at, put-context, on-cpu, insert-entry, insert-timer, push-local, queue-key, new-key, with-new-key}
 
 -- a wake-up: the context, and the wake of its timer if a timer gave it
 pub record Wakeup : Type 0 where

@@ -1,21 +1,20 @@
 -- The condition of demand 3 is needed: without it a decision on a tidy machine leaves an untidy one.
 use mathlib.Core.Path.{_≡_, refl, subst, sym, ap, _∙_}
-use mathlib.Core.Bool.{Bool, true, false}
-use mathlib.Core.List.{List, [], _∷_}
+use mathlib.Core.Bool.{true, false}
+use mathlib.Core.List.{[]}
 use mathlib.Core.Logic.{_⊎_, inl, inr, _≢_}
-use Prim.Native.Nat.{ℕ, zero, suc, _<_}
+use Prim.Native.Nat.{ℕ, zero, suc}
 use native.Mathlib.Omega.{arith}
-use lib.ListN.{length}
 use Rattle.columns.specs.Common.{In}
 use Rattle.run_queue.specs.declared.Entry.{Entry}
 use Rattle.run_queue.specs.declared.Timer.{Timer}
-use Rattle.machine.specs.Machine.{Machine, cpu-at}
+use Rattle.machine.specs.Machine.{cpu-at}
 use Rattle.decision.specs.Opened.{opened}
 use Rattle.decision_cases.specs.Starred.{idler, worker, queued, start}
 use Rattle.decision_cases.specs.Stray.{stray}
 use Rattle.decision.specs.Decision.{switch}
 use Rattle.decision.specs.Tidy.{Sound, Tidy, Agrees, Queued, InCharge, Present, Live, IsContext, context}
-use Rattle.decision.specs.Accepted.{Accepted, by-switch, Served, by-name, ServesOwn}
+use Rattle.decision.specs.Accepted.{Accepted, by-switch, by-name, ServesOwn}
 use Rattle.decision.proofs.Cases.{never}
 
 here : (i : ℕ) → Present stray i → (i ≡ 0) ⊎ (i ≡ 1)

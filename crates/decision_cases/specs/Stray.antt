@@ -1,7 +1,6 @@
 -- A tidy machine that shows why demand 3 has its condition: a context queued on CPU 1 is named by CPU 0's local list. Assumes nothing.
 use mathlib.Core.Path.{_≡_, refl}
-use mathlib.Core.List.{List, [], _∷_}
-use Prim.Native.Nat.{ℕ}
+use mathlib.Core.List.{[], _∷_}
 use Rattle.context.specs.With.{with-debug-id}
 use Rattle.percpu.specs.With.{cpu-queue, cpu-local-wakeup-list, cpu-idle-ctxt, cpu-current-ctxt, cpu-sched-ctxt, cpu-total-weight, cpu-queue-len}
 use Rattle.machine.specs.Machine.{Machine, cpu-at}
