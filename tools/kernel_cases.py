@@ -1,12 +1,14 @@
 #!/usr/bin/env python3
-"""Cases of the kernel's own run as one antt file.
+"""Calls of the kernel's own run as one antt file.
 
-usage: kernel_cases.py CASES > crates/decision_cases/specs/KernelCases.antt
+usage: kernel_cases.py LIST.. > crates/decision_cases/specs/KernelCases.antt
 
-A line of CASES is `op cpu time ctx | idx:value .. | refusal result interrupt | idx:newvalue ..`:
-the call, the image's nonzero words, what was returned, and the words that changed.
-Accepted calls of operations 1 to 3 are taken.
+A list is text, a line for each call, `op cpu time ctx | idx:value .. | refusal result interrupt | idx:newvalue ..`,
+or words of 64 bits (name ending in .bin), as harness/recorded describes them. Calls of operations 1 to 3 are taken
+that were accepted or found no room, from a .bin list only those on small machines that found no room or that differ
+in kind from what was taken before.
 """
+import struct
 import sys
 
 HEAD = '''-- Calls of the kernel's own run: words before, result, words after. Written by tools/kernel_cases.py. Assumes nothing.
@@ -28,8 +30,30 @@ every-case-passes = refl
 '''
 
 
-def words(text):
-    return [tuple(map(int, w.split(':'))) for w in text.split()]
+def from_text(name):
+    for line in open(name):
+        line = line.strip()
+        if line and not line.startswith('#'):
+            call, image, answer, changed = [p.strip() for p in line.split('|')]
+            pairs = lambda text: [tuple(map(int, w.split(':'))) for w in text.split()]
+            words = dict(pairs(image))
+            yield tuple(map(int, call.split())), size_of(words), words, tuple(map(int, answer.split())), dict(pairs(changed))
+
+
+def from_words(name):
+    data = open(name, 'rb').read()
+    words = iter(struct.unpack(f'<{len(data) // 8}Q', data))
+    pairs = lambda: {next(words): next(words) for _ in range(next(words))}
+    for _ in range(next(words)):
+        call = tuple(next(words) for _ in range(4))
+        size = next(words)
+        image = pairs()
+        answer = tuple(next(words) for _ in range(3))
+        yield call, size, image, answer, pairs()
+
+
+def size_of(words):
+    return 2 + 26 * words.get(1, 0) + 665 * words.get(0, 0)
 
 
 def sparse(words, size):
@@ -41,25 +65,27 @@ def sparse(words, size):
     return ' ∷ '.join(map(str, out + [size - at])) + ' ∷ []'
 
 
+def show(call, size, before, answer, changed):
+    op, cpu, time, ctx = call
+    after = {**before, **changed}
+    return (f'    record {{ op = {op}; cpu = {cpu}; time = {time}; ctx = {ctx}; full = {"true" if answer[0] else "false"}; '
+            f'result = {answer[1]}; before = {sparse(before, size)};\n      after = {sparse(after, size)} }} ∷\n')
+
+
 def main():
-    out = []
-    for line in open(sys.argv[1]):
-        line = line.strip()
-        if not line or line.startswith('#'):
-            continue
-        call, image, answer, changed = [p.strip() for p in line.split('|')]
-        op, cpu, time, ctx = map(int, call.split())
-        refusal, result, interrupt = map(int, answer.split())
-        if op > 3 or refusal:
-            continue
-        before = dict(words(image))
-        after = dict(before)
-        after.update(words(changed))
-        size = 2 + 26 * before[1] + 665 * before[0]
-        out.append(
-            f'    record {{ op = {op}; cpu = {cpu}; time = {time}; ctx = {ctx}; result = {result};\n'
-            f'      before = {sparse(before, size)};\n'
-            f'      after = {sparse(after, size)} }} ∷\n')
+    out, every = [], '--every' in sys.argv
+    for name in (a for a in sys.argv[1:] if a != '--every'):
+        kinds = set()
+        for case in (from_words if name.endswith('.bin') else from_text)(name):
+            call, size, before, answer, changed = case
+            if call[0] not in (1, 2, 3) or answer[0] not in (0, 9):
+                continue
+            kind = (call[0], answer, before[0], len(changed))
+            if name.endswith('.bin') and not every:
+                if len(before) > 90 and not answer[0] or kind in kinds or len(out) >= 72:
+                    continue
+            kinds.add(kind)
+            out.append(show(*case))
     sys.stdout.write(HEAD + ''.join(out) + TAIL)
 
 

@@ -14,6 +14,8 @@ pub record KernelCase : Type 0 where
   pub cpu : ℕ
   pub time : ℕ
   pub ctx : ℕ
+  -- the call found no room, refusal 9
+  pub full : Bool
   pub result : ℕ
   pub before : List ℕ
   pub after : List ℕ
@@ -40,13 +42,13 @@ replay c M =
     if eqb (c .op) 1 then tick (c .cpu) (c .time) M else
     if eqb (c .op) 2 then switch (c .cpu) (c .time) M else direct-switch-to (c .cpu) (c .time) (c .ctx) M
 
--- the words come back, the call gives the result and finds room, and leaves the words that the kernel left
+-- the words come back, and the call finds no room, or gives the result and leaves the words that the kernel left
 unfoldable pub passes : KernelCase → Bool
 passes c =
     let words = sparse (c .before) in
     let o = replay c (decode words) in
-    same-words (encode (decode words)) words && eqb (o .result) (c .result) && not (o .no-room) && not (o .interrupt)
-    && same-words (encode (o .machine)) (sparse (c .after))
+    same-words (encode (decode words)) words
+    && (if c .full then o .no-room else eqb (o .result) (c .result) && not (o .no-room) && not (o .interrupt) && same-words (encode (o .machine)) (sparse (c .after)))
 
 unfoldable pub every-passes : List KernelCase → Bool
 every-passes [] = true
