@@ -24,7 +24,9 @@ use Rattle.decision.proofs.Woken.{Waking}
 use Rattle.decision.proofs.Charged.{before-waking}
 use Rattle.decision.proofs.Chosen.{Follows, choice-follows}
 use Rattle.decision.proofs.Dequeued.{AfterChoice, chosen-state, after-choice}
-use Rattle.decision.proofs.Stolen.{present-in-range, Kept, Theft, nothing, robbed, theft, theft-kept}
+use Rattle.decision.proofs.CpuQueues.{present-in-range}
+use Rattle.decision.proofs.Theft.{Kept, Theft, nothing, robbed}
+use Rattle.decision.proofs.Stolen.{theft, theft-kept}
 use Rattle.decision.proofs.Settled.{successor, Settled, settles}
 use Rattle.decision.proofs.Ended.{Finished, finished-none, finished-some}
 use Rattle.decision.proofs.TidyAfter.{Ending}

@@ -4,36 +4,35 @@ use mathlib.Core.Bool.{Bool, true, false}
 use mathlib.Core.List.{List, [], _∷_}
 use mathlib.Core.Option.{some}
 use mathlib.Core.Logic.{_⊎_, inl, inr, _≢_}
-use Prim.Native.Nat.{ℕ, _<_}
+use Prim.Native.Nat.{ℕ}
 use lib.Dec.{eqb}
-use lib.ListN.{length, set, length-set}
-use lib.Seq.{set-set, getD-set-same}
-use borrow.Author.Tests.{eqb-true, eqb-false, eq-eqb, ne-eqb}
+use lib.ListN.{set, length-set}
+use lib.Seq.{set-set}
+use borrow.Author.Tests.{eqb-true, eqb-false}
 use Rattle.columns.specs.Common.{fold}
 use Rattle.context.specs.declared.Context.{Context}
 use Rattle.run_queue.specs.declared.Entry.{Entry}
 use Rattle.run_queue.specs.Order.{entry-before}
 use Rattle.run_queue.specs.Queue.{queue-insert, queue-remove}
-use Rattle.machine.specs.Machine.{context-at, no-context}
+use Rattle.machine.specs.Machine.{context-at}
 use Rattle.decision.specs.State.{at, with-new-key}
 use Rattle.decision.specs.Wakeups.{entry-of}
-use Rattle.decision.specs.Steal.{Moving, moved, first-wins, move-entry}
+use Rattle.decision.specs.Steal.{give-up, Moving, moved, first-wins, move-entry}
 use Rattle.decision.proofs.Cases.{by-test, never, pick}
 use Rattle.decision.proofs.Lists.{All, In, all-at}
 use Rattle.decision.proofs.Sorted.{in-insert}
-use Rattle.decision.proofs.Queues.{Inv, inv-ext, fixed, set-view, on, Has, Without, gone-of}
-use Rattle.decision.proofs.Moves.{inv-take, now-out, was-in, still-in, inv-put, has-put, has-new, put-cases}
+use Rattle.decision.proofs.Queues.{Inv, fixed, set-view, on, Has, gone-of}
+use Rattle.decision.proofs.Moves.{was-in, inv-put, has-put, has-new, put-cases}
 use Rattle.decision.proofs.Before.{seat}
 use Rattle.decision.proofs.Dequeued.{Winner}
 use Rattle.decision.proofs.Scanned.{Distinct}
 use Rattle.decision.proofs.Firsts.{some-some}
+use Rattle.decision.proofs.Leaving.{Left, leaves}
+use Rattle.percpu.specs.Cpu.{Cpu}
 
--- two CPUs' queues in either order
-pub on-swap : (k t : ℕ) (q v : List Entry) (R : ℕ → List Entry) → t ≢ k → (i : ℕ) → on k q (on t v R) i ≡ on t v (on k q R) i
-on-swap k t q v R n i =
-    by-test (eqb i k)
-    (λ a. rw (a, ne-eqb i t (λ z. n (sym z ∙ eqb-true i k a))))
-    (λ a. by-test (eqb i t) (λ b. rw (a, b)) (λ b. rw (a, b)))
+-- a stolen entry leaves the victim's queue
+given-up : (e : Entry) (v : Cpu) → (give-up e v) .queue ≡ queue-remove (e .key) (v .queue)
+given-up e v = refl
 
 module _ (F : ℕ → Type 0) (cs₀ : List Context) (k t : ℕ) (other : t ≢ k) (R : ℕ → List Entry) (runs : Bool) where
   abbrev pub all-queues : Moving → ℕ → List Entry
@@ -54,9 +53,6 @@ module _ (F : ℕ → Type 0) (cs₀ : List Context) (k t : ℕ) (other : t ≢ 
 
   module _ (a m : Moving) (all : List Entry) (e : Entry) (es : List Entry) (n : Moved a m all (e ∷ es)) (e-all : In e all)
       (live : (context-at cs₀ (e .«context_ref»)) .gone ≡ false) (apart : All (λ d. d .«context_ref» ≢ e .«context_ref») es) where
-    x : ℕ
-    x = e .«context_ref»
-
     abbrev c : Context
     c = moved (m .state .cpu .block .v) (m .victim .block .v) (e .weight) (at (m .state) (e .«context_ref»))
 
@@ -66,57 +62,11 @@ module _ (F : ℕ → Type 0) (cs₀ : List Context) (k t : ℕ) (other : t ≢ 
     abbrev left : List Entry
     left = queue-remove (e .key) (m .victim .queue)
 
-    swapped : Inv F cs₀ (m .state .contexts) (on t (m .victim .queue) (on k (m .state .cpu .queue) R))
-    swapped = inv-ext F cs₀ (m .state .contexts) (all-queues m) _ (λ i. sym (on-swap k t (m .state .cpu .queue) (m .victim .queue) R other i)) (n .inv)
-
-    e-in : In e (on t (m .victim .queue) (on k (m .state .cpu .queue) R) t)
-    e-in = rw (eq-eqb t t refl) (n .rest e (inl refl))
-
-    e-there : In e (all-queues m t)
-    e-there = rw (on-swap k t (m .state .cpu .queue) (m .victim .queue) R other t) e-in
-
-    r : e .«context_ref» < length (m .state .contexts)
-    r = swapped .range e t e-in
-
-    own : e .key .«ctxt_id» ≡ (context-at (m .state .contexts) (e .«context_ref»)) .«debug_id»
-    own = sym (swapped .id e t e-in)
-
-    only : (d : Entry) (i : ℕ) → In d (on t (m .victim .queue) (on k (m .state .cpu .queue) R) i) → d .«context_ref» ≡ e .«context_ref»
-        → (d .key ≡ e .key) × (i ≡ t)
-    only d i g z = let (p, q) = swapped .one d e i t g e-in z in (ap (λ (b : Entry). b .key) p, q)
-
-    back : (i : ℕ) → on k (m .state .cpu .queue) (on t left R) i ≡ on t left (on k (m .state .cpu .queue) R) i
-    back i = on-swap k t (m .state .cpu .queue) left R other i
-
-    taken : Inv F cs₀ ds (on k (m .state .cpu .queue) (on t left R))
-    taken =
-        inv-ext F cs₀ ds _ _ back
-        (inv-take F cs₀ (m .state .contexts) t (m .victim .queue) (on k (m .state .cpu .queue) R) swapped (e .«context_ref») (e .key) r own only c refl (λ z. refl))
-
-    out : Without (e .«context_ref») (on k (m .state .cpu .queue) (on t left R))
-    out d i g =
-        now-out F cs₀ (m .state .contexts) t (m .victim .queue) (on k (m .state .cpu .queue) R) swapped (e .«context_ref») (e .key) r own only d i (rw (back i) at g)
-
-    subset : (d : Entry) (i : ℕ) → In d (on k (m .state .cpu .queue) (on t left R) i) → In d (all-queues m i)
-    subset d i g =
-        rw (on-swap k t (m .state .cpu .queue) (m .victim .queue) R other i)
-        (was-in F cs₀ (m .state .contexts) t (m .victim .queue) (on k (m .state .cpu .queue) R) swapped (e .«context_ref») (e .key) r own only d i (rw (back i) at g))
-
-    has-left : (y : ℕ) → y ≢ e .«context_ref» → Has y (all-queues m) → Has y (on k (m .state .cpu .queue) (on t left R))
-    has-left y z (d, i, g, p) =
-        (d, i, rw (back i) (still-in F cs₀ (m .state .contexts) t (m .victim .queue) (on k (m .state .cpu .queue) R) swapped (e .«context_ref») (e .key) r own only d i (rw (on-swap k t (m .state .cpu .queue) (m .victim .queue) R other i) at g) (λ w. z (sym p ∙ w))), p)
+    gone-there : Left F cs₀ (m .state .contexts) k t other (m .state .cpu .queue) (m .victim .queue) R e c
+    gone-there = leaves F cs₀ (m .state .contexts) k t other (m .state .cpu .queue) (m .victim .queue) R e c (n .inv) (n .rest e (inl refl)) refl refl
 
     rest-left : (d : Entry) → In d es → In d left
-    rest-left d i =
-        rw (eq-eqb t t refl) at
-        (still-in F cs₀ (m .state .contexts) t (m .victim .queue) (on k (m .state .cpu .queue) R) swapped (e .«context_ref») (e .key) r own only d t
-        (rw (eq-eqb t t refl) (n .rest d (inr i))) (all-at _ es apart d i))
-
-    r₁ : e .«context_ref» < length ds
-    r₁ = rw (length-set (m .state .contexts) (e .«context_ref») c) r
-
-    is-c : context-at ds (e .«context_ref») ≡ c
-    is-c = getD-set-same (m .state .contexts) (e .«context_ref») c no-context r
+    rest-left d i = gone-there .still d (n .rest d (inr i)) (all-at _ es apart d i)
 
     status-set : (d : Context) → d .status ≡ (at (m .state) (e .«context_ref»)) .status → (y : ℕ)
         → (context-at (set (m .state .contexts) (e .«context_ref») d) y) .status ≡ (at (a .state) y) .status
@@ -128,7 +78,7 @@ module _ (F : ℕ → Type 0) (cs₀ : List Context) (k t : ℕ) (other : t ≢ 
         → m′ .state .cpu .block .v ≡ m .state .cpu .block .v → Moved a m′ all es
     first t₁ m′ e₁ e₂ e₃ e₄ e₅ e₆ e₇ =
         record {
-          inv = rw (e₁, e₂, e₃) taken;
+          inv = rw (e₁, e₂, e₃) (gone-there .inv);
           rest = λ d i. rw e₃ (rest-left d i);
           winner = λ y z. subst (λ w. Winner F cs₀ k R w (m′ .state .contexts) (all-queues m′)) (some-some (sym e₄ ∙ z)) won;
           keeps = λ y z. never {b = false} (rw (n .keeps y z) at t₁) refl;
@@ -143,19 +93,19 @@ module _ (F : ℕ → Type 0) (cs₀ : List Context) (k t : ℕ) (other : t ≢ 
         won : Winner F cs₀ k R (e .«context_ref») (m′ .state .contexts) (all-queues m′)
         won =
             rw (e₁, e₂, e₃)
-            (record { range = r₁; live = gone-of (taken .same (e .«context_ref»)) ∙ live; out = out; free = n .inv .free e t e-there })
+            (record { range = gone-there .range; live = gone-of (gone-there .inv .same (e .«context_ref»)) ∙ live; out = gone-there .out; free = n .inv .free e t (gone-there .was-in) })
 
         stays : (y : ℕ) → Has y (all-queues m) ⊎ (m .winner ≡ some y) → Has y (all-queues m′) ⊎ (m′ .winner ≡ some y)
         stays y (inl h) =
             by-test (eqb y (e .«context_ref»)) (λ z. inr (e₄ ∙ ap some (sym (eqb-true y (e .«context_ref») z))))
-            (λ z. inl (rw (e₂, e₃) (has-left y (eqb-false y (e .«context_ref») z) h)))
+            (λ z. inl (rw (e₂, e₃) (gone-there .has y (eqb-false y (e .«context_ref») z) h)))
         stays y (inr z) = never {b = false} (rw z at t₁) refl
 
     abbrev entry : Entry
     entry = entry-of (e .«context_ref») (e .weight) c
 
     own₁ : entry .key .«ctxt_id» ≡ (context-at ds (e .«context_ref»)) .«debug_id»
-    own₁ = sym (ap (λ (b : Context). b .«debug_id») is-c)
+    own₁ = sym (ap (λ (b : Context). b .«debug_id») (gone-there .is-c))
 
     -- it is queued here
     queued : (m′ : Moving) → m′ .state .contexts ≡ set (m .state .contexts) (e .«context_ref») (with-new-key c)
@@ -176,15 +126,12 @@ module _ (F : ℕ → Type 0) (cs₀ : List Context) (k t : ℕ) (other : t ≢ 
           here = λ d i. came d (in-insert entry-before entry d (m .state .cpu .queue) (rw e₂ at i));
         }
       where
-        ds₁ : List Context
-        ds₁ = set (m .state .contexts) (e .«context_ref») (with-new-key c)
-
         put : Inv F cs₀ (set (m .state .contexts) (e .«context_ref») (with-new-key c)) (on k (queue-insert entry (m .state .cpu .queue)) (on t left R))
         put =
             subst (λ l. Inv F cs₀ l (on k (queue-insert entry (m .state .cpu .queue)) (on t left R))) (set-set (m .state .contexts) (e .«context_ref») c (with-new-key c))
-            (inv-put F cs₀ ds k (m .state .cpu .queue) (on t left R) taken (e .«context_ref») entry r₁ own₁ refl out (with-new-key c)
-            (subst (λ b. fixed (with-new-key c) ≡ fixed b) (sym is-c) refl)
-            (record { has-key = refl; key-vd = refl; key-rem-slice = refl; vd = refl; rem-slice = refl; vtime = refl }) (n .inv .free e t e-there))
+            (inv-put F cs₀ ds k (m .state .cpu .queue) (on t left R) (gone-there .inv) (e .«context_ref») entry (gone-there .range) own₁ refl (gone-there .out) (with-new-key c)
+            (subst (λ b. fixed (with-new-key c) ≡ fixed b) (sym (gone-there .is-c)) refl)
+            (record { has-key = refl; key-vd = refl; key-rem-slice = refl; vd = refl; rem-slice = refl; vtime = refl }) (n .inv .free e t (gone-there .was-in)))
 
         still : (y : ℕ) → Winner F cs₀ k R y (m .state .contexts) (all-queues m)
             → Winner F cs₀ k R y (set (m .state .contexts) (e .«context_ref») (with-new-key c)) (on k (queue-insert entry (m .state .cpu .queue)) (on t left R))
@@ -192,21 +139,21 @@ module _ (F : ℕ → Type 0) (cs₀ : List Context) (k t : ℕ) (other : t ≢ 
             record {
               range = rw (length-set (m .state .contexts) (e .«context_ref») (with-new-key c)) (w .range);
               live = gone-of (put .same y ∙ sym (n .inv .same y)) ∙ w .live;
-              out = λ d i g. gone d i (put-cases F cs₀ ds k (m .state .cpu .queue) (on t left R) taken (e .«context_ref») entry r₁ own₁ refl out d i g);
+              out = λ d i g. gone d i (put-cases F cs₀ ds k (m .state .cpu .queue) (on t left R) (gone-there .inv) (e .«context_ref») entry (gone-there .range) own₁ refl (gone-there .out) d i g);
               free = w .free;
             }
           where
             gone : (d : Entry) (i : ℕ) → ((d ≡ entry) × (i ≡ k)) ⊎ In d (on k (m .state .cpu .queue) (on t left R) i) → d .«context_ref» ≢ y
-            gone d i (inl (p, z)) u = w .out e t e-there (sym (ap (λ (b : Entry). b .«context_ref») p) ∙ u)
-            gone d i (inr g) u = w .out d i (subset d i g) u
+            gone d i (inl (p, z)) u = w .out e t (gone-there .was-in) (sym (ap (λ (b : Entry). b .«context_ref») p) ∙ u)
+            gone d i (inr g) u = w .out d i (gone-there .subset d i g) u
 
         stays : (y : ℕ) → Has y (all-queues m) ⊎ (m .winner ≡ some y) → Has y (on k (queue-insert entry (m .state .cpu .queue)) (on t left R)) ⊎ (m .winner ≡ some y)
         stays y (inl h) =
             by-test (eqb y (e .«context_ref»))
             (λ z. inl (subst (λ w. Has w (on k (queue-insert entry (m .state .cpu .queue)) (on t left R))) (sym (eqb-true y (e .«context_ref») z))
-            (has-new F cs₀ ds k (m .state .cpu .queue) (on t left R) taken (e .«context_ref») entry r₁ own₁ refl out)))
-            (λ z. inl (has-put F cs₀ ds k (m .state .cpu .queue) (on t left R) taken (e .«context_ref») entry r₁ own₁ refl out y
-            (has-left y (eqb-false y (e .«context_ref») z) h)))
+            (has-new F cs₀ ds k (m .state .cpu .queue) (on t left R) (gone-there .inv) (e .«context_ref») entry (gone-there .range) own₁ refl (gone-there .out))))
+            (λ z. inl (has-put F cs₀ ds k (m .state .cpu .queue) (on t left R) (gone-there .inv) (e .«context_ref») entry (gone-there .range) own₁ refl (gone-there .out) y
+            (gone-there .has y (eqb-false y (e .«context_ref») z) h)))
         stays y (inr z) = inr z
 
         came : (d : Entry) → (d ≡ entry) ⊎ In d (m .state .cpu .queue)
@@ -217,8 +164,8 @@ module _ (F : ℕ → Type 0) (cs₀ : List Context) (k t : ℕ) (other : t ≢ 
     pub move-moved : Moved a (move-entry runs m e) all es
     unfolding move-entry
     move-moved =
-        pick (λ (z : Moving). Moved a z all es) (first-wins runs (m .winner)) (λ u. first u _ refl refl refl refl refl refl refl)
-        (λ u. queued _ refl refl refl refl refl refl refl)
+        pick (λ (z : Moving). Moved a z all es) (first-wins runs (m .winner)) (λ u. first u _ refl refl (given-up e (m .victim)) refl refl refl refl)
+        (λ u. queued _ refl refl (given-up e (m .victim)) refl refl refl refl)
 
   -- the whole lot
   pub lot-moved : (a m : Moving) (all es : List Entry) → ((d : Entry) → In d es → In d all) → ((d : Entry) → In d es → (context-at cs₀ (d .«context_ref»)) .gone ≡ false)

@@ -29,7 +29,7 @@ use Rattle.decision.specs.Demand3.{
 use Rattle.decision.proofs.Cases.{never}
 use Rattle.decision.proofs.Lists.{In}
 use Rattle.decision.proofs.Before.{queues, Free}
-use Rattle.decision.proofs.WokenAll.{woken-entry}
+use Rattle.decision.proofs.WokenHere.{woken-entry}
 use Rattle.decision.proofs.Chosen.{
   is-waiting,
   is-on-time,
@@ -47,8 +47,10 @@ use Rattle.decision.proofs.Scanned.{least}
 use Rattle.decision.proofs.Firsts.{IsFirst, IsLeast, least-is, least-none}
 use Rattle.decision.proofs.ReadyIs.{waits-ready, runs-holder, holder-runs, prev-eligible, least-key, first-least, vtime-is, vd-is}
 use Rattle.decision.proofs.Assembled.{scheduled-machine, J, waking, chose, follows}
-use Rattle.decision.proofs.Outcomes.{tidied, v-after, nobody-lost}
-use Rattle.decision.proofs.Demanded.{won, stayed, ready-of, v-is, eligible, alone, none-waits, stolen-first, idle-left, idle-only}
+use Rattle.decision.proofs.Outcomes.{tidied, v-after}
+use Rattle.decision.proofs.NobodyLost.{nobody-lost}
+use Rattle.decision.proofs.Contested.{won, stayed, ready-of, v-is, eligible, alone, none-waits}
+use Rattle.decision.proofs.IdleLeft.{stolen-first, idle-left, idle-only}
 
 -- among those that pass, if any does, one is the first of the least vtime
 least-exists : (p : Entry → Bool) (q : List Entry) → Rattle.decision.proofs.Sorted.Sorted Rattle.run_queue.specs.Order.entry-before q → (f : Entry) → In f q → p f ≡ true

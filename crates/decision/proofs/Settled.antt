@@ -27,7 +27,7 @@ use Rattle.decision.proofs.Queues.{Inv, inv-free, set-view, gone-of, on
 use Rattle.decision.proofs.Moves.{no-key, inv-put, has-put, has-new}
 use Rattle.decision.proofs.Before.{Seat, seat, queues, Free}
 use Rattle.decision.proofs.Dequeued.{Winner}
-use Rattle.decision.proofs.Stolen.{queue-list}
+use Rattle.decision.proofs.CpuQueues.{queue-list}
 
 module _ (k : ℕ) (M : Machine) where
   -- idle nowhere, and in charge nowhere once c is in charge here

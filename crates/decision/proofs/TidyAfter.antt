@@ -17,7 +17,7 @@ use Rattle.decision.proofs.Cases.{by-test, never}
 use Rattle.decision.proofs.Lists.{In}
 use Rattle.decision.proofs.Queues.{Fixed, Inv, on, agrees-run}
 use Rattle.decision.proofs.Before.{Seat, seat, queues}
-use Rattle.decision.proofs.Stolen.{queue-list}
+use Rattle.decision.proofs.CpuQueues.{queue-list}
 use Rattle.decision.proofs.Settled.{Fit}
 use Rattle.decision.proofs.Ended.{Lasting, lasting, Standing, standing, Finished}
 

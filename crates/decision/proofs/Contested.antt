@@ -1,23 +1,17 @@
--- Demand 3 of a call that runs `schedule`.
-use mathlib.Core.Path.{_≡_, refl, sym, ap, _∙_}
-use mathlib.Core.Bool.{Bool, true, false}
-use mathlib.Core.Option.{Option, none, some}
-use mathlib.Core.Logic.{_⊎_, inl, inr}
+-- Who is in charge where somebody waits, and where nobody does before the stealing.
+use mathlib.Core.Path.{_≡_, _∙_}
+use mathlib.Core.Bool.{true, false}
+use mathlib.Core.Option.{none, some}
 use Prim.Native.Nat.{ℕ, _<_, _≤_}
 use native.Mathlib.Omega.{arith}
 use Rattle.run_queue.specs.declared.Entry.{Entry}
-use Rattle.run_queue.specs.Order.{before, entry-before}
 use Rattle.machine.specs.Machine.{Machine, cpu-at}
 use Rattle.decision.specs.State.{State, holder, prev-runnable}
 use Rattle.decision.specs.Choice.{prev-is-eligible}
-use Rattle.decision.specs.Steal.{Stealing, first-wins}
 use Rattle.decision.specs.Tidy.{Sound, Tidy, Present}
 use Rattle.decision.specs.Accepted.{ServesOwn}
-use Rattle.decision.specs.Demand3.{Ready, Eligible, HolderEligible, NobodyWaits, in-charge, Stole, FirstStolen, StoleNothing, Contest}
+use Rattle.decision.specs.Demand3.{Ready, Eligible, HolderEligible, NobodyWaits, in-charge, Contest}
 use Rattle.decision.proofs.Cases.{never, and-both}
-use Rattle.decision.proofs.Lists.{In, all-at}
-use Rattle.decision.proofs.Stolen.{Theft, nothing, robbed}
-use Rattle.decision.proofs.Settled.{successor}
 use Rattle.decision.proofs.Chosen.{
   is-waiting,
   is-on-time,
@@ -29,7 +23,6 @@ use Rattle.decision.proofs.Chosen.{
   holder-by-deadline,
   entry-least,
   nobody-waits,
-  sorted,
 }
 use Rattle.decision.proofs.Firsts.{IsFirst, some-none}
 use Rattle.decision.proofs.ReadyIs.{
@@ -44,8 +37,8 @@ use Rattle.decision.proofs.ReadyIs.{
   least-key,
   vtime-is,
 }
-use Rattle.decision.proofs.Assembled.{scheduled-machine, J, waking, chose, C, runs, locked, l, stole, kept, awake, c, follows, chosen-in-charge, holder-in-charge}
-use Rattle.decision.proofs.Outcomes.{charge-is, nothing-stolen, of-the-lot}
+use Rattle.decision.proofs.Assembled.{scheduled-machine, J, waking, chose, follows, chosen-in-charge, holder-in-charge}
+use Rattle.decision.proofs.Outcomes.{charge-is}
 
 module _ (k time : ℕ) (M : Machine) (S : Sound M) (T : Tidy M) (P : Present M k) (own : ServesOwn k time M) where
   abbrev pub M′ : Machine
@@ -151,7 +144,7 @@ module _ (k time : ℕ) (M : Machine) (S : Sound M) (T : Tidy M) (P : Present M 
           }
 
   -- where nobody waits nobody won before the stealing, and no holder runs
-  waits-none : NobodyWaits k time M → ((chose k time M S T P own) .winner ≡ none) × (prev-runnable here ≡ false)
+  pub waits-none : NobodyWaits k time M → ((chose k time M S T P own) .winner ≡ none) × (prev-runnable here ≡ false)
   waits-none a = go (follows k time M S T P own)
     where
       not-running : prev-runnable here ≡ true → ⊥
@@ -165,86 +158,3 @@ module _ (k time : ℕ) (M : Machine) (S : Sound M) (T : Tidy M) (P : Present M 
       go (holder-by-deadline i t e g l′ b z v) = absurd (not-running t)
       go (entry-least i e g l′ z v) = absurd (a .entries e (waits-ready k time M S T (waking k time M S T P own) e (g .is-in) (g .passes)))
       go (nobody-waits i t z v) = (z, t)
-
-  -- with nobody else the first stolen wins, and idle is in charge if there is none
-  pub stolen-first : NobodyWaits k time M → (x : ℕ) → Stole k time M M′ x → (y : ℕ) × FirstStolen k time M M′ y × (in-charge k time M M′ ≡ y)
-  stolen-first a x y = go (stole k time M S T P own)
-    where
-      none-chosen : (chose k time M S T P own) .winner ≡ none
-      none-chosen = (waits-none a) .0
-
-      fw : first-wins (runs k time M S T P own) ((chose k time M S T P own) .winner) ≡ true
-      fw = rw (none-chosen, (waits-none a) .1)
-
-      go : Theft k M (runs k time M S T P own) (locked k time M S T P own) ((chose k time M S T P own) .winner) (C k time M S T P own) (l k time M S T P own)
-          → (z : ℕ) × FirstStolen k time M M′ z × (in-charge k time M M′ ≡ z)
-      go (nothing p) = absurd (nothing-stolen k time M S T P own x y p)
-      go (robbed d t e es b) = (
-        e .«context_ref»,
-        record {
-          stolen = record {
-            entry = e;
-            cpu = t;
-            was-queued = record { present = b .present; is-in = b .from e (inl refl) };
-            elsewhere = b .other;
-            of = refl;
-            is-here = inr charged;
-          };
-          first = λ z s. let (i, q) = of-the-lot k time M S T P own z s t e es b (b .first fw) in order z s q i;
-        },
-        charged,
-      )
-        where
-          charged : in-charge k time M M′ ≡ e .«context_ref»
-          charged = charge-is k time M S T P own ∙ ap (successor k M (runs k time M S T P own)) (b .first fw)
-
-          order : (z : ℕ) (s : Stole k time M M′ z) → s .cpu ≡ t → (s .entry ≡ e) ⊎ In (s .entry) es
-              → (z ≡ e .«context_ref») ⊎ ((s .cpu ≡ t) × (before (e .key) (s .entry .key) ≡ true))
-          order z s q (inl p) = inl (sym (s .of) ∙ ap (λ (g : Entry). g .«context_ref») p)
-          order z s q (inr i) = inr (q, all-at (λ g. entry-before e g ≡ true) es (b .sorted .0) (s .entry) i)
-
-  pub idle-left : NobodyWaits k time M → StoleNothing k time M M′ → in-charge k time M M′ ≡ idle
-  idle-left a nothing-taken = go (stole k time M S T P own)
-    where
-      go : Theft k M (runs k time M S T P own) (locked k time M S T P own) ((chose k time M S T P own) .winner) (C k time M S T P own) (l k time M S T P own)
-          → in-charge k time M M′ ≡ idle
-      go (nothing p) =
-          charge-is k time M S T P own
-          ∙ ap (successor k M (runs k time M S T P own)) (ap (λ (q : Stealing). q .winner) p ∙ (waits-none a) .0)
-          ∙ rw ((waits-none a) .1)
-      go (robbed d t e es b) =
-          absurd (nothing-taken (e .«context_ref»)
-          (record {
-            entry = e;
-            cpu = t;
-            was-queued = record { present = b .present; is-in = b .from e (inl refl) };
-            elsewhere = b .other;
-            of = refl;
-            is-here = inr (charge-is k time M S T P own ∙ ap (successor k M (runs k time M S T P own)) (b .first (rw ((waits-none a) .0, (waits-none a) .1))));
-          }))
-
-  -- idle is in charge only so
-  pub idle-only : in-charge k time M M′ ≡ idle → NobodyWaits k time M × StoleNothing k time M M′
-  idle-only m = go (runs k time M S T P own) ((l k time M S T P own) .winner) refl refl
-    where
-      is-idle : c k time M S T P own ≡ idle
-      is-idle = sym (charge-is k time M S T P own) ∙ m
-
-      unchosen : (l k time M S T P own) .winner ≡ none → (w : Option ℕ) → (chose k time M S T P own) .winner ≡ w → (chose k time M S T P own) .winner ≡ none
-      unchosen z none p = p
-      unchosen z (some x) p = absurd (some-none (kept k time M S T P own .keeps x p) z)
-
-      go : (b : Bool) (w : Option ℕ) → runs k time M S T P own ≡ b → (l k time M S T P own) .winner ≡ w → NobodyWaits k time M × StoleNothing k time M M′
-      go b (some x) p q =
-          absurd ((kept k time M S T P own .winner x q) .free .not-idle k P (sym (ap (successor k M (runs k time M S T P own)) q) ∙ is-idle))
-      go true none p q =
-          absurd (awake k time M S T P own p
-          (sym (ap (λ b. successor k M b ((l k time M S T P own) .winner)) p ∙ ap (successor k M true) q) ∙ is-idle))
-      go false none p q =
-          let z = unchosen q ((chose k time M S T P own) .winner) refl in
-          (none-waits z p, λ x y. took z x y (stole k time M S T P own))
-        where
-          took : (chose k time M S T P own) .winner ≡ none → (x : ℕ) → Stole k time M M′ x
-              → Theft k M (runs k time M S T P own) (locked k time M S T P own) ((chose k time M S T P own) .winner) (C k time M S T P own) (l k time M S T P own) → ⊥
-          took z x y (nothing t) = nothing-stolen k time M S T P own x y t
-          took z x y (robbed d t e es b) = some-none (b .first (rw (z, p))) q
