@@ -17,7 +17,7 @@ use mathlib.Core.Bool.{Bool, true, false}
 use mathlib.Core.List.{List, [], _∷_}
 use Prim.Native.Nat.{ℕ}
 use Rattle.decision.specs.Opened.{opened}
-use Rattle.decision_cases.specs.Replay.{KernelCase, every-passes, zeros, sparse, same-words, replay, passes}
+use Rattle.decision_cases.specs.Replay.{KernelCase, called, every-passes, zeros, sparse, same-words, replay, passes}
 
 unfoldable pub kernel-cases : List KernelCase
 kernel-cases =
@@ -68,8 +68,8 @@ def sparse(words, size):
 def show(call, size, before, answer, changed):
     op, cpu, time, ctx = call
     after = {**before, **changed}
-    return (f'    record {{ op = {op}; cpu = {cpu}; time = {time}; ctx = {ctx}; full = {"true" if answer[0] else "false"}; '
-            f'result = {answer[1]}; before = {sparse(before, size)};\n      after = {sparse(after, size)} }} ∷\n')
+    full = 'true' if answer[0] else 'false'
+    return f'    called {op} {cpu} {time} {ctx} {full} {answer[1]} ({sparse(before, size)})\n    ({sparse(after, size)}) ∷\n'
 
 
 def main():
@@ -82,7 +82,7 @@ def main():
                 continue
             kind = (call[0], answer, before[0], len(changed))
             if name.endswith('.bin') and not every:
-                if len(before) > 90 and not answer[0] or kind in kinds or len(out) >= 72:
+                if not answer[0] and (len(before) > 90 or kind in kinds or len(out) >= 72):
                     continue
             kinds.add(kind)
             out.append(show(*case))

@@ -19,16 +19,17 @@ use Rattle.decision.specs.Tidy.{Sound, Tidy, Present}
 use Rattle.decision.specs.Accepted.{ServesOwn}
 use Rattle.decision.specs.Demand3.{judged}
 use Rattle.decision.proofs.Cases.{pick, and-both, not-is-true}
-use Rattle.decision.proofs.Before.{Seat, seat, queues, Free}
+use Rattle.decision.proofs.Before.{Roles, roles, queues, Free}
 use Rattle.decision.proofs.Woken.{Waking}
 use Rattle.decision.proofs.Charged.{before-waking}
 use Rattle.decision.proofs.Chosen.{Follows, choice-follows}
 use Rattle.decision.proofs.Dequeued.{AfterChoice, chosen-state, after-choice}
 use Rattle.decision.proofs.CpuQueues.{present-in-range}
-use Rattle.decision.proofs.Theft.{Kept, Theft, nothing, robbed}
-use Rattle.decision.proofs.Stolen.{theft, theft-kept}
+use Rattle.decision.proofs.Robbed.{Kept, StealResult, nothing, robbed}
+use Rattle.decision.proofs.Stolen.{steal-result, result-kept}
 use Rattle.decision.proofs.Settled.{successor, Settled, settles}
 use Rattle.decision.proofs.Ended.{Finished, finished-none, finished-some}
+use Rattle.decision.proofs.Queues.{Fixed}
 use Rattle.decision.proofs.TidyAfter.{Ending}
 
 -- the machine after `schedule` and what follows it
@@ -67,20 +68,20 @@ module _ (k time : ℕ) (M : Machine) (S : Sound M) (T : Tidy M) (P : Present M 
   unfolding cpu-at
   in-range = present-in-range (M .cpus) k P
 
-  pub stole : Theft k M runs locked (chose .winner) C l
-  stole = theft k M runs locked (chose .winner) C (chosen-after .inv) (chosen-after .winner) in-range
+  pub stole : StealResult k M runs locked (chose .winner) C l
+  stole = steal-result k M runs locked (chose .winner) C (chosen-after .inv) (chosen-after .winner) in-range
 
   pub kept : Kept k M runs locked (chose .winner) C l
-  kept = theft-kept k M runs locked (chose .winner) C (chosen-after .inv) (chosen-after .winner) l stole
+  kept = result-kept k M runs locked (chose .winner) C (chosen-after .inv) (chosen-after .winner) l stole
 
-  pub sat : seat (l .state .cpu) ≡ seat (cpu-at M k)
-  sat = kept .sits ∙ chosen-after .sits
+  pub roles-are : roles (l .state .cpu) ≡ roles (cpu-at M k)
+  roles-are = kept .roles-kept ∙ chosen-after .roles-kept
 
   is-sched : J .cpu .block .«sched_ctxt» ≡ (cpu-at M k) .block .«sched_ctxt»
-  is-sched = ap (λ (z : Seat). z .sched) (waking .sits)
+  is-sched = ap (λ (z : Roles). z .sched) (waking .roles-kept)
 
   is-idle-word : J .cpu .block .«idle_ctxt» ≡ (cpu-at M k) .block .«idle_ctxt»
-  is-idle-word = ap (λ (z : Seat). z .idle) (waking .sits)
+  is-idle-word = ap (λ (z : Roles). z .idle) (waking .roles-kept)
 
   -- a runnable holder is not idle
   pub awake : runs ≡ true → (cpu-at M k) .block .«sched_ctxt» ≢ (cpu-at M k) .block .«idle_ctxt»
@@ -92,25 +93,25 @@ module _ (k time : ℕ) (M : Machine) (S : Sound M) (T : Tidy M) (P : Present M 
   abbrev pub s : State
   s = settled k time runs n l
 
-  pub is-settled : Settled k M S T P runs n l (kept .inv) (kept .winner) sat awake s
-  is-settled = settles k M S T P runs n l (kept .inv) (kept .winner) sat awake time
+  pub is-settled : Settled k M S T P runs n l (kept .inv) (kept .winner) roles-are awake s
+  is-settled = settles k M S T P runs n l (kept .inv) (kept .winner) roles-are awake time
 
   -- who is in charge at the end
   abbrev pub c : ℕ
   c = successor k M runs (l .winner)
 
   s-sched : s .cpu .block .«sched_ctxt» ≡ (cpu-at M k) .block .«sched_ctxt»
-  s-sched = ap (λ (z : Seat). z .sched) (is-settled .sits)
+  s-sched = ap (λ (z : Roles). z .sched) (is-settled .roles-kept)
 
   s-idle : s .cpu .block .«idle_ctxt» ≡ (cpu-at M k) .block .«idle_ctxt»
-  s-idle = ap (λ (z : Seat). z .idle) (is-settled .sits)
+  s-idle = ap (λ (z : Roles). z .idle) (is-settled .roles-kept)
 
   sched-range : s .cpu .block .«sched_ctxt» < length (s .contexts)
   sched-range = rw (is-settled .inv .count, s-sched) (S .in-charge-is k P)
 
   sched-marked : (at s (s .cpu .block .«sched_ctxt»)) .«currently_scheduled» ≡ true
   sched-marked =
-      ap (λ (z : Rattle.decision.proofs.Queues.Fixed). z .currently-scheduled) (is-settled .inv .same (s .cpu .block .«sched_ctxt»))
+      ap (λ (z : Fixed). z .currently-scheduled) (is-settled .inv .same (s .cpu .block .«sched_ctxt»))
       ∙ ap (λ y. (context-at (M .contexts) y) .«currently_scheduled») s-sched ∙ T .scheduled-if k P
 
   finished : (was b : Bool) (w : Option ℕ) → runs ≡ b → l .winner ≡ w
@@ -144,7 +145,7 @@ module _ (k time : ℕ) (M : Machine) (S : Sound M) (T : Tidy M) (P : Present M 
   ending =
       record {
         inv = is-settled .inv;
-        sits = is-settled .sits;
+        roles-kept = is-settled .roles-kept;
         count = kept .count;
         others = kept .others;
         absent = kept .absent;
@@ -164,6 +165,6 @@ module _ (k time : ℕ) (M : Machine) (S : Sound M) (T : Tidy M) (P : Present M 
       stays : l .winner ≡ chose .winner → c ≡ (cpu-at M k) .block .«sched_ctxt»
       stays y = ap (successor k M runs) (y ∙ z) ∙ rw t
 
-      go : Theft k M runs locked (chose .winner) C l → c ≡ (cpu-at M k) .block .«sched_ctxt»
+      go : StealResult k M runs locked (chose .winner) C l → c ≡ (cpu-at M k) .block .«sched_ctxt»
       go (nothing p) = stays (ap (λ (q : Stealing). q .winner) p)
       go (robbed d t′ e es b) = stays (b .second (rw (z, t)))

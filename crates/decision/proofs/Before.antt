@@ -15,15 +15,15 @@ use Rattle.decision.specs.Tidy.{Sound, Tidy, Queued, Present}
 use Rattle.decision.proofs.Cases.{by-test, never}
 use Rattle.decision.proofs.Queues.{Inv, inv-ext, on}
 
--- a view: the words that only a switch writes, and V
-pub record Seat : Type 0 where
+-- a view: the words that only a switch writes
+pub record Roles : Type 0 where
   pub present : Bool
   pub current : ℕ
   pub sched : ℕ
   pub idle : ℕ
 
-abbrev pub seat : Cpu → Seat
-seat p =
+abbrev pub roles : Cpu → Roles
+roles p =
     record {
       present = p .block .present;
       current = p .block .«current_ctxt»;

@@ -19,7 +19,7 @@ use Rattle.decision.specs.Accepted.{ServesOwn}
 use Rattle.decision.proofs.Cases.{pick}
 use Rattle.decision.proofs.Queues.{fixed, on, Without, gone-of}
 use Rattle.decision.proofs.Moves.{no-key, inv-out}
-use Rattle.decision.proofs.Before.{Seat, queues, Free}
+use Rattle.decision.proofs.Before.{Roles, queues, Free}
 use Rattle.decision.proofs.Woken.{Waking, wakeups-waking}
 
 -- a record that keeps a view, renewed if need be
@@ -49,15 +49,15 @@ charged-key = charged-view (λ (c : Context). c .«has_queue_key») (λ m v c. r
 module _ (k time : ℕ) (M : Machine) (S : Sound M) (T : Tidy M) (P : Present M k) where
   -- the holder has no entry
   pub holder-out : (s : State) → Waking k time M S T s → Without (s .cpu .block .«sched_ctxt») (on k (s .cpu .queue) (queues M))
-  holder-out s n e i h m = (n .kept .free e i h) .not-in-charge k P (m ∙ ap (λ (z : Seat). z .sched) (n .sits))
+  holder-out s n e i h m = (n .kept .free e i h) .not-in-charge k P (m ∙ ap (λ (z : Roles). z .sched) (n .roles-kept))
 
   pub holder-range : (s : State) → Waking k time M S T s → s .cpu .block .«sched_ctxt» < length (s .contexts)
-  holder-range s n = rw (n .kept .count, ap (λ (z : Seat). z .sched) (n .sits)) (S .in-charge-is k P)
+  holder-range s n = rw (n .kept .count, ap (λ (z : Roles). z .sched) (n .roles-kept)) (S .in-charge-is k P)
 
   pub holder-live : (s : State) → Waking k time M S T s → (holder s) .gone ≡ false
   holder-live s n =
       gone-of (n .kept .same (s .cpu .block .«sched_ctxt»))
-      ∙ ap (λ y. (context-at (M .contexts) y) .gone) (ap (λ (z : Seat). z .sched) (n .sits)) ∙ S .in-charge-live k P
+      ∙ ap (λ y. (context-at (M .contexts) y) .gone) (ap (λ (z : Roles). z .sched) (n .roles-kept)) ∙ S .in-charge-live k P
 
   pub holder-no-key : (s : State) → Waking k time M S T s → (holder s) .«has_queue_key» ≡ false
   holder-no-key s n = no-key (Free M) (M .contexts) (s .contexts) _ (s .cpu .block .«sched_ctxt») (n .kept) (holder-range s n) (holder-live s n) (holder-out s n)
@@ -68,7 +68,7 @@ module _ (k time : ℕ) (M : Machine) (S : Sound M) (T : Tidy M) (P : Present M 
   holder-waking s c f g n =
       record {
         kept = inv-out (Free M) (M .contexts) (s .contexts) _ (s .cpu .block .«sched_ctxt») c (n .kept) (holder-range s n) f (λ l. g ∙ holder-no-key s n) (holder-out s n);
-        sits = n .sits;
+        roles-kept = n .roles-kept;
         v = n .v;
         has = n .has;
       }
@@ -76,7 +76,7 @@ module _ (k time : ℕ) (M : Machine) (S : Sound M) (T : Tidy M) (P : Present M 
   inactive-waking : (s : State) → Waking k time M S T s → Waking k time M S T (inactive s)
   inactive-waking s n =
       let r = holder-waking s (stopped (holder s)) refl refl n in
-      record { kept = r .kept; sits = r .sits; v = r .v; has = r .has }
+      record { kept = r .kept; roles-kept = r .roles-kept; v = r .v; has = r .has }
 
   charge-waking : (e : ℕ) (s : State) → Waking k time M S T s → Waking k time M S T (charge-holder e s)
   unfolding charge-holder holder-stopped
@@ -85,11 +85,11 @@ module _ (k time : ℕ) (M : Machine) (S : Sound M) (T : Tidy M) (P : Present M 
       (λ t. pick (Waking k time M S T) (is-runnable ((holder s) .status))
       (λ r. holder-waking s _ (charged-fixed (s .cpu .block .v) e (holder s)) (charged-key (s .cpu .block .v) e (holder s)) n)
       (λ r. pick (Waking k time M S T) ((holder s) .«has_wake»)
-      (λ w. let a = inactive-waking s n in record { kept = a .kept; sits = a .sits; v = a .v; has = a .has }) (λ w. inactive-waking s n)))
+      (λ w. let a = inactive-waking s n in record { kept = a .kept; roles-kept = a .roles-kept; v = a .v; has = a .has }) (λ w. inactive-waking s n)))
 
   times-waking : (s : State) → Waking k time M S T s → Waking k time M S T (on-cpu (times time) s)
   unfolding times
-  times-waking s n = record { kept = n .kept; sits = n .sits; v = n .v; has = n .has }
+  times-waking s n = record { kept = n .kept; roles-kept = n .roles-kept; v = n .v; has = n .has }
 
   pub before-waking : ServesOwn k time M → Waking k time M S T (before-choice time (state-of k M))
   unfolding before-choice

@@ -38,7 +38,7 @@ use Rattle.decision.proofs.ReadyIs.{
   vtime-is,
 }
 use Rattle.decision.proofs.Assembled.{scheduled-machine, J, waking, chose, follows, chosen-in-charge, holder-in-charge}
-use Rattle.decision.proofs.Outcomes.{charge-is}
+use Rattle.decision.proofs.Outcomes.{in-charge-is}
 
 module _ (k time : ℕ) (M : Machine) (S : Sound M) (T : Tidy M) (P : Present M k) (own : ServesOwn k time M) where
   abbrev pub M′ : Machine
@@ -55,10 +55,10 @@ module _ (k time : ℕ) (M : Machine) (S : Sound M) (T : Tidy M) (P : Present M 
 
   -- who is in charge: the chosen, or a runnable holder
   pub won : (x : ℕ) → (chose k time M S T P own) .winner ≡ some x → in-charge k time M M′ ≡ x
-  won x z = charge-is k time M S T P own ∙ chosen-in-charge k time M S T P own x z
+  won x z = in-charge-is k time M S T P own ∙ chosen-in-charge k time M S T P own x z
 
   pub stayed : (chose k time M S T P own) .winner ≡ none → prev-runnable here ≡ true → in-charge k time M M′ ≡ h
-  stayed z t = charge-is k time M S T P own ∙ holder-in-charge k time M S T P own z t
+  stayed z t = in-charge-is k time M S T P own ∙ holder-in-charge k time M S T P own z t
 
   pub runs-if : prev-is-eligible here ≡ true → prev-runnable here ≡ true
   runs-if t = (and-both (prev-runnable here) _ t) .0

@@ -22,7 +22,7 @@ use Rattle.decision.proofs.Cases.{by-test, never, pick, and-both}
 use Rattle.decision.proofs.Lists.{In}
 use Rattle.decision.proofs.Queues.{Inv, fixed, set-view, on, Has, Without, Agrees, gone-of}
 use Rattle.decision.proofs.Moves.{inv-take, now-out, has-take, was-in}
-use Rattle.decision.proofs.Before.{seat, queues, Free}
+use Rattle.decision.proofs.Before.{roles, queues, Free}
 use Rattle.decision.proofs.Woken.{Waking}
 use Rattle.decision.proofs.ScanKept.{Lost, Scanning, scan-kept, ready-stays}
 use Rattle.decision.proofs.Chosen.{
@@ -38,6 +38,7 @@ use Rattle.decision.proofs.Chosen.{
   separate,
   choice-follows,
 }
+use Rattle.decision.proofs.Judged.{ready-alive}
 use Rattle.decision.proofs.Firsts.{some-none, some-some}
 
 module _ (F : ℕ → Type 0) (cs₀ : List Context) (k : ℕ) (R : ℕ → List Entry) where
@@ -56,7 +57,7 @@ module _ (F : ℕ → Type 0) (cs₀ : List Context) (k : ℕ) (R : ℕ → List
     pub subset : (e : Entry) (i : ℕ) → In e (on k (t .cpu .queue) R i) → In e (on k (s .cpu .queue) R i)
     pub status : (y : ℕ) → (at t y) .status ≡ (at s y) .status
     pub block : t .cpu .block .v ≡ s .cpu .block .v
-    pub sits : seat (t .cpu) ≡ seat (s .cpu)
+    pub roles-kept : roles (t .cpu) ≡ roles (s .cpu)
     pub total : t .cpu .block .«total_weight» ≡ s .cpu .block .«total_weight»
 
   pub dequeue : (s : State) (e : Entry) → Inv F cs₀ (s .contexts) (on k (s .cpu .queue) R) → In e (s .cpu .queue)
@@ -75,7 +76,7 @@ module _ (F : ℕ → Type 0) (cs₀ : List Context) (k : ℕ) (R : ℕ → List
         subset = was-in F cs₀ (s .contexts) k (s .cpu .queue) R n (e .«context_ref») (queue-key (at s (e .«context_ref»))) r refl only;
         status = set-view (λ (c : Context). c .status) (s .contexts) (e .«context_ref») (without-key (at s (e .«context_ref»))) refl;
         block = refl;
-        sits = refl;
+        roles-kept = refl;
         total = refl;
       })
       (λ t. never (a .has-key) t)
@@ -111,7 +112,7 @@ module _ (k time : ℕ) (M : Machine) (S : Sound M) (T : Tidy M) (J : State) (n 
     pub winner : (x : ℕ) → w ≡ some x → Winner (Free M) (M .contexts) k (queues M) x (t .contexts) (on k (t .cpu .queue) (queues M))
     pub kept : (y : ℕ) → Has y (queues M) → Has y (on k (t .cpu .queue) (queues M)) ⊎ (Lost (at t y) ⊎ (w ≡ some y))
     pub frame : (y : ℕ) → Without y (on k (J .cpu .queue) (queues M)) → (at t y) .status ≡ (at J y) .status
-    pub sits : seat (t .cpu) ≡ seat (cpu-at M k)
+    pub roles-kept : roles (t .cpu) ≡ roles (cpu-at M k)
     pub v : t .cpu .block .v ≡ choice-of .v
 
   kept-scan : Scanning (Free M) (M .contexts) k time (J .cpu) (ineligible-holder J) (J .contexts) (J .cpu .queue) (queues M) (n .kept) scan-of []
@@ -130,7 +131,7 @@ module _ (k time : ℕ) (M : Machine) (S : Sound M) (T : Tidy M) (J : State) (n 
         winner = λ x z. absurd (some-none z refl);
         kept = λ y h. stays y (n .has y h);
         frame = λ y o. ap (λ (c : Context). c .status) (kept-scan .frame y (λ e i. o e k (rw (eq-eqb k k refl) i)));
-        sits = n .sits;
+        roles-kept = n .roles-kept;
         v = refl;
       }
     where
@@ -153,7 +154,7 @@ module _ (k time : ℕ) (M : Machine) (S : Sound M) (T : Tidy M) (J : State) (n 
         winner = λ x z. subst (λ y. Winner (Free M) (M .contexts) k (queues M) y (u .contexts) (on k (u .cpu .queue) (queues M))) (some-some z) (d .winner);
         kept = λ y h. stays y (after-scan .kept y h);
         frame = λ y o. d .status y ∙ after-scan .frame y o;
-        sits = d .sits ∙ n .sits;
+        roles-kept = d .roles-kept ∙ n .roles-kept;
         v = d .block;
       }
     where
@@ -161,7 +162,7 @@ module _ (k time : ℕ) (M : Machine) (S : Sound M) (T : Tidy M) (J : State) (n 
       u = dequeued (e .«context_ref») cleaned
 
       live : (at J (e .«context_ref»)) .gone ≡ false
-      live = Rattle.decision.proofs.Judged.ready-alive k time (J .cpu) (at J (e .«context_ref»)) e t
+      live = ready-alive k time (J .cpu) (at J (e .«context_ref»)) e t
 
       d : TakenOut (Free M) (M .contexts) k (queues M) (e .«context_ref») cleaned (dequeued (e .«context_ref») cleaned)
       d =

@@ -185,3 +185,12 @@ least-agree p r q e a l =
       least-vtime = λ f i k. l .least-vtime f i (a f i ∙ k);
       leads = λ f i k t. l .leads f i (a f i ∙ k) t;
     }
+
+-- among those that pass, if any does, one is the first of the least vtime
+pub least-exists : (p : Entry → Bool) (q : List Entry) → Sorted entry-before q → (f : Entry) → In f q → p f ≡ true
+    → (e : Entry) × IsLeast p q e
+least-exists p q s f i t = go (least none p none q) refl
+  where
+    go : (o : Option Entry) → least none p none q ≡ o → (e : Entry) × IsLeast p q e
+    go none z = never refl (least-none none p q z f i t)
+    go (some e) z = (e, (least-is none p q e s z) .0)

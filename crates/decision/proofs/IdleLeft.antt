@@ -13,12 +13,12 @@ use Rattle.decision.specs.Tidy.{Sound, Tidy, Present}
 use Rattle.decision.specs.Accepted.{ServesOwn}
 use Rattle.decision.specs.Demand3.{NobodyWaits, in-charge, Stole, FirstStolen, StoleNothing}
 use Rattle.decision.proofs.Lists.{In, all-at}
-use Rattle.decision.proofs.Theft.{Theft, nothing, robbed}
+use Rattle.decision.proofs.Robbed.{StealResult, nothing, robbed}
 use Rattle.decision.proofs.Settled.{successor}
 use Rattle.decision.proofs.Chosen.{sorted}
 use Rattle.decision.proofs.Firsts.{some-none}
 use Rattle.decision.proofs.Assembled.{scheduled-machine, J, chose, C, runs, locked, l, stole, kept, awake, c}
-use Rattle.decision.proofs.Outcomes.{charge-is, nothing-stolen, of-the-lot}
+use Rattle.decision.proofs.Outcomes.{in-charge-is, nothing-stolen, of-the-lot}
 use Rattle.decision.proofs.Contested.{none-waits, waits-none}
 
 module _ (k time : ℕ) (M : Machine) (S : Sound M) (T : Tidy M) (P : Present M k) (own : ServesOwn k time M) where
@@ -44,7 +44,7 @@ module _ (k time : ℕ) (M : Machine) (S : Sound M) (T : Tidy M) (P : Present M 
       fw : first-wins (runs k time M S T P own) ((chose k time M S T P own) .winner) ≡ true
       fw = rw (none-chosen, (waits-none k time M S T P own a) .1)
 
-      go : Theft k M (runs k time M S T P own) (locked k time M S T P own) ((chose k time M S T P own) .winner) (C k time M S T P own) (l k time M S T P own)
+      go : StealResult k M (runs k time M S T P own) (locked k time M S T P own) ((chose k time M S T P own) .winner) (C k time M S T P own) (l k time M S T P own)
           → (z : ℕ) × FirstStolen k time M M′ z × (in-charge k time M M′ ≡ z)
       go (nothing p) = absurd (nothing-stolen k time M S T P own x y p)
       go (robbed d t e es b) = (
@@ -56,15 +56,15 @@ module _ (k time : ℕ) (M : Machine) (S : Sound M) (T : Tidy M) (P : Present M 
             was-queued = record { present = b .present; is-in = b .from e (inl refl) };
             elsewhere = b .other;
             of = refl;
-            is-here = inr charged;
+            is-here = inr is-in-charge;
           };
           first = λ z s. let (i, q) = of-the-lot k time M S T P own z s t e es b (b .first fw) in order z s q i;
         },
-        charged,
+        is-in-charge,
       )
         where
-          charged : in-charge k time M M′ ≡ e .«context_ref»
-          charged = charge-is k time M S T P own ∙ ap (successor k M (runs k time M S T P own)) (b .first fw)
+          is-in-charge : in-charge k time M M′ ≡ e .«context_ref»
+          is-in-charge = in-charge-is k time M S T P own ∙ ap (successor k M (runs k time M S T P own)) (b .first fw)
 
           order : (z : ℕ) (s : Stole k time M M′ z) → s .cpu ≡ t → (s .entry ≡ e) ⊎ In (s .entry) es
               → (z ≡ e .«context_ref») ⊎ ((s .cpu ≡ t) × (before (e .key) (s .entry .key) ≡ true))
@@ -74,10 +74,10 @@ module _ (k time : ℕ) (M : Machine) (S : Sound M) (T : Tidy M) (P : Present M 
   pub idle-left : NobodyWaits k time M → StoleNothing k time M M′ → in-charge k time M M′ ≡ idle
   idle-left a nothing-taken = go (stole k time M S T P own)
     where
-      go : Theft k M (runs k time M S T P own) (locked k time M S T P own) ((chose k time M S T P own) .winner) (C k time M S T P own) (l k time M S T P own)
+      go : StealResult k M (runs k time M S T P own) (locked k time M S T P own) ((chose k time M S T P own) .winner) (C k time M S T P own) (l k time M S T P own)
           → in-charge k time M M′ ≡ idle
       go (nothing p) =
-          charge-is k time M S T P own
+          in-charge-is k time M S T P own
           ∙ ap (successor k M (runs k time M S T P own)) (ap (λ (q : Stealing). q .winner) p ∙ (waits-none k time M S T P own a) .0)
           ∙ rw ((waits-none k time M S T P own a) .1)
       go (robbed d t e es b) =
@@ -88,7 +88,7 @@ module _ (k time : ℕ) (M : Machine) (S : Sound M) (T : Tidy M) (P : Present M 
             was-queued = record { present = b .present; is-in = b .from e (inl refl) };
             elsewhere = b .other;
             of = refl;
-            is-here = inr (charge-is k time M S T P own ∙ ap (successor k M (runs k time M S T P own)) (b .first (rw ((waits-none k time M S T P own a) .0, (waits-none k time M S T P own a) .1))));
+            is-here = inr (in-charge-is k time M S T P own ∙ ap (successor k M (runs k time M S T P own)) (b .first (rw ((waits-none k time M S T P own a) .0, (waits-none k time M S T P own a) .1))));
           }))
 
   -- idle is in charge only so
@@ -96,7 +96,7 @@ module _ (k time : ℕ) (M : Machine) (S : Sound M) (T : Tidy M) (P : Present M 
   idle-only m = go (runs k time M S T P own) ((l k time M S T P own) .winner) refl refl
     where
       is-idle : c k time M S T P own ≡ idle
-      is-idle = sym (charge-is k time M S T P own) ∙ m
+      is-idle = sym (in-charge-is k time M S T P own) ∙ m
 
       unchosen : (l k time M S T P own) .winner ≡ none → (w : Option ℕ) → (chose k time M S T P own) .winner ≡ w → (chose k time M S T P own) .winner ≡ none
       unchosen z none p = p
@@ -113,6 +113,6 @@ module _ (k time : ℕ) (M : Machine) (S : Sound M) (T : Tidy M) (P : Present M 
           (none-waits k time M S T P own z p, λ x y. took z x y (stole k time M S T P own))
         where
           took : (chose k time M S T P own) .winner ≡ none → (x : ℕ) → Stole k time M M′ x
-              → Theft k M (runs k time M S T P own) (locked k time M S T P own) ((chose k time M S T P own) .winner) (C k time M S T P own) (l k time M S T P own) → ⊥
+              → StealResult k M (runs k time M S T P own) (locked k time M S T P own) ((chose k time M S T P own) .winner) (C k time M S T P own) (l k time M S T P own) → ⊥
           took z x y (nothing t) = nothing-stolen k time M S T P own x y t
           took z x y (robbed d t e es b) = some-none (b .first (rw (z, p))) q

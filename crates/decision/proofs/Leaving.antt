@@ -25,7 +25,6 @@ on-swap k t q v R n i =
     (λ a. rw (a, ne-eqb i t (λ z. n (sym z ∙ eqb-true i k a))))
     (λ a. by-test (eqb i t) (λ b. rw (a, b)) (λ b. rw (a, b)))
 
-
 module _ (F : ℕ → Type 0) (cs₀ cs : List Context) (k t : ℕ) (other : t ≢ k) (q v : List Entry) (R : ℕ → List Entry) where
   -- what is left when e is out of CPU t's queue, and its record is c
   pub record Left (e : Entry) (c : Context) : Type 0 where
@@ -53,7 +52,7 @@ module _ (F : ℕ → Type 0) (cs₀ cs : List Context) (k t : ℕ) (other : t �
           d,
           j,
           rw (back j)
-          (still-in F cs₀ cs t v (on k q R) swapped (e .«context_ref») (e .key) r own only d j (rw (on-swap k t q v R other j) at m) (λ w. z (sym p ∙ w))),
+              (still-in F cs₀ cs t v (on k q R) swapped (e .«context_ref») (e .key) r own only d j (rw (on-swap k t q v R other j) at m) (λ w. z (sym p ∙ w))),
           p,
         );
         still = λ d j m.

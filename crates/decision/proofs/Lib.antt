@@ -21,7 +21,7 @@ pub mod Candidates
 pub mod Leaving
 pub mod Moving
 pub mod CpuQueues
-pub mod Theft
+pub mod Robbed
 pub mod Stolen
 pub mod Ended
 pub mod Settled

@@ -23,7 +23,7 @@ use Rattle.decision.proofs.Lists.{All, In, all-at}
 use Rattle.decision.proofs.Sorted.{in-insert}
 use Rattle.decision.proofs.Queues.{Inv, fixed, set-view, on, Has, gone-of}
 use Rattle.decision.proofs.Moves.{was-in, inv-put, has-put, has-new, put-cases}
-use Rattle.decision.proofs.Before.{seat}
+use Rattle.decision.proofs.Before.{roles}
 use Rattle.decision.proofs.Dequeued.{Winner}
 use Rattle.decision.proofs.Scanned.{Distinct}
 use Rattle.decision.proofs.Firsts.{some-some}
@@ -46,8 +46,8 @@ module _ (F : ℕ → Type 0) (cs₀ : List Context) (k t : ℕ) (other : t ≢ 
     pub keeps : (x : ℕ) → a .winner ≡ some x → m .winner ≡ some x
     pub has : (y : ℕ) → Has y (all-queues a) → Has y (all-queues m) ⊎ (m .winner ≡ some y)
     pub status : (y : ℕ) → (at (m .state) y) .status ≡ (at (a .state) y) .status
-    pub sits : seat (m .state .cpu) ≡ seat (a .state .cpu)
-    pub victim-sits : seat (m .victim) ≡ seat (a .victim)
+    pub roles-kept : roles (m .state .cpu) ≡ roles (a .state .cpu)
+    pub victim-roles : roles (m .victim) ≡ roles (a .victim)
     pub v : m .state .cpu .block .v ≡ a .state .cpu .block .v
     pub here : (d : Entry) → In d (m .state .cpu .queue) → In d (a .state .cpu .queue) ⊎ ((g : Entry) × In g all × (g .«context_ref» ≡ d .«context_ref»))
 
@@ -74,7 +74,7 @@ module _ (F : ℕ → Type 0) (cs₀ : List Context) (k t : ℕ) (other : t ≢ 
 
     -- the first stolen wins
     first : first-wins runs (m .winner) ≡ true → (m′ : Moving) → m′ .state .contexts ≡ ds → m′ .state .cpu .queue ≡ m .state .cpu .queue
-        → m′ .victim .queue ≡ left → m′ .winner ≡ some (e .«context_ref») → seat (m′ .state .cpu) ≡ seat (m .state .cpu) → seat (m′ .victim) ≡ seat (m .victim)
+        → m′ .victim .queue ≡ left → m′ .winner ≡ some (e .«context_ref») → roles (m′ .state .cpu) ≡ roles (m .state .cpu) → roles (m′ .victim) ≡ roles (m .victim)
         → m′ .state .cpu .block .v ≡ m .state .cpu .block .v → Moved a m′ all es
     first t₁ m′ e₁ e₂ e₃ e₄ e₅ e₆ e₇ =
         record {
@@ -84,8 +84,8 @@ module _ (F : ℕ → Type 0) (cs₀ : List Context) (k t : ℕ) (other : t ≢ 
           keeps = λ y z. never {b = false} (rw (n .keeps y z) at t₁) refl;
           has = λ y h. stays y (n .has y h);
           status = λ y. rw e₁ (status-set c refl y);
-          sits = e₅ ∙ n .sits;
-          victim-sits = e₆ ∙ n .victim-sits;
+          roles-kept = e₅ ∙ n .roles-kept;
+          victim-roles = e₆ ∙ n .victim-roles;
           v = e₇ ∙ n .v;
           here = λ d i. n .here d (rw e₂ at i);
         }
@@ -110,7 +110,7 @@ module _ (F : ℕ → Type 0) (cs₀ : List Context) (k t : ℕ) (other : t ≢ 
     -- it is queued here
     queued : (m′ : Moving) → m′ .state .contexts ≡ set (m .state .contexts) (e .«context_ref») (with-new-key c)
         → m′ .state .cpu .queue ≡ queue-insert entry (m .state .cpu .queue) → m′ .victim .queue ≡ left → m′ .winner ≡ m .winner
-        → seat (m′ .state .cpu) ≡ seat (m .state .cpu) → seat (m′ .victim) ≡ seat (m .victim)
+        → roles (m′ .state .cpu) ≡ roles (m .state .cpu) → roles (m′ .victim) ≡ roles (m .victim)
         → m′ .state .cpu .block .v ≡ m .state .cpu .block .v → Moved a m′ all es
     queued m′ e₁ e₂ e₃ e₄ e₅ e₆ e₇ =
         record {
@@ -120,8 +120,8 @@ module _ (F : ℕ → Type 0) (cs₀ : List Context) (k t : ℕ) (other : t ≢ 
           keeps = λ y z. e₄ ∙ n .keeps y z;
           has = λ y h. rw (e₂, e₃, e₄) (stays y (n .has y h));
           status = λ y. rw e₁ (status-set (with-new-key c) refl y);
-          sits = e₅ ∙ n .sits;
-          victim-sits = e₆ ∙ n .victim-sits;
+          roles-kept = e₅ ∙ n .roles-kept;
+          victim-roles = e₆ ∙ n .victim-roles;
           v = e₇ ∙ n .v;
           here = λ d i. came d (in-insert entry-before entry d (m .state .cpu .queue) (rw e₂ at i));
         }

@@ -14,7 +14,7 @@ use Rattle.decision.specs.Accepted.{ServesOwn}
 use Rattle.decision.specs.Demand3.{in-charge, Kept, queued-once, put-in-charge, QueuedOrInCharge, was-queued, was-in-charge}
 use Rattle.decision.proofs.Cases.{by-test, never, and-true}
 use Rattle.decision.proofs.Queues.{gone-of, on, Has, Without}
-use Rattle.decision.proofs.Before.{Seat, queues}
+use Rattle.decision.proofs.Before.{Roles, queues}
 use Rattle.decision.proofs.Charged.{holder-out}
 use Rattle.decision.proofs.CpuQueues.{queue-list}
 use Rattle.decision.proofs.Settled.{successor}
@@ -22,7 +22,7 @@ use Rattle.decision.proofs.Ended.{Lasting, lasting}
 use Rattle.decision.proofs.ScanKept.{Lost}
 use Rattle.decision.proofs.TidyAfter.{Ending, present-is, lasts, queued, idle-is}
 use Rattle.decision.proofs.Assembled.{scheduled-machine, J, waking, chose, C, chosen-after, runs, l, in-range, kept, s, is-settled, c, ending}
-use Rattle.decision.proofs.Outcomes.{tidied, charge-is}
+use Rattle.decision.proofs.Outcomes.{tidied, in-charge-is}
 
 module _ (k time : ℕ) (M : Machine) (S : Sound M) (T : Tidy M) (P : Present M k) (own : ServesOwn k time M) where
   abbrev pub M′ : Machine
@@ -72,7 +72,7 @@ module _ (k time : ℕ) (M : Machine) (S : Sound M) (T : Tidy M) (P : Present M 
       not-lost (inr r) = never run (ap is-runnable status-is ∙ r)
 
       won : steal-of .winner ≡ some x → Kept k time M M′ x
-      won z = kept-in-charge x (charge-is k time M S T P own ∙ ap (successor k M (runs k time M S T P own)) z)
+      won z = kept-in-charge x (in-charge-is k time M S T P own ∙ ap (successor k M (runs k time M S T P own)) z)
 
       later : Has x (on k (steal-of .state .cpu .queue) (queue-list (steal-of .cpus))) ⊎ (steal-of .winner ≡ some x) → Kept k time M M′ x
       later (inl g) = kept-queued x (is-settled k time M S T P own .has x g)
@@ -84,18 +84,18 @@ module _ (k time : ℕ) (M : Machine) (S : Sound M) (T : Tidy M) (P : Present M 
       after (inr (inr z)) = won (kept k time M S T P own .keeps x z)
 
       is-sched : (J k time M S T P own) .cpu .block .«sched_ctxt» ≡ (cpu-at M k) .block .«sched_ctxt»
-      is-sched = ap (λ (z : Seat). z .sched) (waking k time M S T P own .sits)
+      is-sched = ap (λ (z : Roles). z .sched) (waking k time M S T P own .roles-kept)
 
       -- the holder, by whether it runs and who won
       holder : h ≡ x → (b : Bool) (w : Option ℕ) → runs k time M S T P own ≡ b → steal-of .winner ≡ w → Kept k time M M′ x
-      holder m true none p q = kept-in-charge x (charge-is k time M S T P own ∙ ap (λ b. successor k M b (steal-of .winner)) p ∙ ap (successor k M true) q ∙ m)
+      holder m true none p q = kept-in-charge x (in-charge-is k time M S T P own ∙ ap (λ b. successor k M b (steal-of .winner)) p ∙ ap (successor k M true) q ∙ m)
       holder m true (some y) p q = kept-queued x (subst (λ z. Has z (on k ((s k time M S T P own) .cpu .queue) (queue-list (steal-of .cpus)))) m (is-settled k time M S T P own .back (ap is-some q) p))
       holder m false w p q =
           by-test (is-idle (J k time M S T P own))
           (λ t. absurd (idle k (record {
             present = present-is k time M S T P (in-range k time M S T P own) (c k time M S T P own) (s k time M S T P own) (steal-of .cpus) M′ E k ∙ P;
             named = idle-is k time M S T P (in-range k time M S T P own) (c k time M S T P own) (s k time M S T P own) (steal-of .cpus) M′ E k
-                ∙ sym (ap (λ (z : Seat). z .idle) (waking k time M S T P own .sits)) ∙ sym (eqb-true _ _ t) ∙ is-sched ∙ m;
+                ∙ sym (ap (λ (z : Roles). z .idle) (waking k time M S T P own .roles-kept)) ∙ sym (eqb-true _ _ t) ∙ is-sched ∙ m;
           })))
           (λ t. by-test (is-runnable ((at (J k time M S T P own) ((J k time M S T P own) .cpu .block .«sched_ctxt»)) .status))
           (λ u. never {b = false} (sym p ∙ and-true (not (is-idle (J k time M S T P own))) _ (ap not t) u) refl)

@@ -19,9 +19,9 @@ use Rattle.decision.proofs.Cases.{by-test}
 use Rattle.decision.proofs.Lists.{In}
 use Rattle.decision.proofs.Queues.{on}
 use Rattle.decision.proofs.Before.{queues}
-use Rattle.decision.proofs.Theft.{start, Robbed}
+use Rattle.decision.proofs.Robbed.{start, Robbed}
 use Rattle.decision.proofs.Settled.{successor, gain}
-use Rattle.decision.proofs.Ended.{Standing}
+use Rattle.decision.proofs.Ended.{Standing, standing}
 use Rattle.decision.proofs.TidyAfter.{Ending, here-stands, sched-here, tidy-after}
 use Rattle.decision.proofs.Assembled.{
   scheduled-machine,
@@ -63,10 +63,10 @@ module _ (k time : ℕ) (M : Machine) (S : Sound M) (T : Tidy M) (P : Present M 
   tidied = tidy-after k time M S T P (in-range k time M S T P own) (c k time M S T P own) (s k time M S T P own) (steal-of .cpus) M′ E
 
   -- the in-charge word
-  pub charge-is : in-charge k time M M′ ≡ c k time M S T P own
-  charge-is = sched-here k time M S T P (in-range k time M S T P own) (c k time M S T P own) (s k time M S T P own) (steal-of .cpus) M′ E
+  pub in-charge-is : in-charge k time M M′ ≡ c k time M S T P own
+  in-charge-is = sched-here k time M S T P (in-range k time M S T P own) (c k time M S T P own) (s k time M S T P own) (steal-of .cpus) M′ E
 
-  stands : Rattle.decision.proofs.Ended.standing (cpu-at M′ k) ≡ Rattle.decision.proofs.Ended.standing ((s k time M S T P own) .cpu)
+  stands : standing (cpu-at M′ k) ≡ standing ((s k time M S T P own) .cpu)
   stands = here-stands k time M S T P (in-range k time M S T P own) (c k time M S T P own) (s k time M S T P own) (steal-of .cpus) M′ E
 
   idle-test : (b : Bool) (w : Option ℕ) → runs k time M S T P own ≡ b → steal-of .winner ≡ w
@@ -86,7 +86,7 @@ module _ (k time : ℕ) (M : Machine) (S : Sound M) (T : Tidy M) (P : Present M 
       total-is = ap (λ (z : Standing). z .total-weight) stands ∙ is-settled k time M S T P own .total
 
       test-is : eqb (in-charge k time M M′) ((cpu-at M k) .block .«idle_ctxt») ≡ not (is-some (steal-of .winner) || runs k time M S T P own)
-      test-is = ap (λ y. eqb y ((cpu-at M k) .block .«idle_ctxt»)) charge-is ∙ idle-test (runs k time M S T P own) (steal-of .winner) refl refl
+      test-is = ap (λ y. eqb y ((cpu-at M k) .block .«idle_ctxt»)) in-charge-is ∙ idle-test (runs k time M S T P own) (steal-of .winner) refl refl
 
       is-gain : own-advance k time M M′ ≡ gain k M (runs k time M S T P own) (steal-of .winner) (n k time M S T P own) (steal-of .state .cpu .block .«total_weight»)
       is-gain =
@@ -136,7 +136,7 @@ module _ (k time : ℕ) (M : Machine) (S : Sound M) (T : Tidy M) (P : Present M 
       where
         go : ((e : Entry) × In e ((cpu-at M′ k) .queue) × (e .«context_ref» ≡ x)) ⊎ (in-charge k time M M′ ≡ x) → ⊥
         go (inl (d, i, m)) = not-here d (subst (λ (q : Stealing). In d (q .state .cpu .queue)) p (here-since d i m)) m
-        go (inr m) = not-won (sym (ap (λ (q : Stealing). q .winner) p) ∙ won-since (runs k time M S T P own) (steal-of .winner) refl (sym charge-is ∙ m))
+        go (inr m) = not-won (sym (ap (λ (q : Stealing). q .winner) p) ∙ won-since (runs k time M S T P own) (steal-of .winner) refl (sym in-charge-is ∙ m))
 
     -- it is one of the lot
     pub of-the-lot : (t : ℕ) (e : Entry) (es : List Entry)
@@ -155,4 +155,4 @@ module _ (k time : ℕ) (M : Machine) (S : Sound M) (T : Tidy M) (P : Present M 
             or : In d ((C k time M S T P own) .cpu .queue) ⊎ ((g : Entry) × In g (e ∷ es) × (g .«context_ref» ≡ d .«context_ref»)) → In (y .entry) (e ∷ es) × (y .cpu ≡ t)
             or (inl j) = absurd (not-here d j m)
             or (inr (g, j, z)) = same g j (z ∙ m)
-        go (inr m) = same e (inl refl) (some-some (sym w ∙ won-since (runs k time M S T P own) (steal-of .winner) refl (sym charge-is ∙ m)))
+        go (inr m) = same e (inl refl) (some-some (sym w ∙ won-since (runs k time M S T P own) (steal-of .winner) refl (sym in-charge-is ∙ m)))

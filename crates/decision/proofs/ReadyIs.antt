@@ -22,7 +22,7 @@ use Rattle.decision.specs.Accepted.{can-switch}
 use Rattle.decision.specs.Demand3.{Ready, Eligible, HolderRunnable, HolderEligible, HolderFirst, LeastKey, FirstLeast, judged}
 use Rattle.decision.proofs.Cases.{by-test, never, pick, and-both, and-true, or-neither, or-either, not-is-true, not-is-false}
 use Rattle.decision.proofs.Lists.{In}
-use Rattle.decision.proofs.Before.{Seat}
+use Rattle.decision.proofs.Before.{Roles}
 use Rattle.decision.proofs.Woken.{Waking}
 use Rattle.decision.proofs.Chosen.{is-waiting, is-on-time, before-key}
 use Rattle.decision.proofs.Firsts.{IsFirst, IsLeast}
@@ -74,13 +74,13 @@ module _ (k time : ℕ) (M : Machine) (S : Sound M) (T : Tidy M) (n : Waking k t
   J = judged k time M
 
   is-sched : J .cpu .block .«sched_ctxt» ≡ (cpu-at M k) .block .«sched_ctxt»
-  is-sched = ap (λ (z : Seat). z .sched) (n .sits)
+  is-sched = ap (λ (z : Roles). z .sched) (n .roles-kept)
 
   is-idle-word : J .cpu .block .«idle_ctxt» ≡ (cpu-at M k) .block .«idle_ctxt»
-  is-idle-word = ap (λ (z : Seat). z .idle) (n .sits)
+  is-idle-word = ap (λ (z : Roles). z .idle) (n .roles-kept)
 
   is-current : J .cpu .block .«current_ctxt» ≡ (cpu-at M k) .block .«current_ctxt»
-  is-current = ap (λ (z : Seat). z .current) (n .sits)
+  is-current = ap (λ (z : Roles). z .current) (n .roles-kept)
 
   pub ready-waits : (e : Entry) → Ready k time M e → is-waiting k time J e ≡ true
   ready-waits e a =

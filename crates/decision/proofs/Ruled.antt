@@ -1,8 +1,6 @@
 -- The rule where nobody is eligible, and demand 3 of a call that runs `schedule`.
 use mathlib.Core.Path.{_≡_, refl, ap, _∙_}
-use mathlib.Core.Bool.{Bool, true}
-use mathlib.Core.List.{List}
-use mathlib.Core.Option.{Option, none, some}
+use mathlib.Core.Bool.{true}
 use Prim.Native.Nat.{ℕ, _+_, _<_, _≤_}
 use native.Mathlib.Omega.{arith}
 use Rattle.run_queue.specs.declared.Entry.{Entry}
@@ -43,23 +41,13 @@ use Rattle.decision.proofs.Chosen.{
   nobody-waits,
   sorted,
 }
-use Rattle.decision.proofs.Scanned.{least}
-use Rattle.decision.proofs.Firsts.{IsFirst, IsLeast, least-is, least-none}
+use Rattle.decision.proofs.Firsts.{IsFirst, IsLeast, least-exists}
 use Rattle.decision.proofs.ReadyIs.{waits-ready, runs-holder, holder-runs, prev-eligible, least-key, first-least, vtime-is, vd-is}
 use Rattle.decision.proofs.Assembled.{scheduled-machine, J, waking, chose, follows}
 use Rattle.decision.proofs.Outcomes.{tidied, v-after}
 use Rattle.decision.proofs.NobodyLost.{nobody-lost}
 use Rattle.decision.proofs.Contested.{won, stayed, ready-of, v-is, eligible, alone, none-waits}
 use Rattle.decision.proofs.IdleLeft.{stolen-first, idle-left, idle-only}
-
--- among those that pass, if any does, one is the first of the least vtime
-least-exists : (p : Entry → Bool) (q : List Entry) → Rattle.decision.proofs.Sorted.Sorted Rattle.run_queue.specs.Order.entry-before q → (f : Entry) → In f q → p f ≡ true
-    → (e : Entry) × IsLeast p q e
-least-exists p q s f i t = go (least none p none q) refl
-  where
-    go : (o : Option Entry) → least none p none q ≡ o → (e : Entry) × IsLeast p q e
-    go none z = never refl (least-none none p q z f i t)
-    go (some e) z = (e, (least-is none p q e s z) .0)
 
 module _ (k time : ℕ) (M : Machine) (S : Sound M) (T : Tidy M) (P : Present M k) (own : ServesOwn k time M) where
   abbrev M′ : Machine
@@ -117,7 +105,7 @@ module _ (k time : ℕ) (M : Machine) (S : Sound M) (T : Tidy M) (P : Present M 
         go (holder-least i r g z v) = (
           (at here h) .vtime,
           to-holder (runs-holder k time M S T (waking k time M S T P own) r) refl
-          (record { entries = λ e a. rw hv at (g e (a .is-in) (ready-of k time M S T P own e a)); holder = λ a. omega arith }),
+              (record { entries = λ e a. rw hv at (g e (a .is-in) (ready-of k time M S T P own e a)); holder = λ a. omega arith }),
           moved _ (v ∙ hv),
         )
         go (holder-by-deadline i r e g lt b z v) = (e .vtime, to-the-entry e g (λ t. lt), moved _ v)

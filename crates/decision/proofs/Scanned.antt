@@ -1,4 +1,4 @@
--- What the walk too-many the queue finds. Assumes scan-start.
+-- What the scan-until-found too-many the queue finds. Assumes scan-start.
 use mathlib.Core.Path.{_≡_, refl, sym, _∙_}
 use mathlib.Core.Bool.{Bool, true, false, not, _&&_}
 use mathlib.Core.List.{List, [], _∷_}
@@ -58,45 +58,45 @@ above-not-below : (o : Option ℕ) (n : ℕ) → above o n ≡ true → below o 
 above-not-below none n e = sym e
 above-not-below (some m) n e = let k : m < n = ltb-true m n e in le-ltb n m (omega arith)
 
-module _ (p now : ℕ) (cpu : Cpu) (h : Option ℕ) where
+module _ (k time : ℕ) (cpu : Cpu) (h : Option ℕ) where
   abbrev pub on-time : Entry → Bool
   on-time = is-eligible cpu
 
   abbrev pub verdict : List Context → Entry → Visit
-  verdict cs e = judge p now cpu (context-at cs (e .«context_ref»)) e
+  verdict cs e = judge k time cpu (context-at cs (e .«context_ref»)) e
 
-  note-best : (s : Scan) (e : Entry) (v : Visit) → (visited p now cpu h s e v) .eligible-best ≡ if is-ready v && on-time e then some e else s .eligible-best
+  visited-best : (s : Scan) (e : Entry) (v : Visit) → (visited k time cpu h s e v) .eligible-best ≡ if is-ready v && on-time e then some e else s .eligible-best
   unfolding visited
-  note-best s e pass = refl
-  note-best s e gone = refl
-  note-best s e (blocked c) = refl
-  note-best s e (no-addr-space c) = refl
-  note-best s e (ready c) = refl
+  visited-best s e pass = refl
+  visited-best s e gone = refl
+  visited-best s e (blocked c) = refl
+  visited-best s e (no-addr-space c) = refl
+  visited-best s e (ready c) = refl
 
-  note-late : (s : Scan) (e : Entry) (v : Visit)
-      → (visited p now cpu h s e v) .ineligible-best ≡ if is-ready v && not (on-time e) && below (ineligible-min-vtime (s .ineligible-best) h) (e .vtime) then some e else s .ineligible-best
+  visited-late : (s : Scan) (e : Entry) (v : Visit)
+      → (visited k time cpu h s e v) .ineligible-best ≡ if is-ready v && not (on-time e) && below (ineligible-min-vtime (s .ineligible-best) h) (e .vtime) then some e else s .ineligible-best
   unfolding visited
-  note-late s e pass = refl
-  note-late s e gone = refl
-  note-late s e (blocked c) = refl
-  note-late s e (no-addr-space c) = refl
-  note-late s e (ready c) = by-test (on-time e) (λ t. rw t) (λ t. rw t)
+  visited-late s e pass = refl
+  visited-late s e gone = refl
+  visited-late s e (blocked c) = refl
+  visited-late s e (no-addr-space c) = refl
+  visited-late s e (ready c) = by-test (on-time e) (λ t. rw t) (λ t. rw t)
 
-  note-frame : (s : Scan) (e : Entry) (v : Visit) (y : ℕ) → y ≢ e .«context_ref» → context-at ((visited p now cpu h s e v) .contexts) y ≡ context-at (s .contexts) y
+  visited-frame : (s : Scan) (e : Entry) (v : Visit) (y : ℕ) → y ≢ e .«context_ref» → context-at ((visited k time cpu h s e v) .contexts) y ≡ context-at (s .contexts) y
   unfolding visited
-  note-frame s e pass y n = refl
-  note-frame s e gone y n = refl
-  note-frame s e (blocked c) y n = getD-set-other (s .contexts) (e .«context_ref») y c no-context n
-  note-frame s e (no-addr-space c) y n = getD-set-other (s .contexts) (e .«context_ref») y c no-context n
-  note-frame s e (ready c) y n = getD-set-other (s .contexts) (e .«context_ref») y c no-context n
+  visited-frame s e pass y n = refl
+  visited-frame s e gone y n = refl
+  visited-frame s e (blocked c) y n = getD-set-other (s .contexts) (e .«context_ref») y c no-context n
+  visited-frame s e (no-addr-space c) y n = getD-set-other (s .contexts) (e .«context_ref») y c no-context n
+  visited-frame s e (ready c) y n = getD-set-other (s .contexts) (e .«context_ref») y c no-context n
 
-  -- a walk that has scanned an eligible entry stands still
-  pub found-stays : (s : Scan) (es : List Entry) → is-some (s .eligible-best) ≡ true → fold (scan-step p now cpu h) s es ≡ s
+  -- a scan-until-found that has scanned an eligible entry stands still
+  pub found-stays : (s : Scan) (es : List Entry) → is-some (s .eligible-best) ≡ true → fold (scan-step k time cpu h) s es ≡ s
   unfolding scan-step
   found-stays s [] t = refl
   found-stays s (e ∷ es) t = rw t (found-stays s es t)
 
-  -- what the walk keeps of the entries to come: their contexts are as at the start, and none is the best so far
+  -- what the scan-until-found keeps of the entries to come: their contexts are as at the start, and none is the best so far
   abbrev pub Fresh : List Context → Scan → Entry → Type 0
   Fresh cs s f = (context-at (s .contexts) (f .«context_ref») ≡ context-at cs (f .«context_ref»)) × (is-of (s .ineligible-best) (f .«context_ref») ≡ false)
 
@@ -105,15 +105,15 @@ module _ (p now : ℕ) (cpu : Cpu) (h : Option ℕ) where
   beyond s e = above (ineligible-min-vtime (s .ineligible-best) h) (e .vtime) && not (on-time e)
 
   pub step-is : (cs : List Context) (s : Scan) (e : Entry) → s .eligible-best ≡ none → Fresh cs s e
-      → scan-step p now cpu h s e ≡ visited p now cpu h s e (if beyond s e then pass else verdict cs e)
+      → scan-step k time cpu h s e ≡ visited k time cpu h s e (if beyond s e then pass else verdict cs e)
   unfolding scan-step visit
   step-is cs s e b f = rw (b, f .1, f .0)
 
   pub step-best : (cs : List Context) (s : Scan) (e : Entry) → s .eligible-best ≡ none → Fresh cs s e
-      → (scan-step p now cpu h s e) .eligible-best ≡ if is-ready-in p now cpu cs e && on-time e then some e else none
+      → (scan-step k time cpu h s e) .eligible-best ≡ if is-ready-in k time cpu cs e && on-time e then some e else none
   step-best cs s e b f =
-      rw (step-is cs s e b f, note-best s e (if beyond s e then pass else verdict cs e), b)
-      (by-test (beyond s e) (λ t. rw (t, not-is-true (on-time e) ((and-both (above (ineligible-min-vtime (s .ineligible-best) h) (e .vtime)) _ t) .1)) (split (is-ready-in p now cpu cs e)))
+      rw (step-is cs s e b f, visited-best s e (if beyond s e then pass else verdict cs e), b)
+      (by-test (beyond s e) (λ t. rw (t, not-is-true (on-time e) ((and-both (above (ineligible-min-vtime (s .ineligible-best) h) (e .vtime)) _ t) .1)) (split (is-ready-in k time cpu cs e)))
       (λ t. rw t))
     where
       split : (r : Bool) → none ≡ if r && false then some e else none
@@ -121,11 +121,11 @@ module _ (p now : ℕ) (cpu : Cpu) (h : Option ℕ) where
       split false = refl
 
   step-late : (cs : List Context) (s : Scan) (e : Entry) → s .eligible-best ≡ none → Fresh cs s e
-      → (scan-step p now cpu h s e) .ineligible-best ≡ if (is-ready-in p now cpu cs e && not (on-time e)) && below (ineligible-min-vtime (s .ineligible-best) h) (e .vtime) then some e else s .ineligible-best
+      → (scan-step k time cpu h s e) .ineligible-best ≡ if (is-ready-in k time cpu cs e && not (on-time e)) && below (ineligible-min-vtime (s .ineligible-best) h) (e .vtime) then some e else s .ineligible-best
   step-late cs s e b f =
-      rw (step-is cs s e b f, note-late s e (if beyond s e then pass else verdict cs e))
+      rw (step-is cs s e b f, visited-late s e (if beyond s e then pass else verdict cs e))
       (by-test (beyond s e)
-      (λ t. rw (t, above-not-below _ _ ((and-both (above (ineligible-min-vtime (s .ineligible-best) h) (e .vtime)) _ t) .0)) (split (is-ready-in p now cpu cs e && not (on-time e))))
+      (λ t. rw (t, above-not-below _ _ ((and-both (above (ineligible-min-vtime (s .ineligible-best) h) (e .vtime)) _ t) .0)) (split (is-ready-in k time cpu cs e && not (on-time e))))
       (λ t. rw t))
     where
       split : (r : Bool) → s .ineligible-best ≡ if r && false then some e else s .ineligible-best
@@ -134,10 +134,10 @@ module _ (p now : ℕ) (cpu : Cpu) (h : Option ℕ) where
 
   -- an entry of another context is as fresh after the scan-step
   step-fresh : (cs : List Context) (s : Scan) (e f : Entry) → s .eligible-best ≡ none → Fresh cs s e → f .«context_ref» ≢ e .«context_ref» → Fresh cs s f
-      → Fresh cs (scan-step p now cpu h s e) f
+      → Fresh cs (scan-step k time cpu h s e) f
   step-fresh cs s e f b fe n ff = (
-    rw (step-is cs s e b fe) (note-frame s e _ (f .«context_ref») n ∙ ff .0),
-    rw (step-late cs s e b fe) (split ((is-ready-in p now cpu cs e && not (on-time e)) && below (ineligible-min-vtime (s .ineligible-best) h) (e .vtime))),
+    rw (step-is cs s e b fe) (visited-frame s e _ (f .«context_ref») n ∙ ff .0),
+    rw (step-late cs s e b fe) (split ((is-ready-in k time cpu cs e && not (on-time e)) && below (ineligible-min-vtime (s .ineligible-best) h) (e .vtime))),
   )
     where
       split : (r : Bool) → is-of (if r then some e else s .ineligible-best) (f .«context_ref») ≡ false
@@ -145,54 +145,54 @@ module _ (p now : ℕ) (cpu : Cpu) (h : Option ℕ) where
       split false = ff .1
 
   pub all-fresh : (cs : List Context) (s : Scan) (e : Entry) (es : List Entry) → s .eligible-best ≡ none → Fresh cs s e → All (λ f. f .«context_ref» ≢ e .«context_ref») es
-      → All (Fresh cs s) es → All (Fresh cs (scan-step p now cpu h s e)) es
+      → All (Fresh cs s) es → All (Fresh cs (scan-step k time cpu h s e)) es
   all-fresh cs s e [] b fe n a = tt
   all-fresh cs s e (f ∷ es) b fe n a = (step-fresh cs s e f b fe (n .0) (a .0), all-fresh cs s e es b fe (n .1) (a .1))
 
-  -- the walk's best is the first ready entry that is eligible
-  walk-best : (cs : List Context) (s : Scan) (es : List Entry) → s .eligible-best ≡ none → Distinct es → All (Fresh cs s) es
-      → (fold (scan-step p now cpu h) s es) .eligible-best ≡ first (λ e. is-ready-in p now cpu cs e && on-time e) es
-  walk-best cs s [] b d a = b
-  walk-best cs s (e ∷ es) b d a =
-      by-test (is-ready-in p now cpu cs e && on-time e)
-      (λ t. rw t (let g = rw t at (step-best cs s e b (a .0)) in rw (found-stays (scan-step p now cpu h s e) es (rw g)) g))
-      (λ t. rw t (walk-best cs (scan-step p now cpu h s e) es (rw t at (step-best cs s e b (a .0))) (d .1) (all-fresh cs s e es b (a .0) (d .0) (a .1))))
+  -- the scan-until-found's best is the first ready entry that is eligible
+  scan-best-from : (cs : List Context) (s : Scan) (es : List Entry) → s .eligible-best ≡ none → Distinct es → All (Fresh cs s) es
+      → (fold (scan-step k time cpu h) s es) .eligible-best ≡ first (λ e. is-ready-in k time cpu cs e && on-time e) es
+  scan-best-from cs s [] b d a = b
+  scan-best-from cs s (e ∷ es) b d a =
+      by-test (is-ready-in k time cpu cs e && on-time e)
+      (λ t. rw t (let g = rw t at (step-best cs s e b (a .0)) in rw (found-stays (scan-step k time cpu h s e) es (rw g)) g))
+      (λ t. rw t (scan-best-from cs (scan-step k time cpu h s e) es (rw t at (step-best cs s e b (a .0))) (d .1) (all-fresh cs s e es b (a .0) (d .0) (a .1))))
 
   -- with none, its late one is the first of least vtime among the ready ones that are not
-  walk-late : (cs : List Context) (s : Scan) (es : List Entry) → s .eligible-best ≡ none → Distinct es → All (Fresh cs s) es
-      → first (λ e. is-ready-in p now cpu cs e && on-time e) es ≡ none
-      → (fold (scan-step p now cpu h) s es) .ineligible-best ≡ least h (λ e. is-ready-in p now cpu cs e && not (on-time e)) (s .ineligible-best) es
-  walk-late cs s [] b d a n = refl
-  walk-late cs s (e ∷ es) b d a n =
-      by-test (is-ready-in p now cpu cs e && on-time e)
+  scan-late-from : (cs : List Context) (s : Scan) (es : List Entry) → s .eligible-best ≡ none → Distinct es → All (Fresh cs s) es
+      → first (λ e. is-ready-in k time cpu cs e && on-time e) es ≡ none
+      → (fold (scan-step k time cpu h) s es) .ineligible-best ≡ least h (λ e. is-ready-in k time cpu cs e && not (on-time e)) (s .ineligible-best) es
+  scan-late-from cs s [] b d a n = refl
+  scan-late-from cs s (e ∷ es) b d a n =
+      by-test (is-ready-in k time cpu cs e && on-time e)
       (λ t. absurd (some-none (rw t at n)))
       (λ t. rw (← step-late cs s e b (a .0))
-      (walk-late cs (scan-step p now cpu h s e) es (rw t at (step-best cs s e b (a .0))) (d .1) (all-fresh cs s e es b (a .0) (d .0) (a .1)) (rw t at n)))
+      (scan-late-from cs (scan-step k time cpu h s e) es (rw t at (step-best cs s e b (a .0))) (d .1) (all-fresh cs s e es b (a .0) (d .0) (a .1)) (rw t at n)))
     where
       some-none : _≡_ {A = Option Entry} (some e) none → ⊥
       some-none z = let y : _≡_ {A = ℕ} 0 1 = cc in omega arith
 
-  pub start-fresh : (cs : List Context) (es : List Entry) → All (Fresh cs (scan-start p now cpu h cs)) es
+  pub start-fresh : (cs : List Context) (es : List Entry) → All (Fresh cs (scan-start k time cpu h cs)) es
   start-fresh cs [] = tt
   start-fresh cs (e ∷ es) = ((refl, refl), start-fresh cs es)
 
   pub scan-best : (cs : List Context) (q : List Entry) → Distinct q
-      → (scan p now cpu h cs q) .eligible-best ≡ first (λ e. is-ready-in p now cpu cs e && on-time e) q
+      → (scan k time cpu h cs q) .eligible-best ≡ first (λ e. is-ready-in k time cpu cs e && on-time e) q
   unfolding scan
-  scan-best cs q d = walk-best cs (scan-start p now cpu h cs) q refl d (start-fresh cs q)
+  scan-best cs q d = scan-best-from cs (scan-start k time cpu h cs) q refl d (start-fresh cs q)
 
-  pub scan-late : (cs : List Context) (q : List Entry) → Distinct q → (scan p now cpu h cs q) .eligible-best ≡ none
-      → (scan p now cpu h cs q) .ineligible-best ≡ least h (λ e. is-ready-in p now cpu cs e && not (on-time e)) none q
+  pub scan-late : (cs : List Context) (q : List Entry) → Distinct q → (scan k time cpu h cs q) .eligible-best ≡ none
+      → (scan k time cpu h cs q) .ineligible-best ≡ least h (λ e. is-ready-in k time cpu cs e && not (on-time e)) none q
   unfolding scan
-  scan-late cs q d n = walk-late cs (scan-start p now cpu h cs) q refl d (start-fresh cs q) (sym (scan-best cs q d) ∙ n)
+  scan-late cs q d n = scan-late-from cs (scan-start k time cpu h cs) q refl d (start-fresh cs q) (sym (scan-best cs q d) ∙ n)
 
-  -- the walk with an early exit is the fold
-  unfoldable pub walk : Scan → List Entry → Scan
-  walk s [] = s
-  walk s (e ∷ es) = if is-some ((scan-step p now cpu h s e) .eligible-best) then scan-step p now cpu h s e else walk (scan-step p now cpu h s e) es
+  -- the scan-until-found with an early exit is the fold
+  unfoldable pub scan-until-found : Scan → List Entry → Scan
+  scan-until-found s [] = s
+  scan-until-found s (e ∷ es) = if is-some ((scan-step k time cpu h s e) .eligible-best) then scan-step k time cpu h s e else scan-until-found (scan-step k time cpu h s e) es
 
-  pub walk-is-fold : (s : Scan) (es : List Entry) → walk s es ≡ fold (scan-step p now cpu h) s es
-  unfolding walk
-  walk-is-fold s [] = refl
-  walk-is-fold s (e ∷ es) =
-      by-test (is-some ((scan-step p now cpu h s e) .eligible-best)) (λ t. rw t (sym (found-stays (scan-step p now cpu h s e) es t))) (λ t. rw t (walk-is-fold (scan-step p now cpu h s e) es))
+  pub scan-until-found-is-fold : (s : Scan) (es : List Entry) → scan-until-found s es ≡ fold (scan-step k time cpu h) s es
+  unfolding scan-until-found
+  scan-until-found-is-fold s [] = refl
+  scan-until-found-is-fold s (e ∷ es) =
+      by-test (is-some ((scan-step k time cpu h s e) .eligible-best)) (λ t. rw t (sym (found-stays (scan-step k time cpu h s e) es t))) (λ t. rw t (scan-until-found-is-fold (scan-step k time cpu h s e) es))

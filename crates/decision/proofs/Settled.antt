@@ -20,12 +20,12 @@ use Rattle.decision.specs.Steal.{Stealing, mark-stealable}
 use Rattle.decision.specs.SwitchTo.{advance, requeue}
 use Rattle.decision.specs.Decision.{settled}
 use Rattle.decision.specs.Tidy.{Sound, Tidy, Present}
-use Rattle.decision.proofs.Cases.{by-test, never, pick, and-both}
+use Rattle.decision.proofs.Cases.{by-test, never, pick, and-both, and-true}
 use Rattle.decision.proofs.Lists.{In}
 use Rattle.decision.proofs.Sorted.{in-insert}
 use Rattle.decision.proofs.Queues.{Inv, inv-free, set-view, gone-of, on, Has, Without}
 use Rattle.decision.proofs.Moves.{no-key, inv-put, has-put, has-new}
-use Rattle.decision.proofs.Before.{Seat, seat, queues, Free}
+use Rattle.decision.proofs.Before.{Roles, roles, queues, Free}
 use Rattle.decision.proofs.Dequeued.{Winner}
 use Rattle.decision.proofs.CpuQueues.{queue-list}
 
@@ -48,11 +48,11 @@ module _ (k : ℕ) (M : Machine) where
 module _ (k : ℕ) (M : Machine) (S : Sound M) (T : Tidy M) (P : Present M k) (runs : Bool) (n : ℕ) (l : Stealing)
     (kept : Inv (Free M) (M .contexts) (l .state .contexts) (on k (l .state .cpu .queue) (queue-list (l .cpus))))
     (win : (x : ℕ) → l .winner ≡ some x → Winner (Free M) (M .contexts) k (queues M) x (l .state .contexts) (on k (l .state .cpu .queue) (queue-list (l .cpus))))
-    (sat : seat (l .state .cpu) ≡ seat (cpu-at M k)) (awake : runs ≡ true → (cpu-at M k) .block .«sched_ctxt» ≢ (cpu-at M k) .block .«idle_ctxt») where
+    (roles-are : roles (l .state .cpu) ≡ roles (cpu-at M k)) (awake : runs ≡ true → (cpu-at M k) .block .«sched_ctxt» ≢ (cpu-at M k) .block .«idle_ctxt») where
   pub record Settled (s : State) : Type 0 where
     pub inv : Inv (Fit k M (successor k M runs (l .winner))) (M .contexts) (s .contexts) (on k (s .cpu .queue) (queue-list (l .cpus)))
     pub status : (y : ℕ) → (at s y) .status ≡ (at (l .state) y) .status
-    pub sits : seat (s .cpu) ≡ seat (cpu-at M k)
+    pub roles-kept : roles (s .cpu) ≡ roles (cpu-at M k)
     pub has : (y : ℕ) → Has y (on k (l .state .cpu .queue) (queue-list (l .cpus))) → Has y (on k (s .cpu .queue) (queue-list (l .cpus)))
     pub here : (d : Entry) → In d (s .cpu .queue) → In d (l .state .cpu .queue) ⊎ (d .«context_ref» ≡ (cpu-at M k) .block .«sched_ctxt»)
     pub total : s .cpu .block .«total_weight» ≡ l .state .cpu .block .«total_weight»
@@ -63,7 +63,7 @@ module _ (k : ℕ) (M : Machine) (S : Sound M) (T : Tidy M) (P : Present M k) (r
   record Advanced (s : State) : Type 0 where
     pub inv : Inv (Fit k M (successor k M runs (l .winner))) (M .contexts) (s .contexts) (on k (s .cpu .queue) (queue-list (l .cpus)))
     pub status : (y : ℕ) → (at s y) .status ≡ (at (l .state) y) .status
-    pub sits : seat (s .cpu) ≡ seat (cpu-at M k)
+    pub roles-kept : roles (s .cpu) ≡ roles (cpu-at M k)
     pub has : (y : ℕ) → Has y (on k (l .state .cpu .queue) (queue-list (l .cpus))) → Has y (on k (s .cpu .queue) (queue-list (l .cpus)))
     pub here : (d : Entry) → In d (s .cpu .queue) → In d (l .state .cpu .queue)
     pub total : s .cpu .block .«total_weight» ≡ l .state .cpu .block .«total_weight»
@@ -92,7 +92,7 @@ module _ (k : ℕ) (M : Machine) (S : Sound M) (T : Tidy M) (P : Present M k) (r
       (λ t. rw t (record {
         inv = i₁;
         status = λ y. refl;
-        sits = sat;
+        roles-kept = roles-are;
         has = λ y h. h;
         here = λ d i. i;
         total = refl;
@@ -102,7 +102,7 @@ module _ (k : ℕ) (M : Machine) (S : Sound M) (T : Tidy M) (P : Present M k) (r
       (λ t. rw t (record {
         inv = i₁;
         status = λ y. refl;
-        sits = sat;
+        roles-kept = roles-are;
         has = λ y h. h;
         here = λ d i. i;
         total = refl;
@@ -114,7 +114,7 @@ module _ (k : ℕ) (M : Machine) (S : Sound M) (T : Tidy M) (P : Present M k) (r
       i₁ = inv-free (Free M) (M .contexts) (Fit k M (successor k M runs (l .winner))) (l .state .contexts) _ (fits (l .winner) refl) kept
 
       out₁ : Without (l .state .cpu .block .«sched_ctxt») (on k (l .state .cpu .queue) (queue-list (l .cpus)))
-      out₁ e i h m = (kept .free e i h) .not-in-charge k P (m ∙ ap (λ (z : Seat). z .sched) sat)
+      out₁ e i h m = (kept .free e i h) .not-in-charge k P (m ∙ ap (λ (z : Roles). z .sched) roles-are)
 
   -- the holder may be queued where another wins
   holder-fits : (o : Option ℕ) → l .winner ≡ o → is-some o ≡ true → runs ≡ true → Fit k M (successor k M runs o) ((cpu-at M k) .block .«sched_ctxt»)
@@ -135,7 +135,7 @@ module _ (k : ℕ) (M : Machine) (S : Sound M) (T : Tidy M) (P : Present M k) (r
             (record { has-key = refl; key-vd = refl; key-rem-slice = refl; vd = refl; rem-slice = refl; vtime = refl })
             (rw is-h (holder-fits (l .winner) refl t r));
         status = λ y. set-view (λ (c : Context). c .status) (s .contexts) h (with-new-key (holder s)) refl y ∙ a .status y;
-        sits = a .sits;
+        roles-kept = a .roles-kept;
         has = λ y b. has-put G (M .contexts) (s .contexts) k (s .cpu .queue) (queue-list (l .cpus)) (a .inv) h e q refl refl (a .out) y (a .has y b);
         here = λ d i. came d (in-insert entry-before e d (s .cpu .queue) i);
         total = a .total;
@@ -154,7 +154,7 @@ module _ (k : ℕ) (M : Machine) (S : Sound M) (T : Tidy M) (P : Present M k) (r
       e = entry-of (s .cpu .block .«sched_ctxt») (weight ((holder s) .prio)) (holder s)
 
       is-h : s .cpu .block .«sched_ctxt» ≡ (cpu-at M k) .block .«sched_ctxt»
-      is-h = ap (λ (z : Seat). z .sched) (a .sits)
+      is-h = ap (λ (z : Roles). z .sched) (a .roles-kept)
 
       q : s .cpu .block .«sched_ctxt» < length (s .contexts)
       q = rw (a .inv .count, is-h) (S .in-charge-is k P)
@@ -169,7 +169,7 @@ module _ (k : ℕ) (M : Machine) (S : Sound M) (T : Tidy M) (P : Present M k) (r
       came d (inr i) = inl (a .here d i)
 
   marked : (s : State) → Settled s → Settled (on-cpu mark-stealable s)
-  marked s a = record { inv = a .inv; status = a .status; sits = a .sits; has = a .has; here = a .here; total = a .total; v = a .v; back = a .back }
+  marked s a = record { inv = a .inv; status = a .status; roles-kept = a .roles-kept; has = a .has; here = a .here; total = a .total; v = a .v; back = a .back }
 
   pub settles : (time : ℕ) → Settled (settled k time runs n l)
   unfolding settled
@@ -179,10 +179,10 @@ module _ (k : ℕ) (M : Machine) (S : Sound M) (T : Tidy M) (P : Present M k) (r
       (λ t. record {
         inv = advanced .inv;
         status = advanced .status;
-        sits = advanced .sits;
+        roles-kept = advanced .roles-kept;
         has = advanced .has;
         here = λ d i. inl (advanced .here d i);
         total = advanced .total;
         v = advanced .v;
-        back = λ a b. never {b = false} (sym t ∙ Rattle.decision.proofs.Cases.and-true (is-some (l .winner)) runs a b) refl;
+        back = λ a b. never {b = false} (sym t ∙ and-true (is-some (l .winner)) runs a b) refl;
       }))

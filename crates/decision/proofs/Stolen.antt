@@ -20,50 +20,50 @@ use Rattle.decision.proofs.Before.{queues, Free}
 use Rattle.decision.proofs.Dequeued.{Winner}
 use Rattle.decision.proofs.Candidates.{candidates-taking, candidates-in, target-is-other}
 use Rattle.decision.proofs.CpuQueues.{stealable-present}
-use Rattle.decision.proofs.Theft.{start, Kept, Theft, nothing, robbed, start-kept, theft-after}
+use Rattle.decision.proofs.Robbed.{start, Kept, StealResult, nothing, robbed, start-kept, result-after}
 
 module _ (k : ℕ) (M : Machine) (runs : Bool) (locked : List ℕ) (w : Option ℕ) (C : State) where
-  abbrev begun : Stealing
-  begun = start k M runs locked w C
+  abbrev begin : Stealing
+  begin = start k M runs locked w C
 
-  abbrev Thefts : Stealing → Type 0
-  Thefts x = Theft k M runs locked w C x
+  abbrev Results : Stealing → Type 0
+  Results x = StealResult k M runs locked w C x
 
   module _ (n : Inv (Free M) (M .contexts) (C .contexts) (on k (C .cpu .queue) (queues M)))
       (win : (x : ℕ) → w ≡ some x → Winner (Free M) (M .contexts) k (queues M) x (C .contexts) (on k (C .cpu .queue) (queues M))) where
-    theft-entries : (t : ℕ) → t ≢ k → (getD (M .cpus) t no-cpu) .block .present ≡ true → (es : List Entry) → Sorted entry-before es
+    result-entries : (t : ℕ) → t ≢ k → (getD (M .cpus) t no-cpu) .block .present ≡ true → (es : List Entry) → Sorted entry-before es
         → ((d : Entry) → In d es → In d (queues M t)) → ((d : Entry) → In d es → (context-at (C .contexts) (d .«context_ref»)) .gone ≡ false)
-        → Thefts (steal-entries runs begun t (getD (M .cpus) t no-cpu) es)
+        → Results (steal-entries runs begin t (getD (M .cpus) t no-cpu) es)
     unfolding steal-entries
-    theft-entries t o pr [] s f l = nothing refl
-    theft-entries t o pr (e ∷ es) s f l = theft-after k M runs locked w C n win t o pr e es s f l
+    result-entries t o pr [] s f l = nothing refl
+    result-entries t o pr (e ∷ es) s f l = result-after k M runs locked w C n win t o pr e es s f l
 
-    theft-start : (t : ℕ) → t ≢ k → Thefts (steal-from k runs locked begun t)
+    result-start : (t : ℕ) → t ≢ k → Results (steal-from k runs locked begin t)
     unfolding steal-from cpu-at
-    theft-start t o =
-        pick Thefts (begun .done || not (can-steal-from (begun .state) (getD (M .cpus) t no-cpu))) (λ u. nothing refl)
-        (λ u. let pr = stealable-present (begun .state) (getD (M .cpus) t no-cpu) (not-is-false _ u) in
+    result-start t o =
+        pick Results (begin .done || not (can-steal-from (begin .state) (getD (M .cpus) t no-cpu))) (λ u. nothing refl)
+        (λ u. let pr = stealable-present (begin .state) (getD (M .cpus) t no-cpu) (not-is-false _ u) in
         let so : Sorted entry-before ((getD (M .cpus) t no-cpu) .queue) = rw (ne-eqb t k o) at (n .sorted t) in
-        let ta = candidates-taking k locked (C .contexts) w (want (begun .state) (getD (M .cpus) t no-cpu)) ((getD (M .cpus) t no-cpu) .queue) so in
-        theft-entries t o pr _ (ta .sorted)
-        (candidates-in k locked (C .contexts) w (want (begun .state) (getD (M .cpus) t no-cpu)) ((getD (M .cpus) t no-cpu) .queue)) (ta .alive))
+        let ta = candidates-taking k locked (C .contexts) w (want (begin .state) (getD (M .cpus) t no-cpu)) ((getD (M .cpus) t no-cpu) .queue) so in
+        result-entries t o pr _ (ta .sorted)
+        (candidates-in k locked (C .contexts) w (want (begin .state) (getD (M .cpus) t no-cpu)) ((getD (M .cpus) t no-cpu) .queue)) (ta .alive))
 
-    theft-step : (l : Stealing) (t : ℕ) → t ≢ k → Thefts l → Thefts (steal-from k runs locked l t)
+    result-step : (l : Stealing) (t : ℕ) → t ≢ k → Results l → Results (steal-from k runs locked l t)
     unfolding steal-from
-    theft-step l t o (nothing p) = subst (λ z. Thefts (steal-from k runs locked z t)) (sym p) (theft-start t o)
-    theft-step l t o (robbed d u e es b) =
-        pick Thefts (l .done || not (can-steal-from (l .state) (getD (l .cpus) t no-cpu))) (λ z. robbed d u e es b)
+    result-step l t o (nothing p) = subst (λ z. Results (steal-from k runs locked z t)) (sym p) (result-start t o)
+    result-step l t o (robbed d u e es b) =
+        pick Results (l .done || not (can-steal-from (l .state) (getD (l .cpus) t no-cpu))) (λ z. robbed d u e es b)
         (λ z. never d ((or-neither (l .done) _ z) .0))
 
-    pub theft : k < length (M .cpus) → Thefts (steal k runs locked (M .cpus) w C)
+    pub steal-result : k < length (M .cpus) → Results (steal k runs locked (M .cpus) w C)
     unfolding steal
-    theft r =
-        pick Thefts (should-steal C w)
-        (λ u. fold-keeps-in Thefts (steal-from k runs locked) (targets k (length (M .cpus)))
-        (λ l t i b. theft-step l t (target-is-other k (length (M .cpus)) t r i) b) begun (nothing refl))
+    steal-result r =
+        pick Results (should-steal C w)
+        (λ u. fold-keeps-in Results (steal-from k runs locked) (targets k (length (M .cpus)))
+        (λ l t i b. result-step l t (target-is-other k (length (M .cpus)) t r i) b) begin (nothing refl))
         (λ u. nothing refl)
 
     -- whatever was stolen
-    pub theft-kept : (l : Stealing) → Thefts l → (Kept k M runs locked w C) l
-    theft-kept l (nothing p) = subst (Kept k M runs locked w C) (sym p) (start-kept k M runs locked w C n win)
-    theft-kept l (robbed d t e es b) = b .kept
+    pub result-kept : (l : Stealing) → Results l → (Kept k M runs locked w C) l
+    result-kept l (nothing p) = subst (Kept k M runs locked w C) (sym p) (start-kept k M runs locked w C n win)
+    result-kept l (robbed d t e es b) = b .kept

@@ -16,7 +16,7 @@ use Rattle.decision.specs.Tidy.{Sound, Tidy, Present, Queued, InCharge, 
 use Rattle.decision.proofs.Cases.{by-test, never}
 use Rattle.decision.proofs.Lists.{In}
 use Rattle.decision.proofs.Queues.{Fixed, Inv, on, agrees-run}
-use Rattle.decision.proofs.Before.{Seat, seat, queues}
+use Rattle.decision.proofs.Before.{Roles, roles, queues}
 use Rattle.decision.proofs.CpuQueues.{queue-list}
 use Rattle.decision.proofs.Settled.{Fit}
 use Rattle.decision.proofs.Ended.{Lasting, lasting, Standing, standing, Finished}
@@ -26,9 +26,9 @@ module _ (k time : ℕ) (M : Machine) (S : Sound M) (T : Tidy M) (P : Present M 
   -- the end of the call, as far as tidy needs it
   pub record Ending : Type 0 where
     pub inv : Inv (Fit k M c) (M .contexts) (s .contexts) (on k (s .cpu .queue) (queue-list cpus))
-    pub sits : seat (s .cpu) ≡ seat (cpu-at M k)
+    pub roles-kept : roles (s .cpu) ≡ roles (cpu-at M k)
     pub count : length cpus ≡ length (M .cpus)
-    pub others : (i : ℕ) → i ≢ k → seat (getD cpus i no-cpu) ≡ seat (cpu-at M i)
+    pub others : (i : ℕ) → i ≢ k → roles (getD cpus i no-cpu) ≡ roles (cpu-at M i)
     pub absent : (i : ℕ) → (cpu-at M i) .block .present ≡ false → queue-list cpus i ≡ queues M i
     pub finished : Finished k time s c cpus M′
     pub not-elsewhere : (j : ℕ) → Present M j → j ≢ k → c ≢ (cpu-at M j) .block .«sched_ctxt»
@@ -53,7 +53,7 @@ module _ (k time : ℕ) (M : Machine) (S : Sound M) (T : Tidy M) (P : Present M 
     sched-here = ap (λ (p : Cpu). p .block .«sched_ctxt») cpu-here ∙ z .finished .ends .in-charge
 
     pub sched-there : (i : ℕ) → i ≢ k → (cpu-at M′ i) .block .«sched_ctxt» ≡ (cpu-at M i) .block .«sched_ctxt»
-    sched-there i n = ap (λ (p : Cpu). p .block .«sched_ctxt») (cpu-there i n) ∙ ap (λ (q : Seat). q .sched) (z .others i n)
+    sched-there i n = ap (λ (p : Cpu). p .block .«sched_ctxt») (cpu-there i n) ∙ ap (λ (q : Roles). q .sched) (z .others i n)
 
     pub queue-is : (i : ℕ) → (cpu-at M′ i) .queue ≡ on k (s .cpu .queue) (queue-list cpus) i
     queue-is i =
@@ -64,15 +64,15 @@ module _ (k time : ℕ) (M : Machine) (S : Sound M) (T : Tidy M) (P : Present M 
     present-is i =
         by-test (eqb i k)
         (λ t. subst (λ j. (cpu-at M′ j) .block .present ≡ (cpu-at M j) .block .present) (sym (eqb-true i k t))
-        (ap (λ (q : Standing). q .present) here-stands ∙ ap (λ (q : Seat). q .present) (z .sits)))
-        (λ t. ap (λ (p : Cpu). p .block .present) (cpu-there i (eqb-false i k t)) ∙ ap (λ (q : Seat). q .present) (z .others i (eqb-false i k t)))
+        (ap (λ (q : Standing). q .present) here-stands ∙ ap (λ (q : Roles). q .present) (z .roles-kept)))
+        (λ t. ap (λ (p : Cpu). p .block .present) (cpu-there i (eqb-false i k t)) ∙ ap (λ (q : Roles). q .present) (z .others i (eqb-false i k t)))
 
     pub idle-is : (i : ℕ) → (cpu-at M′ i) .block .«idle_ctxt» ≡ (cpu-at M i) .block .«idle_ctxt»
     idle-is i =
         by-test (eqb i k)
         (λ t. subst (λ j. (cpu-at M′ j) .block .«idle_ctxt» ≡ (cpu-at M j) .block .«idle_ctxt») (sym (eqb-true i k t))
-        (ap (λ (q : Standing). q .idle) here-stands ∙ ap (λ (q : Seat). q .idle) (z .sits)))
-        (λ t. ap (λ (p : Cpu). p .block .«idle_ctxt») (cpu-there i (eqb-false i k t)) ∙ ap (λ (q : Seat). q .idle) (z .others i (eqb-false i k t)))
+        (ap (λ (q : Standing). q .idle) here-stands ∙ ap (λ (q : Roles). q .idle) (z .roles-kept)))
+        (λ t. ap (λ (p : Cpu). p .block .«idle_ctxt») (cpu-there i (eqb-false i k t)) ∙ ap (λ (q : Roles). q .idle) (z .others i (eqb-false i k t)))
 
     was-present : (i : ℕ) → Present M′ i → Present M i
     was-present i p = sym (present-is i) ∙ p
@@ -105,7 +105,7 @@ module _ (k time : ℕ) (M : Machine) (S : Sound M) (T : Tidy M) (P : Present M 
     h = (cpu-at M k) .block .«sched_ctxt»
 
     is-h : s .cpu .block .«sched_ctxt» ≡ (cpu-at M k) .block .«sched_ctxt»
-    is-h = ap (λ (q : Seat). q .sched) (z .sits)
+    is-h = ap (λ (q : Roles). q .sched) (z .roles-kept)
 
     -- a fact of who is in charge of a present CPU, here and elsewhere
     sched-cases : (Q : ℕ → ℕ → Type 0) (i : ℕ) → Present M′ i → Q k c → (i ≢ k → Present M i → Q i ((cpu-at M i) .block .«sched_ctxt»)) → Q i ((cpu-at M′ i) .block .«sched_ctxt»)

@@ -40,7 +40,7 @@ use Rattle.decision.specs.Accepted.{Served, by-timer, by-name, ServesOwn
 use Rattle.decision.proofs.Cases.{by-test, never}
 use Rattle.decision.proofs.Lists.{In, fold-keeps-in, in-map, in-append, in-keep}
 use Rattle.decision.proofs.Queues.{Fixed, fixed, on, Has, inv-same, gone-of}
-use Rattle.decision.proofs.Before.{Seat, seat, queues, Free, Kept, is-queued, start-kept}
+use Rattle.decision.proofs.Before.{Roles, roles, queues, Free, Kept, is-queued, start-kept}
 use Rattle.decision.proofs.Entering.{Unkeyed, unkeyed, Entered, re-entered}
 use Rattle.decision.proofs.WakeupCases.{woken-run, woken-fixed, every-wakeup, asked, woke, Asked, wakeup-cases, Enters, enters}
 
@@ -48,7 +48,7 @@ module _ (k time : ℕ) (M : Machine) (S : Sound M) (T : Tidy M) where
   -- the state before the choice, all along
   pub record Waking (s : State) : Type 0 where
     pub kept : Kept M k s
-    pub sits : seat (s .cpu) ≡ seat (cpu-at M k)
+    pub roles-kept : roles (s .cpu) ≡ roles (cpu-at M k)
     pub v : s .cpu .block .v ≡ (cpu-at M k) .block .v
     pub has : (y : ℕ) → Has y (queues M) → Has y (on k (s .cpu .queue) (queues M))
 
@@ -82,8 +82,8 @@ module _ (k time : ℕ) (M : Machine) (S : Sound M) (T : Tidy M) where
           record { range = rw m (S .name-is x k j); served = λ g o n. by-name (rw m j) o }
 
   put-back-waking : (o : Option ℕ) (x : ℕ) (s : State) → Waking s → Waking (put-back o x s)
-  put-back-waking none x s n = record { kept = n .kept; sits = n .sits; v = n .v; has = n .has }
-  put-back-waking (some t) x s n = record { kept = n .kept; sits = n .sits; v = n .v; has = n .has }
+  put-back-waking none x s n = record { kept = n .kept; roles-kept = n .roles-kept; v = n .v; has = n .has }
+  put-back-waking (some t) x s n = record { kept = n .kept; roles-kept = n .roles-kept; v = n .v; has = n .has }
 
   -- no in-charge and no idle context enters
   enters-free : (s : State) (x : ℕ) (c : Context) → Waking s → fixed c ≡ fixed (at s x) → Enters c → Free M x
@@ -115,7 +115,7 @@ module _ (k time : ℕ) (M : Machine) (S : Sound M) (T : Tidy M) where
         r = rw (n .kept .count) (m .range)
 
         not-holder : w .«context_ref» ≢ (cpu-at M k) .block .«sched_ctxt»
-        not-holder z = eqb-false (w .«context_ref») (s .cpu .block .«sched_ctxt») (a .other) (z ∙ sym (ap (λ (y : Seat). y .sched) (n .sits)))
+        not-holder z = eqb-false (w .«context_ref») (s .cpu .block .«sched_ctxt») (a .other) (z ∙ sym (ap (λ (y : Roles). y .sched) (n .roles-kept)))
 
         here : (d : Entry) (i : ℕ) → In d (on k (s .cpu .queue) (queues M) i) → d .«context_ref» ≡ w .«context_ref» → i ≡ k
         here d i h z =
@@ -134,14 +134,14 @@ module _ (k time : ℕ) (M : Machine) (S : Sound M) (T : Tidy M) where
     unfolding enter
     enter-waking s w n m a l e =
         let b = enter-entered s w n m a l e in
-        record { kept = b .inv; sits = n .sits; v = n .v; has = λ y h. b .has y (n .has y h) }
+        record { kept = b .inv; roles-kept = n .roles-kept; v = n .v; has = λ y h. b .has y (n .has y h) }
 
     woken-waking : (s : State) (w : Wakeup) → Waking s → Waking (wake-as s w (woken-only (woke s w)))
     unfolding wake-as
     woken-waking s w n =
         record {
           kept = inv-same (Free M) (M .contexts) (s .contexts) _ (w .«context_ref») (woke s w) (woken-run (w .wake) (asked s w)) (woken-fixed (w .wake) (asked s w)) (n .kept);
-          sits = n .sits;
+          roles-kept = n .roles-kept;
           v = n .v;
           has = n .has;
         }
@@ -156,7 +156,7 @@ module _ (k time : ℕ) (M : Machine) (S : Sound M) (T : Tidy M) where
     start-waking =
         record {
           kept = start-kept M S T k;
-          sits = refl;
+          roles-kept = refl;
           v = refl;
           has = λ y (e, i, h, p). (e, i, by-test (eqb i k) (λ t. rw t (subst (λ j. In e (queues M j)) (eqb-true i k t) h)) (λ t. rw t h), p);
         }

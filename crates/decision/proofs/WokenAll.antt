@@ -36,7 +36,7 @@ use Rattle.decision.specs.Accepted.{ServesOwn}
 use Rattle.decision.proofs.Cases.{by-test, never, pick, and-true, not-is-true, not-is-false}
 use Rattle.decision.proofs.Lists.{In}
 use Rattle.decision.proofs.Queues.{on, Has}
-use Rattle.decision.proofs.Before.{Seat, queues}
+use Rattle.decision.proofs.Before.{Roles, queues}
 use Rattle.decision.proofs.WakeupCases.{asked, woke, Asked, wakeup-cases, enters}
 use Rattle.decision.proofs.Woken.{Waking, Named, serve-waking, enter-entered}
 
@@ -95,7 +95,7 @@ module _ (k time : ℕ) (M : Machine) (S : Sound M) (T : Tidy M) (own : ServesOw
       (record {
         live = able .live;
         unlocked = able .unlocked;
-        not-in-charge = λ z. able .not-in-charge (z ∙ ap (λ (q : Seat). q .sched) (n .sits));
+        not-in-charge = λ z. able .not-in-charge (z ∙ ap (λ (q : Roles). q .sched) (n .roles-kept));
         not-scheduled = able .not-scheduled;
         userspace = able .userspace;
         not-running = go (able .not-running);
@@ -103,7 +103,7 @@ module _ (k time : ℕ) (M : Machine) (S : Sound M) (T : Tidy M) (own : ServesOw
     where
       go : ((context M x) .running ≡ false) ⊎ (x ≡ (cpu-at M k) .block .«current_ctxt») → ((context M x) .running ≡ false) ⊎ (x ≡ s .cpu .block .«current_ctxt»)
       go (inl z) = inl z
-      go (inr z) = inr (z ∙ sym (ap (λ (q : Seat). q .current) (n .sits)))
+      go (inr z) = inr (z ∙ sym (ap (λ (q : Roles). q .current) (n .roles-kept)))
 
   -- a wake-up of x: x enters, or its record stays as it was because it is not woken
   module _ (s : State) (w : Wakeup) (m : Named k time M S T w) (n : Waking k time M S T s) (z : w .«context_ref» ≡ x) (p : at s x ≡ context M x) where

@@ -13,8 +13,9 @@ use Rattle.decision.specs.Opened.{opened}
 use Rattle.decision_cases.specs.Starred.{idler, worker, queued, start}
 use Rattle.decision_cases.specs.Stray.{stray}
 use Rattle.decision.specs.Decision.{switch}
-use Rattle.decision.specs.Tidy.{Sound, Tidy, Agrees, Queued, InCharge, Present, Live, IsContext, context}
+use Rattle.decision.specs.Tidy.{Sound, Tidy, Agrees, Queued, InCharge, Present, Live, IsContext, context, Sorted}
 use Rattle.decision.specs.Accepted.{Accepted, by-switch, by-name, ServesOwn}
+use Rattle.run_queue.specs.Order.{entry-before}
 use Rattle.decision.proofs.Cases.{never}
 
 here : (i : ℕ) → Present stray i → (i ≡ 0) ⊎ (i ≡ 1)
@@ -83,7 +84,7 @@ stray-sound =
     name x (suc zero) h = absurd h
     name x (suc (suc i)) h = absurd h
 
-    rise : (i : ℕ) → Rattle.decision.specs.Tidy.Sorted Rattle.run_queue.specs.Order.entry-before ((cpu-at stray i) .queue)
+    rise : (i : ℕ) → Sorted entry-before ((cpu-at stray i) .queue)
     rise zero = tt
     rise (suc zero) = (tt, tt)
     rise (suc (suc i)) = tt

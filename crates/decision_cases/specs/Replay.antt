@@ -20,6 +20,10 @@ pub record KernelCase : Type 0 where
   pub before : List ℕ
   pub after : List ℕ
 
+abbrev pub called : (op cpu time ctx : ℕ) (full : Bool) (result : ℕ) (before after : List ℕ) → KernelCase
+called op cpu time ctx full result before after =
+    record { op = op; cpu = cpu; time = time; ctx = ctx; full = full; result = result; before = before; after = after }
+
 -- n zeros before l
 unfoldable pub zeros : ℕ → List ℕ → List ℕ
 zeros zero l = l

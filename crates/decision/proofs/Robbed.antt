@@ -21,7 +21,7 @@ use Rattle.decision.proofs.Cases.{by-test, never, pick}
 use Rattle.decision.proofs.Lists.{In}
 use Rattle.decision.proofs.Sorted.{Sorted}
 use Rattle.decision.proofs.Queues.{Inv, inv-ext, on, Has, gone-of}
-use Rattle.decision.proofs.Before.{seat, queues, Free}
+use Rattle.decision.proofs.Before.{roles, queues, Free}
 use Rattle.decision.proofs.Chosen.{distinct}
 use Rattle.decision.proofs.Dequeued.{Winner}
 use Rattle.decision.proofs.Moving.{Moved, lot-moved}
@@ -40,10 +40,10 @@ module _ (k : ℕ) (M : Machine) (runs : Bool) (locked : List ℕ) (w : Option �
     pub keeps : (x : ℕ) → w ≡ some x → l .winner ≡ some x
     pub has : (y : ℕ) → Has y (on k (C .cpu .queue) (queues M)) → Has y (on k (l .state .cpu .queue) (queue-list (l .cpus))) ⊎ (l .winner ≡ some y)
     pub status : (y : ℕ) → (at (l .state) y) .status ≡ (at C y) .status
-    pub sits : seat (l .state .cpu) ≡ seat (C .cpu)
+    pub roles-kept : roles (l .state .cpu) ≡ roles (C .cpu)
     pub v : l .state .cpu .block .v ≡ C .cpu .block .v
     pub count : length (l .cpus) ≡ length (M .cpus)
-    pub others : (i : ℕ) → i ≢ k → seat (getD (l .cpus) i no-cpu) ≡ seat (cpu-at M i)
+    pub others : (i : ℕ) → i ≢ k → roles (getD (l .cpus) i no-cpu) ≡ roles (cpu-at M i)
     pub absent : (i : ℕ) → (cpu-at M i) .block .present ≡ false → queue-list (l .cpus) i ≡ queues M i
 
   -- entries of CPU t were stolen, e the first
@@ -57,9 +57,9 @@ module _ (k : ℕ) (M : Machine) (runs : Bool) (locked : List ℕ) (w : Option �
     pub second : first-wins runs w ≡ false → l .winner ≡ w
     pub kept : Kept l
 
-  pub data Theft (l : Stealing) : Type 0 where
-    nothing : l ≡ start → Theft l
-    robbed : l .done ≡ true → (t : ℕ) (e : Entry) (es : List Entry) → Robbed l t e es → Theft l
+  pub data StealResult (l : Stealing) : Type 0 where
+    nothing : l ≡ start → StealResult l
+    robbed : l .done ≡ true → (t : ℕ) (e : Entry) (es : List Entry) → Robbed l t e es → StealResult l
 
   module _ (n : Inv (Free M) (M .contexts) (C .contexts) (on k (C .cpu .queue) (queues M)))
       (win : (x : ℕ) → w ≡ some x → Winner (Free M) (M .contexts) k (queues M) x (C .contexts) (on k (C .cpu .queue) (queues M))) where
@@ -72,7 +72,7 @@ module _ (k : ℕ) (M : Machine) (runs : Bool) (locked : List ℕ) (w : Option �
           keeps = λ x z. z;
           has = λ y h. inl h;
           status = λ y. refl;
-          sits = refl;
+          roles-kept = refl;
           v = refl;
           count = refl;
           others = λ i o. refl;
@@ -109,8 +109,8 @@ module _ (k : ℕ) (M : Machine) (runs : Bool) (locked : List ℕ) (w : Option �
             keeps = λ x z. z;
             has = λ y h. inl h;
             status = λ y. refl;
-            sits = refl;
-            victim-sits = refl;
+            roles-kept = refl;
+            victim-roles = refl;
             v = refl;
             here = λ d i. inl i;
           })
@@ -139,11 +139,11 @@ module _ (k : ℕ) (M : Machine) (runs : Bool) (locked : List ℕ) (w : Option �
             keeps = moved .keeps;
             has = λ y (d, i, g, p). back y (moved .has y (d, i, rw (own-queue i) g, p));
             status = moved .status;
-            sits = moved .sits;
+            roles-kept = moved .roles-kept;
             v = moved .v;
             count = length-set (M .cpus) t (mark-stealable (published (m .victim)));
             others = λ i z. by-test (eqb i t)
-                (λ u. rw (eqb-true i t u, getD-set-same (M .cpus) t (mark-stealable (published (m .victim))) no-cpu r) (moved .victim-sits))
+                (λ u. rw (eqb-true i t u, getD-set-same (M .cpus) t (mark-stealable (published (m .victim))) no-cpu r) (moved .victim-roles))
                 (λ u. rw (getD-set-other (M .cpus) t i (mark-stealable (published (m .victim))) no-cpu (eqb-false i t u)));
             absent = λ i z. by-test (eqb i t) (λ u. never pr (subst (λ j. (getD (M .cpus) j no-cpu) .block .present ≡ false) (eqb-true i t u) z))
                 (λ u. ap (λ (c : Cpu). c .queue) (getD-set-other (M .cpus) t i (mark-stealable (published (m .victim))) no-cpu (eqb-false i t u)));
@@ -176,8 +176,8 @@ module _ (k : ℕ) (M : Machine) (runs : Bool) (locked : List ℕ) (w : Option �
               same (move-entry runs z d) ds
               (pick (λ (y : Moving). y .winner ≡ w) (first-wins runs (z .winner)) (λ q. never q (ap (first-wins runs) p ∙ u)) (λ q. p))
 
-      pub theft-after : Theft (after-moving t (M .cpus) m)
+      pub result-after : StealResult (after-moving t (M .cpus) m)
       unfolding cpu-at
-      theft-after =
+      result-after =
           robbed refl t e es
           (record { other = o; present = pr; sorted = s; from = from; here = moved .here; first = first-won; second = none-won; kept = kept-after })
