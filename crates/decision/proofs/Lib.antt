@@ -34,3 +34,4 @@ pub mod Contested
 pub mod IdleLeft
 pub mod Ruled
 pub mod Demand
+pub mod NoRoom

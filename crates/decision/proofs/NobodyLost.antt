@@ -53,7 +53,7 @@ module _ (k time : ℕ) (M : Machine) (S : Sound M) (T : Tidy M) (P : Present M 
       q : Queued M′ e i
       q = queued k time M S T P (in-range k time M S T P own) (c k time M S T P own) (s k time M S T P own) (steal-of .cpus) M′ E e i g
 
-  pub nobody-lost : (x : ℕ) → IsContext M′ x → Live M′ x → Runnable M′ x → ((j : ℕ) → Idle M′ x j → ⊥) → QueuedOrInCharge k time M M′ x → Kept k time M M′ x
+  pub nobody-lost : (x : ℕ) → IsContext M′ x → Live M′ x → Runnable M′ x → ((j : ℕ) → Idle M′ x j → ⊥) → QueuedOrInCharge k time M x → Kept k time M M′ x
   nobody-lost x a live run idle w = go w
     where
       lasting-is : lasting (context M′ x) ≡ lasting (at (s k time M S T P own) x)
@@ -103,6 +103,6 @@ module _ (k time : ℕ) (M : Machine) (S : Sound M) (T : Tidy M) (P : Present M 
           (ap is-runnable (status-is ∙ chosen-after k time M S T P own .frame x (subst (λ z. Without z (on k ((J k time M S T P own) .cpu .queue) (queues M))) (is-sched ∙ m) (holder-out k time M S T P (J k time M S T P own) (waking k time M S T P own))))
           ∙ subst (λ z. is-runnable ((at (J k time M S T P own) z) .status) ≡ false) (is-sched ∙ m) u)))
 
-      go : QueuedOrInCharge k time M M′ x → Kept k time M M′ x
+      go : QueuedOrInCharge k time M x → Kept k time M M′ x
       go (was-queued e i q m) = after (chosen-after k time M S T P own .kept x (e, i, q .is-in, m))
       go (was-in-charge m) = holder m (runs k time M S T P own) (steal-of .winner) refl refl

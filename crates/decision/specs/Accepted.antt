@@ -50,7 +50,7 @@ module _ (k time : ℕ) (M : Machine) where
       not (eqb (here .block .«current_ctxt») x)
       && not (can-switch (update-runnable k time (eqb (here .block .«sched_ctxt») x) false (context M x))) && not switches-back
 
-  -- an accepted decision; the proof needs no other ground of refusal
+  -- an accepted decision, whatever locks are held and whatever the time: nothing else of what refusals 5 to 8 rule out is needed
   pub record Accepted (call : Call) : Type 0 where
     pub present : Present M k
     pub decision : decides call ≡ true

@@ -117,6 +117,11 @@ module _ (k time : ℕ) (M : Machine) where
     to-holder : HolderRunnable → b ≡ the-holder .vtime → LeastWaiting b → MovedTo b
     nowhere : NobodyWaits → b ≡ v-here → MovedTo b
 
+  -- queued anywhere, or in charge here
+  pub data QueuedOrInCharge (x : ℕ) : Type 0 where
+    was-queued : (e : Entry) (i : ℕ) → Queued M e i → e .«context_ref» ≡ x → QueuedOrInCharge x
+    was-in-charge : holder-number ≡ x → QueuedOrInCharge x
+
   module _ (M′ : Machine) where
     abbrev pub in-charge : ℕ
     in-charge = (cpu-at M′ k) .block .«sched_ctxt»
@@ -169,11 +174,6 @@ module _ (k time : ℕ) (M : Machine) where
       queued-once : (e : Entry) (i : ℕ) → Queued M′ e i → e .«context_ref» ≡ x
           → ((f : Entry) (j : ℕ) → Queued M′ f j → f .«context_ref» ≡ x → (f ≡ e) × (j ≡ i)) → ((j : ℕ) → InCharge M′ x j → ⊥) → Kept x
       put-in-charge : (i : ℕ) → InCharge M′ x i → ((e : Entry) (j : ℕ) → Queued M′ e j → e .«context_ref» ≢ x) → Kept x
-
-    -- queued anywhere, or in charge here
-    pub data QueuedOrInCharge (x : ℕ) : Type 0 where
-      was-queued : (e : Entry) (i : ℕ) → Queued M e i → e .«context_ref» ≡ x → QueuedOrInCharge x
-      was-in-charge : holder-number ≡ x → QueuedOrInCharge x
 
     pub record Demand3 : Type 0 where
       pub tidy : Tidy M′

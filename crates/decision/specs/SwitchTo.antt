@@ -86,8 +86,8 @@ module _ (k time : ℕ) where
   abbrev pub comes : Context → Context
   comes c = with-running true (with-cpu-id (k + 1) (with-switch-time time c))
 
-  abbrev pub runs : ℕ → Context → Cpu → Cpu
-  runs x c p =
+  abbrev pub becomes-current : ℕ → Context → Cpu → Cpu
+  becomes-current x c p =
       cpu-current-ctxt x
       (cpu-stats (stats-state (if c .userspace then User else Kernel) (p .block .stats))
       (cpu-inside-syscall (c .«inside_syscall») (cpu-being-sigkilled (c .«being_sigkilled») p)))
@@ -99,7 +99,7 @@ module _ (k time : ℕ) where
       let y = s .cpu .block .«current_ctxt» in
       let s₁ = put-context y (left (s .cpu) (at s y)) s in
       let c = comes (at s₁ x) in
-      on-cpu (runs x c) (put-context x c s₁)
+      on-cpu (becomes-current x c) (put-context x c s₁)
 
   -- back from the current context to the one in charge, if that can run
   unfoldable pub direct-switch-by : ℕ → State → UpdateResult → Option State
