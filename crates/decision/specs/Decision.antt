@@ -13,19 +13,13 @@ use Rattle.runnable.specs.Runnable.{update-runnable}
 use Rattle.percpu.specs.Cpu.{Cpu}
 use Rattle.percpu.specs.With.{cpu-pit-ticks, cpu-stats}
 use Rattle.machine.specs.Machine.{Machine}
+pub use Rattle.machine.specs.Outcome.{Outcome}
 use Rattle.decision.specs.State.{State, at, on-cpu, state-of, is-some, prev-runnable}
 use Rattle.decision.specs.Charging.{elapsed, was-idle, before-choice}
 use Rattle.decision.specs.Scan.{Scan, scan}
 use Rattle.decision.specs.Choice.{Choice, choice, chosen, ineligible-holder}
 use Rattle.decision.specs.Steal.{Stealing, steal, mark-stealable}
 use Rattle.decision.specs.SwitchTo.{advance, requeue, next-context, hand-over, switch-to, direct-switch-by, try-direct-switch-back}
-
--- what a call gives: the machine, the result, the interrupt mark, and whether an insertion found no room
-pub record Outcome : Type 0 where
-  pub machine : Machine
-  pub result : ℕ
-  pub interrupt : Bool
-  pub no-room : Bool
 
 -- the state of CPU k put back among the CPUs
 abbrev pub finish : ℕ → List Cpu → ℕ → State → Outcome
