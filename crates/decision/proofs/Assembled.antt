@@ -10,11 +10,11 @@ use borrow.Author.Tests.{eqb-true, eqb-false}
 use Rattle.ticks.specs.Ticks.{ticks}
 use Rattle.machine.specs.Machine.{Machine, context-at, cpu-at}
 use Rattle.decision.specs.State.{State, at, state-of, is-idle, prev-runnable}
-use Rattle.decision.specs.Charging.{was-idle}
+use Rattle.decision.specs.Charging.{was-idle, before-choice}
 use Rattle.decision.specs.Choice.{Choice, choice}
 use Rattle.decision.specs.Steal.{Stealing, steal}
 use Rattle.decision.specs.SwitchTo.{next-context}
-use Rattle.decision.specs.Decision.{locks, scanned, choose-and-steal, settled, picked-as, schedule, after-schedule}
+use Rattle.decision.specs.Decision.{locks, scanned, choose-and-steal, settled, selected, select-next-context, picked-as, schedule, after-schedule}
 use Rattle.decision.specs.Tidy.{Sound, Tidy, Present}
 use Rattle.decision.specs.Accepted.{ServesOwn}
 use Rattle.decision.specs.Demand3.{judged}
@@ -141,7 +141,7 @@ module _ (k time : ℕ) (M : Machine) (S : Sound M) (T : Tidy M) (P : Present M 
   at-home false none q j p m = T .one-idle k j P p m
 
   pub ending : Ending k time M S T P in-range c s (l .cpus) (scheduled-machine k time M)
-  unfolding schedule choose-and-steal
+  unfolding schedule select-next-context selected choose-and-steal before-choice
   ending =
       record {
         inv = is-settled .inv;

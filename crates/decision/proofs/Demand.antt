@@ -12,7 +12,7 @@ use Rattle.runnable.specs.Runnable.{update-runnable}
 use Rattle.percpu.specs.Cpu.{Cpu}
 use Rattle.machine.specs.Machine.{Machine, cpu-at}
 use Rattle.decision.specs.State.{State, at, state-of}
-use Rattle.decision.specs.Charging.{before-choice}
+use Rattle.decision.specs.Charging.{before-selection}
 use Rattle.decision.specs.SwitchTo.{direct-switch-by, try-direct-switch-back}
 use Rattle.decision.specs.Decision.{
   Outcome,
@@ -56,7 +56,7 @@ module _ (k time : ℕ) where
 
   -- the count of ticks makes no difference to `schedule`
   ticked-same : (cpus : List Cpu) (s : State) → schedule k time cpus (ticked k time s) ≡ schedule k time cpus s
-  unfolding schedule before-choice
+  unfolding schedule before-selection
   ticked-same cpus s = refl
 
   tick-decides : (M : Machine) → decides k time M by-tick ≡ true → (tick k time M) .machine ≡ scheduled-machine k time M
