@@ -91,4 +91,4 @@ module _ (k time : ℕ) where
 pub demand-3 : (call : Call) (k time : ℕ) (M : Machine) → Sound M → Tidy M → Accepted k time M call → ServesOwn k time M
     → Demand3 k time M ((outcome call k time M) .machine)
 demand-3 call k time M S T a own =
-    subst (λ M′. Demand3 k time M M′) (sym (call-decides k time call M (a .decision))) (demanded k time M S T (a .present) own)
+    subst (λ M′. Demand3 k time M M′) (sym (call-decides k time call M (a .decision))) (demanded (record { k = k; time = time; M = M; sound = S; tidy = T; present = a .present; own = own }))

@@ -27,7 +27,9 @@ pub mod Ended
 pub mod Settled
 pub mod TidyAfter
 pub mod ReadyIs
+pub mod Turn
 pub mod Assembled
+pub mod After
 pub mod Outcomes
 pub mod NobodyLost
 pub mod Contested
@@ -35,3 +37,4 @@ pub mod IdleLeft
 pub mod Ruled
 pub mod Demand
 pub mod NoRoom
+pub mod EarlyExit
