@@ -84,8 +84,8 @@ module _ (turn : Turn) where
   on-time-of : (e : Entry) → Ready k time M e → Eligible k time M e → is-on-time k time here e ≡ true
   on-time-of = both-on-time k time M S T (waking turn)
 
-  late : (v a b : ℕ) → v < a → a ≤ v → ⊥
-  late v a b x y = omega arith
+  late : (v a : ℕ) → v < a → a ≤ v → ⊥
+  late v a x y = omega arith
 
   -- V before the choice is that of the machine
   pub v-is : here .cpu .block .v ≡ (cpu-at M k) .block .v
@@ -96,7 +96,7 @@ module _ (turn : Turn) where
   eligible f a b = go (follows turn)
     where
       eligible-late : here .cpu .block .v < f .vtime → ⊥
-      eligible-late m = late (here .cpu .block .v) (f .vtime) 0 m (rw v-is b)
+      eligible-late m = late (here .cpu .block .v) (f .vtime) m (rw v-is b)
 
       go : Follows k time here (chose turn) → (e : Entry) × Contest k time M M′ e
       go (entry-first e i nb z v) = (
@@ -138,7 +138,7 @@ module _ (turn : Turn) where
       go (holder-least i r g z v) = stayed z r
       go (holder-by-deadline i r e g l′ b z v) = stayed z r
       go (entry-least i e g l′ z v) =
-          absurd (late (here .cpu .block .v) ((holder here) .vtime) 0 (i .holder (holder-runs k time M S T (waking turn) (a .runnable))) in-time)
+          absurd (late (here .cpu .block .v) ((holder here) .vtime) (i .holder (holder-runs k time M S T (waking turn) (a .runnable))) in-time)
       go (nobody-waits i r z v) = never (holder-runs k time M S T (waking turn) (a .runnable)) r
 
   -- nobody won before the stealing, and no holder runs: nobody waits

@@ -14,7 +14,7 @@ use Rattle.decision.specs.Opened.{opened}
 use Rattle.decision.specs.Decision.{switch}
 use Rattle.decision.specs.Tidy.{Sorted, Sound, Tidy, Agrees, Queued, InCharge, Present, Live, IsContext, context}
 use Rattle.decision.specs.Accepted.{Accepted, by-switch, Served, by-timer, by-name, ServesOwn}
-use Rattle.decision.specs.Demand3.{Demand3}
+use Rattle.decision.specs.Demand3.{Ready, Eligible, Demand3}
 use Rattle.decision.proofs.Cases.{never}
 use Rattle.decision.proofs.Demand.{demand-3}
 use Rattle.decision_cases.specs.Starred.{idler, worker, queued, start, worked}
@@ -123,3 +123,21 @@ worked-own x (by-name i o) = absurd i
 
 pub worked-demand : Demand3 0 2250000 worked ((switch 0 2250000 worked) .machine)
 worked-demand = demand-3 by-switch 0 2250000 worked worked-sound worked-tidy worked-accepted worked-own
+
+-- its entry is ready and eligible, so the least key of such entries is in charge, or the holder before it
+pub worked-ready : Ready 0 2250000 worked queued
+unfolding opened idler worker start worked
+worked-ready =
+    record {
+      is-in = inl refl;
+      alive = refl;
+      not-idle = λ z. omega arith;
+      not-in-charge = λ z. omega arith;
+      unlocked = refl;
+      addr-space-free = λ z. omega arith;
+      runnable = refl;
+    }
+
+pub worked-eligible : Eligible 0 2250000 worked queued
+unfolding opened start worked
+worked-eligible = omega arith
