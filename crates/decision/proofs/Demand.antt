@@ -31,7 +31,7 @@ use Rattle.decision.specs.Accepted.{Call, by-tick, by-switch, by-direct-
 use Rattle.decision.specs.Demand3.{Demand3}
 use Rattle.decision.proofs.Cases.{never, pick, and-both, not-is-true}
 use Rattle.decision.proofs.Assembled.{scheduled-machine}
-use Rattle.decision.proofs.Ruled.{demanded}
+use Rattle.decision.proofs.Decided.{demanded}
 
 module _ (k time : ℕ) where
   no-direct-switch : (x : ℕ) (s : State) (u : UpdateResult) → can-switch u ≡ false → direct-switch-by k time x s u ≡ none

@@ -35,6 +35,7 @@ pub mod NobodyLost
 pub mod Contested
 pub mod IdleLeft
 pub mod Ruled
+pub mod Decided
 pub mod Demand
 pub mod NoRoom
 pub mod EarlyExit

@@ -4,13 +4,13 @@ use mathlib.Core.Bool.{Bool, true, false, not}
 use mathlib.Core.Option.{Option, none, some}
 use mathlib.Core.Logic.{_⊎_, inl, inr}
 use Prim.Native.Nat.{ℕ}
-use borrow.Author.Tests.{eqb-true}
+use borrow.Author.Tests.{eqb-true, eq-eqb}
 use Rattle.context.specs.Status.{is-runnable}
 use Rattle.machine.specs.Machine.{Machine, cpu-at}
 use Rattle.decision.specs.State.{at, is-some, is-idle}
 use Rattle.decision.specs.Steal.{Stealing}
 use Rattle.decision.specs.Tidy.{Sound, Tidy, Present, Live, Runnable, Queued, Idle, IsContext, context}
-use Rattle.decision.specs.Demand3.{in-charge, Kept, queued-once, put-in-charge, QueuedOrInCharge, was-queued, was-in-charge}
+use Rattle.decision.specs.Demand3.{in-charge, Kept, queued-once, put-in-charge, QueuedOrInCharge, was-queued, was-in-charge, was-woken}
 use Rattle.decision.proofs.Turn.{Turn}
 use Rattle.decision.proofs.Cases.{by-test, never, and-true}
 use Rattle.decision.proofs.Queues.{gone-of, on, Has, Without}
@@ -21,6 +21,7 @@ use Rattle.decision.proofs.Settled.{successor}
 use Rattle.decision.proofs.Ended.{Lasting, lasting}
 use Rattle.decision.proofs.ScanKept.{Lost}
 use Rattle.decision.proofs.Assembled.{scheduled-machine, J, waking, chose, C, chosen-after, runs, l, kept, s, is-settled}
+use Rattle.decision.proofs.WokenHere.{woken-entry}
 use Rattle.decision.proofs.After.{tidied, in-charge-is, still-present, idle-same, lasts-after, queued-after}
 
 module _ (turn : Turn) where
@@ -115,5 +116,6 @@ module _ (turn : Turn) where
           ∙ subst (λ z. is-runnable ((at (J turn) z) .status) ≡ false) (is-sched ∙ m) u)))
 
       go : QueuedOrInCharge k time M x → Kept k time M M′ x
-      go (was-queued e i q m) = after (chosen-after turn .kept x (e, i, q .is-in, m))
+      go (was-queued e i q m) = after (chosen-after turn .kept x (waking turn .has x (e, i, q .is-in, m)))
+      go (was-woken a) = let (e, i, m) = woken-entry k time M S T (turn .own) x a in after (chosen-after turn .kept x (e, k, rw (eq-eqb k k refl) i, m))
       go (was-in-charge m) = holder m (runs turn) (steal-of .winner) refl refl

@@ -1,4 +1,4 @@
--- The rule where nobody is eligible, and demand 3 of a call that runs `schedule`.
+-- The rule where nobody is eligible.
 use mathlib.Core.Path.{_≡_, refl, ap, _∙_}
 use mathlib.Core.Bool.{true}
 use Prim.Native.Nat.{ℕ, _+_, _<_, _≤_}
@@ -21,13 +21,11 @@ use Rattle.decision.specs.Demand3.{
   own-advance,
   LateContest,
   Rule,
-  Demand3,
 }
 use Rattle.decision.proofs.Turn.{Turn}
 use Rattle.decision.proofs.Cases.{never}
 use Rattle.decision.proofs.Lists.{In}
 use Rattle.decision.proofs.Before.{queues, Free}
-use Rattle.decision.proofs.WokenHere.{woken-entry}
 use Rattle.decision.proofs.Chosen.{
   is-waiting,
   is-on-time,
@@ -44,11 +42,9 @@ use Rattle.decision.proofs.Chosen.{
 use Rattle.decision.proofs.Firsts.{IsFirst, IsLeast, least-exists}
 use Rattle.decision.proofs.ReadyIs.{waits-ready, runs-holder, holder-runs, prev-eligible, least-key, first-least, vtime-is, vd-is}
 use Rattle.decision.proofs.Assembled.{scheduled-machine, J, waking, chose, follows}
-use Rattle.decision.proofs.After.{tidied}
 use Rattle.decision.proofs.Outcomes.{v-after}
-use Rattle.decision.proofs.NobodyLost.{nobody-lost}
-use Rattle.decision.proofs.Contested.{won, stayed, ready-of, v-is, eligible, alone, none-waits}
-use Rattle.decision.proofs.IdleLeft.{stolen-first, idle-left, idle-only}
+use Rattle.decision.proofs.Contested.{won, stayed, ready-of, v-is, none-waits}
+use Rattle.decision.proofs.IdleLeft.{stolen-first, idle-left}
 
 module _ (turn : Turn) where
   abbrev k : ℕ
@@ -181,7 +177,7 @@ module _ (turn : Turn) where
         )
         go (nobody-waits i t z v) = never (ready-of turn f a) (i f (a .is-in))
 
-    rule : Rule k time M M′
+    pub rule : Rule k time M M′
     rule =
         record {
           v = v-moved;
@@ -190,15 +186,3 @@ module _ (turn : Turn) where
           stolen = stolen-first turn;
           idle = idle-left turn;
         }
-
-  pub demanded : Demand3 k time M M′
-  demanded =
-      record {
-        tidy = tidied turn;
-        woken = woken-entry k time M S T (turn .own);
-        nobody-lost = nobody-lost turn;
-        eligible = eligible turn;
-        holder-alone = alone turn;
-        nobody-eligible = rule;
-        idle-last = (idle-only turn, λ a. idle-left turn (a .0) (a .1));
-      }
