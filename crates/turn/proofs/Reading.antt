@@ -63,14 +63,19 @@ unfolding cpu-at
 put-same k M = λ j. record { contexts = M .contexts; cpus = set-same (M .cpus) k no-cpu j }
 
 -- nothing was stored, where the definition changes nothing
-pub unchanged : {c n : ℕ} {m : List ℕ} (k : ℕ) (f : State → State) → Image c n m → ((M : Machine) → m ≡ encode M → Fits c n M → f (state-of k M) ≡ state-of k M) → Staged c n k m m false f
-unchanged {c} {n} k f i h =
+pub unchanged-with : {R : Type 0} {c n : ℕ} {m : List ℕ} {r : R} {g : State → R} (k : ℕ) (f : State → State) → Image c n m
+    → ((M : Machine) → m ≡ encode M → Fits c n M → (f (state-of k M) ≡ state-of k M) × (r ≡ g (state-of k M))) → Stage c n k m m false r f g
+unchanged-with {c = c} {n = n} k f i h =
     staged i
     (λ M e o.
-      let z : put-state k (f (state-of k M)) M ≡ M = ap (λ (s : State). put-state k s M) (h M e o) ∙ put-same k M
+      let a = h M e o
+      in let z : put-state k (f (state-of k M)) M ≡ M = ap (λ (s : State). put-state k s M) (a .0) ∙ put-same k M
       in record {
-        room = sym (ap (λ (s : State). s .no-room) (h M e o));
+        room = sym (ap (λ (s : State). s .no-room) (a .0));
         after = λ y. e ∙ ap encode (sym z);
         fits = λ y. subst (Fits c n) (sym z) o;
-        answer = λ y. refl;
+        answer = λ y. a .1;
       })
+
+pub unchanged : {c n : ℕ} {m : List ℕ} (k : ℕ) (f : State → State) → Image c n m → ((M : Machine) → m ≡ encode M → Fits c n M → f (state-of k M) ≡ state-of k M) → Staged c n k m m false f
+unchanged k f i h = unchanged-with k f i (λ M e o. (h M e o, refl))

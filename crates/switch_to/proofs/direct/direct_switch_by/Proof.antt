@@ -1,0 +1,80 @@
+use native.Mathlib.Omega.{arith}
+use borrow.Author.Needs.{needs}
+use Rattle.switch_to.proofs.direct.direct_switch_by.Statement.{statement}
+use Rattle.switch_to.proofs.direct.direct_switch_by.Tie as tie
+use Rattle.switch_to.proofs.direct.direct_switch_by.Reads as reads
+use Rattle.switch_to.proofs.direct.direct_switch_by.Lts as lts
+use Rattle.machine.proofs.load.Reads as load-reads
+use Rattle.machine.proofs.word.Reads as word-reads
+use Rattle.runnable.proofs.update_runnable.Reads as update-runnable-reads
+use Rattle.switch_to.proofs.direct.direct_switch.Reads as direct-switch-reads
+
+-- src/direct.rt:42:9
+load-requires : tie.Need-load-requires
+load-requires c κs = search needs
+
+-- src/direct.rt:43:9
+word-requires : tie.Need-word-requires
+word-requires c κs = search needs
+
+-- src/direct.rt:44:9
+update-runnable-requires : tie.Need-update-runnable-requires
+update-runnable-requires c κs = search needs
+
+-- src/direct.rt:46:33
+enum-known-u : tie.Need-enum-known-u
+enum-known-u c = search needs
+
+-- src/direct.rt:46:39
+direct-switch-requires : tie.Need-direct-switch-requires
+direct-switch-requires c κs = search needs
+
+-- src/direct.rt:47:31
+enum-told : tie.Need-enum-told
+enum-told c = search needs
+
+-- src/direct.rt:48:34
+enum-told-2 : tie.Need-enum-told-2
+enum-told-2 c = search needs
+
+-- src/direct.rt:36:1
+same-length : tie.Need-same-length
+same-length c = search needs
+
+-- src/direct.rt:36:1
+returns : tie.Need-returns
+returns c = search needs
+
+-- src/direct.rt:36:1
+same-length-2 : tie.Need-same-length-2
+same-length-2 c = search needs
+
+-- src/direct.rt:36:1
+returns-2 : tie.Need-returns-2
+returns-2 c = search needs
+
+-- src/direct.rt:36:1
+same-length-3 : tie.Need-same-length-3
+same-length-3 c = search needs
+
+-- src/direct.rt:36:1
+returns-3 : tie.Need-returns-3
+returns-3 c = search needs
+
+pub direct-switch-by-spec : {M : Type 1} → statement M
+direct-switch-by-spec =
+    tie.close
+    (tie.spec
+    load-requires
+    word-requires
+    update-runnable-requires
+    enum-known-u
+    direct-switch-requires
+    enum-told
+    enum-told-2
+    same-length
+    returns
+    same-length-2
+    returns-2
+    same-length-3
+    returns-3)

@@ -1,0 +1,22 @@
+use native.Mathlib.Omega.{arith}
+use borrow.Author.Needs.{needs}
+use Rattle.switch_to.proofs.records.come.Statement.{statement}
+use Rattle.switch_to.proofs.records.come.Tie as tie
+use Rattle.switch_to.proofs.records.come.Reads as reads
+use Rattle.switch_to.proofs.records.come.Lts as lts
+use Rattle.machine.proofs.word.Reads as word-reads
+
+-- src/records.rt:46:16
+word-requires : tie.Need-word-requires
+word-requires c κs = search needs
+
+-- src/records.rt:46:16
+add-q : tie.Need-add-q
+add-q c = search needs
+
+-- src/records.rt:41:1
+returns : tie.Need-returns
+returns c = search needs
+
+pub come-spec : {M : Type 1} → statement M
+come-spec = tie.close (tie.spec word-requires add-q returns)

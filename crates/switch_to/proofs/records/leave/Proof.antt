@@ -1,0 +1,26 @@
+use native.Mathlib.Omega.{arith}
+use borrow.Author.Needs.{needs}
+use Rattle.switch_to.proofs.records.leave.Statement.{statement}
+use Rattle.switch_to.proofs.records.leave.Tie as tie
+use Rattle.switch_to.proofs.records.leave.Reads as reads
+use Rattle.switch_to.proofs.records.leave.Lts as lts
+use Rattle.ticks.proofs.saturating_sub.Reads as saturating-sub-reads
+
+-- src/records.rt:34:9
+returns : tie.Need-returns
+returns c = search needs
+
+-- src/records.rt:36:9
+saturating-sub-requires : tie.Need-saturating-sub-requires
+saturating-sub-requires c κs = search needs
+
+-- src/records.rt:37:25
+add-q : tie.Need-add-q
+add-q c = search needs
+
+-- src/records.rt:27:1
+returns-2 : tie.Need-returns-2
+returns-2 c = search needs
+
+pub leave-spec : {M : Type 1} → statement M
+leave-spec = tie.close (tie.spec returns saturating-sub-requires add-q returns-2)

@@ -1,0 +1,26 @@
+use native.Mathlib.Omega.{arith}
+use borrow.Author.Needs.{needs}
+use Rattle.switch_to.proofs.records.would_be_lost.Statement.{statement}
+use Rattle.switch_to.proofs.records.would_be_lost.Tie as tie
+use Rattle.switch_to.proofs.records.would_be_lost.Reads as reads
+use Rattle.switch_to.proofs.records.would_be_lost.Lts as lts
+use Rattle.context.proofs.Status.is_runnable.Reads as is-runnable-reads
+
+-- src/records.rt:18:9
+returns : tie.Need-returns
+returns c = search needs
+
+-- src/records.rt:21:9
+returns-2 : tie.Need-returns-2
+returns-2 c = search needs
+
+-- src/records.rt:24:5
+is-runnable-requires : tie.Need-is-runnable-requires
+is-runnable-requires c κs = search needs
+
+-- src/records.rt:14:1
+returns-3 : tie.Need-returns-3
+returns-3 c = search needs
+
+pub would-be-lost-spec : {M : Type 1} → statement M
+would-be-lost-spec = tie.close (tie.spec returns returns-2 is-runnable-requires returns-3)

@@ -1,0 +1,32 @@
+use native.Mathlib.Omega.{arith}
+use borrow.Author.Needs.{needs}
+use Rattle.switch_to.proofs.save.Statement.{statement}
+use Rattle.switch_to.proofs.save.Tie as tie
+use Rattle.switch_to.proofs.save.Reads as reads
+use Rattle.switch_to.proofs.save.Lts as lts
+use Rattle.stages.proofs.push_local.Reads as push-local-reads
+use Rattle.switch_to.proofs.records.would_be_lost.Reads as would-be-lost-reads
+
+-- src/lib.rt:27:8
+would-be-lost-requires : tie.Need-would-be-lost-requires
+would-be-lost-requires c κs = search needs
+
+-- src/lib.rt:28:9
+push-local-requires : tie.Need-push-local-requires
+push-local-requires c κs = search needs
+
+-- src/lib.rt:28:9
+same-length : tie.Need-same-length
+same-length c = search needs
+
+-- src/lib.rt:28:9
+returns : tie.Need-returns
+returns c = search needs
+
+-- src/lib.rt:22:1
+returns-2 : tie.Need-returns-2
+returns-2 c = search needs
+
+pub save-spec : {M : Type 1} → statement M
+save-spec =
+    tie.close (tie.spec would-be-lost-requires push-local-requires same-length returns returns-2)
