@@ -1,3 +1,4 @@
+use Rattle.switch_to.proofs.Switching.{saved-lost, saved-not}
 use native.Mathlib.Omega.{arith}
 use borrow.Author.Needs.{needs}
 use Rattle.switch_to.proofs.save.Statement.{statement}
@@ -21,11 +22,11 @@ same-length c = search needs
 
 -- src/lib.rt:28:9
 returns : tie.Need-returns
-returns c = search needs
+returns c = saved-lost (c .before .before .before .before .before .before .before .args .y) (c .before .before .before .before .before .before .before .args .b) (c .before .before .before .before .before .before .before .args .q) (c .before .before .before .before .before .would-be-lost .ensures) (c .before .before .before .before .if1 .taken) (c .before .before .push-local .ensures)
 
 -- src/lib.rt:22:1
 returns-2 : tie.Need-returns-2
-returns-2 c = search needs
+returns-2 c = saved-not (c .before .before .before .args .y) (c .before .before .before .args .b) (c .before .before .before .args .q) (c .before .would-be-lost .ensures) (c .if1 .left) (c .before .before .before .pre .0)
 
 pub save-spec : {M : Type 1} → statement M
 save-spec =

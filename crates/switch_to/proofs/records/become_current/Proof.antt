@@ -1,3 +1,4 @@
+use Rattle.switch_to.proofs.Recorded.{current-as}
 use native.Mathlib.Omega.{arith}
 use borrow.Author.Needs.{needs}
 use Rattle.switch_to.proofs.records.become_current.Statement.{statement}
@@ -27,7 +28,7 @@ word-requires c κs = search needs
 
 -- src/records.rt:60:1
 returns : tie.Need-returns
-returns c = search needs
+returns c = current-as (c .before .before .before .before .before .args .b) (c .before .before .before .before .before .args .q) _ _ _ _ _ (c .before .before .before .before .state-in .ensures) (c .before .before .set-state .ensures) (c .before .with-stats .ensures) (c .word .ensures)
 
 pub become-current-spec : {M : Type 1} → statement M
 become-current-spec =

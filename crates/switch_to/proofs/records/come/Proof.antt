@@ -1,3 +1,4 @@
+use Rattle.switch_to.proofs.Recorded.{comes-as}
 use native.Mathlib.Omega.{arith}
 use borrow.Author.Needs.{needs}
 use Rattle.switch_to.proofs.records.come.Statement.{statement}
@@ -16,7 +17,7 @@ add-q c = search needs
 
 -- src/records.rt:41:1
 returns : tie.Need-returns
-returns c = search needs
+returns c = comes-as _ (c .before .args .time) (c .before .args .q) _ (c .word .ensures)
 
 pub come-spec : {M : Type 1} → statement M
 come-spec = tie.close (tie.spec word-requires add-q returns)

@@ -1,3 +1,4 @@
+use Rattle.switch_to.proofs.Recorded.{left-idle, left-other}
 use native.Mathlib.Omega.{arith}
 use borrow.Author.Needs.{needs}
 use Rattle.switch_to.proofs.records.leave.Statement.{statement}
@@ -8,7 +9,7 @@ use Rattle.ticks.proofs.saturating_sub.Reads as saturating-sub-reads
 
 -- src/records.rt:34:9
 returns : tie.Need-returns
-returns c = search needs
+returns c = left-idle (c .before .before .args .b) (c .before .before .args .q) (c .before .before .args .time) (c .if1 .taken)
 
 -- src/records.rt:36:9
 saturating-sub-requires : tie.Need-saturating-sub-requires
@@ -20,7 +21,7 @@ add-q c = search needs
 
 -- src/records.rt:27:1
 returns-2 : tie.Need-returns-2
-returns-2 c = search needs
+returns-2 c = left-other (c .before .before .before .before .args .b) (c .before .before .before .before .args .q) (c .before .before .before .before .args .time) _ (c .before .before .if1 .left) (c .before .saturating-sub .ensures)
 
 pub leave-spec : {M : Type 1} → statement M
 leave-spec = tie.close (tie.spec returns saturating-sub-requires add-q returns-2)

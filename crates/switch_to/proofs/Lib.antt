@@ -1,0 +1,3 @@
+pub mod Recorded
+pub mod Switching
+pub mod Directly
