@@ -1,3 +1,4 @@
 pub mod Advanced
 pub mod Requeued
 pub mod Handed
+pub mod Bounded

@@ -29,7 +29,7 @@ use Rattle.switch_to.specs.Direct.{or-same}
 
 -- the record of a context that can be switched to is in its ranges
 module _ (c t b : ℕ) where
-  abbrev Good : UpdateResult → Type 0
+  abbrev pub Good : UpdateResult → Type 0
   Good (CanSwitch r) = ContextFits c r × ContextBelow t b r
   Good Skip = Unit {0}
   Good Blocked = Unit {0}
@@ -48,7 +48,7 @@ module _ (c t b : ℕ) where
         key-vd = u .key-vd;
       })
 
-  update-good : (k time : ℕ) (own current : Bool) (q : Context) → ContextFits c q → ContextBelow t b q → Good (update-runnable k time own current q)
+  pub update-good : (k time : ℕ) (own current : Bool) (q : Context) → ContextFits c q → ContextBelow t b q → Good (update-runnable k time own current q)
   unfolding update-runnable
   update-good k time own current q o u =
       pick Good (q .running && not current) (λ e. tt)

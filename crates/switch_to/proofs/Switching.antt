@@ -50,7 +50,7 @@ module _ {c n k : ℕ} {m m' : List ℕ} (time x y : ℕ) (b : PercpuBlock) (q :
       stage-as (stage-then h (stage-then h (subst (λ (r : Bool). Staged c n k m m' r (λ (s : State). saved-by y b q s)) e t) u) w) (λ M z o. (rw f, λ a d. refl))
 
 -- the definition, by what it reads
-at-values : (k time x : ℕ) (s : State) → switched-by k time x (s .cpu .block .«current_ctxt») (s .cpu .block) (at s (s .cpu .block .«current_ctxt»)) s ≡ switch-to k time x s
+pub at-values : (k time x : ℕ) (s : State) → switched-by k time x (s .cpu .block .«current_ctxt») (s .cpu .block) (at s (s .cpu .block .«current_ctxt»)) s ≡ switch-to k time x s
 unfolding switched-by entered switch-to
 at-values k time x s = by-test (is-lost (s .cpu .block) (at s (s .cpu .block .«current_ctxt»))) (λ t. rw t) (λ t. rw t)
 
