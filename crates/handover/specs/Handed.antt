@@ -1,5 +1,5 @@
 -- The end of a decision by the values that the code has read. Assumes nothing.
-use mathlib.Core.Bool.{Bool, true, false, not, _&&_}
+use mathlib.Core.Bool.{Bool, true, false, not, _&&_, _||_}
 use mathlib.Core.Option.{Option, none, some}
 use Prim.Native.Nat.{ℕ, _+_, _-_, _/_}
 use lib.Dec.{eqb}
@@ -12,6 +12,8 @@ use Rattle.percpu.specs.Cpu.{Cpu}
 use Rattle.percpu.specs.With.{block-v, block-sched-ctxt, cpu-block, cpu-v}
 use Rattle.decision.specs.State.{State, at, put-context, on-cpu, insert-entry, remove-key, queue-key, with-new-key}
 use Rattle.decision.specs.Wakeups.{entry-of}
+use Rattle.decision.specs.Steal.{mark-stealable}
+use Rattle.decision.specs.SwitchTo.{requeue}
 use Rattle.handover.specs.declared.next.Picked.{Picked}
 use Rattle.handover.specs.declared.next.Picked.the-variants.{Nobody, Somebody}
 
@@ -36,6 +38,13 @@ taken-out-by q s = if q .«has_queue_key» then remove-key (queue-key q) s else 
 
 abbrev pub requeued-by : ℕ → Context → State → State
 requeued-by x q s = insert-entry (entry-of x (weight (q .prio)) q) (put-context x (with-new-key q) (taken-out-by q s))
+
+-- `settled` where `won` says whether a context won and `runs` whether the holder is runnable
+abbrev pub sent-back-by : Bool → Bool → State → State
+sent-back-by won runs s = if won && runs then requeue s else s
+
+abbrev pub settled-by : Bool → Bool → ℕ → State → State
+settled-by won runs ticks s = on-cpu mark-stealable (sent-back-by won runs (advance-by (won || runs) ticks s))
 
 -- the records of the holder and of the context that gets the slice
 abbrev pub given-up : ℕ → Bool → Context → Context

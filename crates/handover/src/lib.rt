@@ -4,6 +4,7 @@ mod advancing;
 mod handing;
 mod next;
 mod requeuing;
+mod settling;
 
 pub use advancing::advance;
 pub use advancing::mark_stealable;
@@ -11,3 +12,4 @@ pub use handing::hand_over;
 pub use next::Picked;
 pub use next::next_context;
 pub use requeuing::requeue;
+pub use settling::settle;

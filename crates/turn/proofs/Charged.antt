@@ -79,9 +79,6 @@ module _ {c n : ℕ} {m : List ℕ} (k : ℕ) (elapsed : ℕ) (b : PercpuBlock) 
       (λ M z o. let t : cpu-at M k .block .«sched_ctxt» ≡ cpu-at M k .block .«idle_ctxt» = rw (hb M z o) at e in rw (eq-eqb _ _ t))
 
   module _ (x : ℕ) (hx : x ≡ b .«sched_ctxt») where
-    pub sched-named : Image c n m → k < c → x < n
-    sched-named i h = let e = hb (i .M) (i .eq) (i .fits) in rw (hx, e) (i .fits .cpu k h .sched)
-
     module _ (q : Context) (hq : (M : Machine) → m ≡ encode M → Fits c n M → q ≡ context-at (M .contexts) x) where
       pub chargeable : {t : ℕ} → elapsed ≤ 4503599627370495 → Ranged c n t 4611686019501129727 m → k < c → x < n → Chargeable (b .v) elapsed q
       chargeable l r h g =

@@ -24,6 +24,10 @@ module _ {c n : ℕ} {m : List ℕ} where
       let o = i .fits .cpu k h
       in rw (f (i .M) (i .eq) (i .fits)) (record { current = o .current; sched = o .sched; idle = o .idle })
 
+  -- the name of the context in charge
+  pub sched-named : (k : ℕ) (b : PercpuBlock) → ((M : Machine) → m ≡ encode M → Fits c n M → b ≡ cpu-at M k .block) → (x : ℕ) → x ≡ b .«sched_ctxt» → Image c n m → k < c → x < n
+  sched-named k b hb x hx i h = let e = hb (i .M) (i .eq) (i .fits) in rw (hx, e) (i .fits .cpu k h .sched)
+
   pub context-fits : {q : Context} → Image c n m → (x : ℕ) → x < n → ((M : Machine) → m ≡ encode M → Fits c n M → q ≡ context-at (M .contexts) x) → ContextFits c q
   context-fits i x h f = rw (f (i .M) (i .eq) (i .fits)) (i .fits .context x h)
 

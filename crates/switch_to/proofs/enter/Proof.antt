@@ -1,44 +1,31 @@
+-- `switch_to::enter` meets its contract. Assumes nothing.
 use mathlib.Core.Path.{refl}
-use Rattle.switch_to.proofs.Switching.{entered-as}
-use Rattle.switch_to.proofs.Recorded.{comes-fits, current-fits}
-use Rattle.turn.proofs.Reading.{context-fits}
 use native.Mathlib.Omega.{arith}
 use borrow.Author.Needs.{needs}
+use Rattle.turn.proofs.Reading.{context-fits}
+use Rattle.switch_to.proofs.Switching.{entered-as}
+use Rattle.switch_to.proofs.Recorded.{comes-fits, current-fits}
 use Rattle.switch_to.proofs.enter.Statement.{statement}
 use Rattle.switch_to.proofs.enter.Tie as tie
-use Rattle.switch_to.proofs.enter.Reads as reads
-use Rattle.switch_to.proofs.enter.Lts as lts
-use Rattle.machine.proofs.load.Reads as load-reads
-use Rattle.stages.proofs.store_block.Reads as store-block-reads
-use Rattle.stages.proofs.store_context.Reads as store-context-reads
-use Rattle.switch_to.proofs.records.become_current.Reads as become-current-reads
-use Rattle.switch_to.proofs.records.come.Reads as come-reads
 
--- src/lib.rt:39:9
 load-requires : tie.Need-load-requires
 load-requires c κs = search needs
 
--- src/lib.rt:40:9
 come-requires : tie.Need-come-requires
 come-requires c κs = omega (arith, c .before .before .before .pre .1 .0 .0, c .before .before .before .pre .0 .fits .bounds .1)
 
--- src/lib.rt:41:5
 store-context-requires : tie.Need-store-context-requires
 store-context-requires c κs = (c .before .before .before .before .before .pre .0, (c .before .before .before .before .before .pre .1 .0, comes-fits _ (c .before .before .before .before .before .args .time) _ (c .before .come .ensures) (c .before .before .before .before .before .pre .1 .0 .0) (context-fits (c .before .before .before .before .before .pre .0) _ (c .before .before .before .before .before .pre .1 .0 .1) (c .before .before .load .ensures))))
 
--- src/lib.rt:42:9
 become-current-requires : tie.Need-become-current-requires
 become-current-requires c κs = search needs
 
--- src/lib.rt:43:5
 store-block-requires : tie.Need-store-block-requires
 store-block-requires c κs = (c .before .before .before .before .store-context .ensures .image refl, (c .before .before .before .before .before .before .before .before .before .before .pre .1 .0 .0, current-fits (c .before .before .before .before .before .before .before .before .before .before .args .b) (c .before .before .before .before .before .before .come .result) _ (c .before .become-current .ensures) (c .before .before .before .before .before .before .before .before .before .before .pre .1 .0 .1) (c .before .before .before .before .before .before .before .before .before .before .pre .1 .1)))
 
--- src/lib.rt:33:1
 same-length : tie.Need-same-length
 same-length c = search needs
 
--- src/lib.rt:33:1
 returns : tie.Need-returns
 returns c = entered-as (c .before .before .before .before .before .before .before .before .before .before .before .before .before .args .time) (c .before .before .before .before .before .before .before .before .before .before .before .before .before .args .x) (c .before .before .before .before .before .before .before .before .before .before .before .before .before .args .b) _ (c .before .before .before .before .before .before .before .before .before .before .before .before .before .pre .1 .0 .0) (c .before .before .before .before .before .before .before .before .before .before .load .ensures) (c .before .before .before .before .before .before .before .before .before .come .ensures) (c .before .before .before .before .become-current .ensures) (c .before .before .before .before .before .before .before .store-context .ensures) (c .before .before .store-block .ensures)
 

@@ -1,29 +1,23 @@
+-- `handover::advancing::advanced` meets its contract. Assumes nothing.
 use native.Mathlib.Nat.{div-le-self}
-use Rattle.handover.proofs.Advanced.{advanced-nobody, advanced-weightless, advanced-as}
 use native.Mathlib.Omega.{arith}
 use borrow.Author.Needs.{needs}
+use Rattle.handover.proofs.Advanced.{advanced-nobody, advanced-weightless, advanced-as}
 use Rattle.handover.proofs.advancing.advanced.Statement.{statement}
 use Rattle.handover.proofs.advancing.advanced.Tie as tie
-use Rattle.handover.proofs.advancing.advanced.Reads as reads
-use Rattle.handover.proofs.advancing.advanced.Lts as lts
 
--- src/advancing.rt:18:13
 returns : tie.Need-returns
 returns c = advanced-weightless (c .before .before .before .args .b) _ (c .before .before .before .args .elapsed-ticks) (c .before .before .if1 .taken) (c .if2 .taken)
 
--- src/advancing.rt:20:21
 div-b : tie.Need-div-b
 div-b c = search needs
 
--- src/advancing.rt:20:15
 add-b : tie.Need-add-b
 add-b c = omega (arith, div-le-self (c .before .before .before .before .before .args .elapsed-ticks) (c .before .before .before .before .before .args .b .«total_weight»), c .before .before .before .before .before .pre .0, c .before .before .before .before .before .pre .1)
 
--- src/advancing.rt:21:9
 returns-2 : tie.Need-returns-2
 returns-2 c = advanced-as (c .before .before .before .before .before .args .b) _ (c .before .before .before .before .before .args .elapsed-ticks) (c .before .before .before .before .if1 .taken) (c .before .before .if2 .left)
 
--- src/advancing.rt:12:1
 returns-3 : tie.Need-returns-3
 returns-3 c = advanced-nobody (c .before .args .b) _ (c .before .args .elapsed-ticks) (c .if1 .left)
 

@@ -1,30 +1,21 @@
-use Rattle.handover.proofs.Advanced.{next-runs, next-idle, next-from}
-use native.Mathlib.Omega.{arith}
+-- `handover::next::without_winner` meets its contract. Assumes nothing.
 use borrow.Author.Needs.{needs}
+use Rattle.handover.proofs.Advanced.{next-runs, next-idle, next-from}
 use Rattle.handover.proofs.next.without_winner.Statement.{statement}
 use Rattle.handover.proofs.next.without_winner.Tie as tie
-use Rattle.handover.proofs.next.without_winner.Reads as reads
-use Rattle.handover.proofs.next.without_winner.Lts as lts
-use Rattle.machine.proofs.index.Reads as index-reads
-use Rattle.stages.proofs.load_block.Reads as load-block-reads
 
--- src/next.rt:25:9
 returns : tie.Need-returns
 returns c = λ M e o. next-runs (c .before .before .args .runs) _ (c .if1 .taken)
 
--- src/next.rt:27:9
 load-block-requires : tie.Need-load-block-requires
 load-block-requires c κs = search needs
 
--- src/next.rt:29:9
 returns-2 : tie.Need-returns-2
 returns-2 c = λ M e o. next-idle _ _ (c .before .before .load-block .ensures) M e o (c .before .before .before .before .before .args .runs) (c .before .before .before .if1 .left) (c .if2 .taken)
 
--- src/next.rt:31:22
 index-requires : tie.Need-index-requires
 index-requires c κs = search needs
 
--- src/next.rt:19:1
 returns-3 : tie.Need-returns-3
 returns-3 c = λ M e o. next-from _ _ (c .before .before .before .load-block .ensures) _ M e o (c .before .before .before .before .before .before .args .runs) (c .before .before .before .before .if1 .left) (c .before .if2 .left) (c .index .ensures)
 

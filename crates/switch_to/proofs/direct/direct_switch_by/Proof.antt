@@ -1,64 +1,46 @@
-use Rattle.switch_to.proofs.Directly.{switchable, by-can-switch, by-skip, by-blocked}
+-- `switch_to::direct::direct_switch_by` meets its contract. Assumes nothing.
 use native.Mathlib.Omega.{arith}
 use borrow.Author.Needs.{needs}
+use Rattle.switch_to.proofs.Directly.{switchable, by-can-switch, by-skip, by-blocked}
 use Rattle.switch_to.proofs.direct.direct_switch_by.Statement.{statement}
 use Rattle.switch_to.proofs.direct.direct_switch_by.Tie as tie
-use Rattle.switch_to.proofs.direct.direct_switch_by.Reads as reads
-use Rattle.switch_to.proofs.direct.direct_switch_by.Lts as lts
-use Rattle.machine.proofs.load.Reads as load-reads
-use Rattle.machine.proofs.word.Reads as word-reads
-use Rattle.runnable.proofs.update_runnable.Reads as update-runnable-reads
-use Rattle.switch_to.proofs.direct.direct_switch.Reads as direct-switch-reads
 
--- src/direct.rt:42:9
 load-requires : tie.Need-load-requires
 load-requires c κs = search needs
 
--- src/direct.rt:43:9
 word-requires : tie.Need-word-requires
 word-requires c κs = search needs
 
--- src/direct.rt:44:9
 update-runnable-requires : tie.Need-update-runnable-requires
 update-runnable-requires c κs = omega (arith, c .word .ensures, c .before .before .before .before .pre .1 .0 .0, c .before .before .before .before .pre .0 .fits .bounds .1)
 
--- src/direct.rt:46:33
 enum-known-u : tie.Need-enum-known-u
 enum-known-u c = search needs
 
--- src/direct.rt:46:39
 direct-switch-requires : tie.Need-direct-switch-requires
 direct-switch-requires c κs = let g = switchable _ _ _ _ _ _ _ (c .before .before .before .before .before .before .before .before .before .pre .1 .1) (c .before .before .before .before .before .before .before .before .before .pre .1 .0 .1) (c .before .before .before .before .before .before .load .ensures) (c .before .before .before .before .update-runnable .ensures) (c .before .before .u .given .1) in (c .before .before .before .before .before .before .before .before .before .pre .0, (c .before .before .before .before .before .before .before .before .before .pre .1 .0, (g .0, (g .1, c .before .before .before .before .before .before .before .before .before .pre .1 .1))))
 
--- src/direct.rt:47:31
 enum-told : tie.Need-enum-told
 enum-told c = search needs
 
--- src/direct.rt:48:34
 enum-told-2 : tie.Need-enum-told-2
 enum-told-2 c = search needs
 
--- src/direct.rt:36:1
 same-length : tie.Need-same-length
 same-length c = search needs
 
--- src/direct.rt:36:1
 returns : tie.Need-returns
 returns c = by-can-switch _ _ _ _ _ _ (c .before .before .before .before .before .before .before .before .word .ensures) (c .before .before .before .before .before .before .before .before .before .load .ensures) (c .before .before .before .before .before .before .before .update-runnable .ensures) _ (c .before .before .before .before .before .u .given .1) (c .before .before .direct-switch .ensures)
 
--- src/direct.rt:36:1
 same-length-2 : tie.Need-same-length-2
 same-length-2 c = search needs
 
--- src/direct.rt:36:1
 returns-2 : tie.Need-returns-2
 returns-2 c = by-skip _ _ _ _ _ _ (c .before .before .before .word .ensures) (c .before .before .before .before .load .ensures) (c .before .before .update-runnable .ensures) (c .enum-told .given .1) (c .before .before .before .before .before .before .before .pre .0)
 
--- src/direct.rt:36:1
 same-length-3 : tie.Need-same-length-3
 same-length-3 c = search needs
 
--- src/direct.rt:36:1
 returns-3 : tie.Need-returns-3
 returns-3 c = by-blocked _ _ _ _ _ _ (c .before .before .before .word .ensures) (c .before .before .before .before .load .ensures) (c .before .before .update-runnable .ensures) (c .enum-told2 .given .1) (c .before .before .before .before .before .before .before .pre .0)
 

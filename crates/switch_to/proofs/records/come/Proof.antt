@@ -1,21 +1,15 @@
-use Rattle.switch_to.proofs.Recorded.{comes-as}
-use native.Mathlib.Omega.{arith}
+-- `switch_to::records::come` meets its contract. Assumes nothing.
 use borrow.Author.Needs.{needs}
+use Rattle.switch_to.proofs.Recorded.{comes-as}
 use Rattle.switch_to.proofs.records.come.Statement.{statement}
 use Rattle.switch_to.proofs.records.come.Tie as tie
-use Rattle.switch_to.proofs.records.come.Reads as reads
-use Rattle.switch_to.proofs.records.come.Lts as lts
-use Rattle.machine.proofs.word.Reads as word-reads
 
--- src/records.rt:46:16
 word-requires : tie.Need-word-requires
 word-requires c κs = search needs
 
--- src/records.rt:46:16
 add-q : tie.Need-add-q
 add-q c = search needs
 
--- src/records.rt:41:1
 returns : tie.Need-returns
 returns c = comes-as _ (c .before .args .time) (c .before .args .q) _ (c .word .ensures)
 

@@ -1,25 +1,18 @@
-use Rattle.switch_to.proofs.Recorded.{left-idle, left-other}
-use native.Mathlib.Omega.{arith}
+-- `switch_to::records::leave` meets its contract. Assumes nothing.
 use borrow.Author.Needs.{needs}
+use Rattle.switch_to.proofs.Recorded.{left-idle, left-other}
 use Rattle.switch_to.proofs.records.leave.Statement.{statement}
 use Rattle.switch_to.proofs.records.leave.Tie as tie
-use Rattle.switch_to.proofs.records.leave.Reads as reads
-use Rattle.switch_to.proofs.records.leave.Lts as lts
-use Rattle.ticks.proofs.saturating_sub.Reads as saturating-sub-reads
 
--- src/records.rt:34:9
 returns : tie.Need-returns
 returns c = left-idle (c .before .before .args .b) (c .before .before .args .q) (c .before .before .args .time) (c .if1 .taken)
 
--- src/records.rt:36:9
 saturating-sub-requires : tie.Need-saturating-sub-requires
 saturating-sub-requires c κs = search needs
 
--- src/records.rt:37:25
 add-q : tie.Need-add-q
 add-q c = search needs
 
--- src/records.rt:27:1
 returns-2 : tie.Need-returns-2
 returns-2 c = left-other (c .before .before .before .before .args .b) (c .before .before .before .before .args .q) (c .before .before .before .before .args .time) _ (c .before .before .if1 .left) (c .before .saturating-sub .ensures)
 

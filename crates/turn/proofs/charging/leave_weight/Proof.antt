@@ -1,26 +1,18 @@
-use Rattle.turn.proofs.Charged.{weight-out, weight-kept}
-use native.Mathlib.Omega.{arith}
+-- `turn::charging::leave_weight` meets its contract. Assumes nothing.
 use borrow.Author.Needs.{needs}
+use Rattle.turn.proofs.Charged.{weight-out, weight-kept}
 use Rattle.turn.proofs.charging.leave_weight.Statement.{statement}
 use Rattle.turn.proofs.charging.leave_weight.Tie as tie
-use Rattle.turn.proofs.charging.leave_weight.Reads as reads
-use Rattle.turn.proofs.charging.leave_weight.Lts as lts
-use Rattle.ticks.proofs.saturating_sub.Reads as saturating-sub-reads
-use Rattle.weights.proofs.weight_of.Reads as weight-of-reads
 
--- src/charging.rt:22:13
 weight-of-requires : tie.Need-weight-of-requires
 weight-of-requires c κs = search needs
 
--- src/charging.rt:23:9
 saturating-sub-requires : tie.Need-saturating-sub-requires
 saturating-sub-requires c κs = search needs
 
--- src/charging.rt:24:9
 returns : tie.Need-returns
 returns c = weight-out _ (c .before .before .before .args .q) _ _ (c .before .before .if1 .taken) (c .before .weight-of .ensures .0) (c .saturating-sub .ensures)
 
--- src/charging.rt:17:1
 returns-2 : tie.Need-returns-2
 returns-2 c = weight-kept _ (c .before .args .q) (c .if1 .left)
 

@@ -1,34 +1,24 @@
-use Rattle.turn.proofs.Counted.{counted-as, counted-fits}
-use Rattle.decision.specs.Charging.{count-switch}
-use mathlib.Core.Path.{refl, subst, sym}
-use Rattle.turn.proofs.Reading.{block-fits, counters-below, stored-as}
+-- `turn::counting::count_switch` meets its contract. Assumes nothing.
 use native.Mathlib.Omega.{arith}
 use borrow.Author.Needs.{needs}
+use Rattle.decision.specs.Charging.{count-switch}
+use Rattle.turn.proofs.Counted.{counted-as, counted-fits}
+use Rattle.turn.proofs.Reading.{block-fits, counters-below, stored-as}
 use Rattle.turn.proofs.counting.count_switch.Statement.{statement}
 use Rattle.turn.proofs.counting.count_switch.Tie as tie
-use Rattle.turn.proofs.counting.count_switch.Reads as reads
-use Rattle.turn.proofs.counting.count_switch.Lts as lts
-use Rattle.stages.proofs.load_block.Reads as load-block-reads
-use Rattle.stages.proofs.store_block.Reads as store-block-reads
-use Rattle.turn.proofs.counting.counted.Reads as counted-reads
 
--- src/counting.rt:30:9
 load-block-requires : tie.Need-load-block-requires
 load-block-requires c κs = search needs
 
--- src/counting.rt:31:9
 counted-requires : tie.Need-counted-requires
 counted-requires c κs = counters-below (c .before .before .before .args .k) 4611686018427387904 (omega arith) (c .before .before .before .pre .1 .1) (c .before .before .before .pre .1 .0) (c .load-block .ensures)
 
--- src/counting.rt:32:5
 store-block-requires : tie.Need-store-block-requires
 store-block-requires c κs = (c .before .before .before .before .before .pre .0, (c .before .before .before .before .before .pre .1 .0, counted-fits _ _ (c .before .counted .ensures) (block-fits (c .before .before .before .before .before .pre .0) _ (c .before .before .before .before .before .pre .1 .0) (c .before .before .load-block .ensures))))
 
--- src/counting.rt:24:1
 same-length : tie.Need-same-length
 same-length c = search needs
 
--- src/counting.rt:24:1
 returns : tie.Need-returns
 returns c = stored-as count-switch (c .before .before .store-block .ensures) (λ M e o. counted-as _ _ _ (c .before .before .before .before .before .load-block .ensures M e o) (c .before .before .before .before .counted .ensures))
 
