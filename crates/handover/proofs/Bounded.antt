@@ -30,23 +30,23 @@ advance-below {n} {t} {b} runs w ticks s l o =
     in
     pick (StateBelow n t (b + 2305843009213693952)) ((is-some w || runs) && not (eqb (s .cpu .block .«total_weight») 0))
     (λ e.
-      record {
-        context = λ x i. context-more h g (o .context x i);
-        cpu = record {
-          schedule-time = u .schedule-time;
-          pit-ticks = u .pit-ticks;
-          user = u .user;
-          kernel = u .kernel;
-          idle = u .idle;
-          context-switches = u .context-switches;
-          syscall-switches = u .syscall-switches;
-          v = omega (arith, o .cpu .v, div-le-self ticks (s .cpu .block .«total_weight»));
-          total-weight = u .total-weight;
-          entry-vtime = u .entry-vtime;
-          entry-vd = u .entry-vd;
-          timer-wake = u .timer-wake;
-        };
-      })
+    record {
+      context = λ x i. context-more h g (o .context x i);
+      cpu = record {
+        schedule-time = u .schedule-time;
+        pit-ticks = u .pit-ticks;
+        user = u .user;
+        kernel = u .kernel;
+        idle = u .idle;
+        context-switches = u .context-switches;
+        syscall-switches = u .syscall-switches;
+        v = omega (arith, o .cpu .v, div-le-self ticks (s .cpu .block .«total_weight»));
+        total-weight = u .total-weight;
+        entry-vtime = u .entry-vtime;
+        entry-vd = u .entry-vd;
+        timer-wake = u .timer-wake;
+      };
+    })
     (λ e. state-more h g o)
 
 -- the CPU with other names and marks

@@ -56,7 +56,7 @@ unfolding handed-by taken-over hand-over
 at-values time was-idle x s = refl
 
 module _ {c n : ℕ} {m : List ℕ} (k : ℕ) (b : PercpuBlock) (hb : (M : Machine) → m ≡ encode M → Fits c n M → b ≡ cpu-at M k .block) (y : ℕ) (hy : y ≡ b .«sched_ctxt»)
-  (q : Context) (hq : (M : Machine) → m ≡ encode M → Fits c n M → q ≡ context-at (M .contexts) y) where
+    (q : Context) (hq : (M : Machine) → m ≡ encode M → Fits c n M → q ≡ context-at (M .contexts) y) where
   pub time-below : {u : ℕ} → Ranged c n 4611686027017322496 u m → y < n → q .«sched_cpu_time» ≤ 4611686027017322496
   time-below r l = rw (hq (r .M) (r .eq) (r .fits)) (r .below .context y l .sched-cpu-time)
 

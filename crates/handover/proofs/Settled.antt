@@ -35,7 +35,7 @@ module _ {c n k : ℕ} {m : List ℕ} (won runs : Bool) where
   nobody-won e i = unchanged k (λ (s : State). sent-back-by won runs s) i (λ M z o. rw e)
 
 module _ {c n k : ℕ} {m m' m'' : List ℕ} (won runs : Bool) (ticks : ℕ) {somebody r : Bool} (h : k < c) (e : somebody ≡ (won || runs))
-  (t : Staged c n k m m' false (λ (s : State). advance-by somebody ticks s)) (u : Staged c n k m' m'' r (λ (s : State). sent-back-by won runs s)) where
+    (t : Staged c n k m m' false (λ (s : State). advance-by somebody ticks s)) (u : Staged c n k m' m'' r (λ (s : State). sent-back-by won runs s)) where
   first : Staged c n k m m'' r (λ (s : State). sent-back-by won runs (advance-by (won || runs) ticks s))
   first = stage-as (stage-then h t u) (λ M z o. (rw e, λ a d. refl))
 
@@ -56,21 +56,21 @@ module _ {n t b : ℕ} (won runs : Bool) (ticks : ℕ) (s : State) (l : ticks �
   moved-fits =
       pick (λ (x : State). CpuFits n (x .cpu)) ((won || runs) && not (eqb (s .cpu .block .«total_weight») 0))
       (λ e.
-        record {
-          current = f .current;
-          sched = f .sched;
-          idle = f .idle;
-          queue = f .queue;
-          timers = f .timers;
-          local = f .local;
-          ipi = f .ipi;
-          entry = f .entry;
-          timer = f .timer;
-          local-name = f .local-name;
-          ipi-name = f .ipi-name;
-          keys-rise = f .keys-rise;
-          timers-rise = f .timers-rise;
-        })
+      record {
+        current = f .current;
+        sched = f .sched;
+        idle = f .idle;
+        queue = f .queue;
+        timers = f .timers;
+        local = f .local;
+        ipi = f .ipi;
+        entry = f .entry;
+        timer = f .timer;
+        local-name = f .local-name;
+        ipi-name = f .ipi-name;
+        keys-rise = f .keys-rise;
+        timers-rise = f .timers-rise;
+      })
       (λ e. f)
 
   moved-below : StateBelow n t (b + 2305843009213693952) moved

@@ -46,7 +46,18 @@ fn take_over(m: &mut [u64], c: usize, n: usize, k: usize, time: u64, x: usize, m
 }
 
 // From y, whose record is q, to x.
-fn hand_from(m: &mut [u64], c: usize, n: usize, k: usize, time: u64, was_idle: bool, x: usize, y: usize, b: PercpuBlock, q: Context)
+fn hand_from(
+    m: &mut [u64],
+    c: usize,
+    n: usize,
+    k: usize,
+    time: u64,
+    was_idle: bool,
+    x: usize,
+    y: usize,
+    b: PercpuBlock,
+    q: Context,
+)
     requires { ⌜ Image c n (now m) ⌝ }
     requires { ⌜ (k < c) × (x < n) × (y < n) ⌝ }
     requires { ⌜ BlockFits n b ⌝ }

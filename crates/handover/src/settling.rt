@@ -34,7 +34,15 @@ fn send_back(m: &mut [u64], c: usize, n: usize, k: usize, won: bool, runs: bool)
 }
 
 // `won`: a context won; `runs`: the holder is runnable. True if there is no room in the queue.
-pub fn settle(m: &mut [u64], c: usize, n: usize, k: usize, elapsed_ticks: u64, won: bool, runs: bool) -> bool
+pub fn settle(
+    m: &mut [u64],
+    c: usize,
+    n: usize,
+    k: usize,
+    elapsed_ticks: u64,
+    won: bool,
+    runs: bool,
+) -> bool
     requires { ⌜ Image c n (now m) ⌝ }
     requires { ⌜ (k < c) × («elapsed_ticks» ≤ 2305843009213693952) ⌝ }
     requires { ⌜ Ranged c n 4611686027017322496 9799832792379424766 (now m) ⌝ }

@@ -35,26 +35,27 @@ module _ (c t b : ℕ) where
   Good Blocked = Unit {0}
 
   woken-good : (q : Context) → ContextFits c q → ContextBelow t b q → ContextFits c (woken q) × ContextBelow t b (woken q)
-  woken-good q o u =
-      (record { cpu-id = o .cpu-id; prio = o .prio; rem-slice = o .rem-slice },
-      record {
-        schedule-time = u .schedule-time;
-        switch-time = u .switch-time;
-        active-cpu-time = u .active-cpu-time;
-        sched-cpu-time = u .sched-cpu-time;
-        wake = omega arith;
-        vtime = u .vtime;
-        vd = u .vd;
-        key-vd = u .key-vd;
-      })
+  woken-good q o u = (
+    record { cpu-id = o .cpu-id; prio = o .prio; rem-slice = o .rem-slice },
+    record {
+      schedule-time = u .schedule-time;
+      switch-time = u .switch-time;
+      active-cpu-time = u .active-cpu-time;
+      sched-cpu-time = u .sched-cpu-time;
+      wake = omega arith;
+      vtime = u .vtime;
+      vd = u .vd;
+      key-vd = u .key-vd;
+    },
+  )
 
   pub update-good : (k time : ℕ) (own current : Bool) (q : Context) → ContextFits c q → ContextBelow t b q → Good (update-runnable k time own current q)
   unfolding update-runnable
   update-good k time own current q o u =
       pick Good (q .running && not current) (λ e. tt)
       (λ e. pick Good (q .«currently_scheduled» && not own) (λ f. tt)
-        (λ f. pick Good (not (contains (q .«sched_affinity») k)) (λ g. tt)
-          (λ g. pick Good (wake-has-come time q) (λ h. woken-good q o u) (λ h. pick Good (is-runnable (q .status)) (λ z. (o, u)) (λ z. tt)))))
+      (λ f. pick Good (not (contains (q .«sched_affinity») k)) (λ g. tt)
+      (λ g. pick Good (wake-has-come time q) (λ h. woken-good q o u) (λ h. pick Good (is-runnable (q .status)) (λ z. (o, u)) (λ z. tt)))))
 
 pub switchable : {c n t b : ℕ} {m : List ℕ} (x k time : ℕ) (own current : Bool) (q r : Context) {v : UpdateResult} → Ranged c n t b m → x < n
     → ((M : Machine) → m ≡ encode M → Fits c n M → q ≡ context-at (M .contexts) x) → v ≡ update-runnable k time own current q → v ≡ CanSwitch r → ContextFits c r × ContextBelow t b r
@@ -69,7 +70,7 @@ direct-done {c} {n} {k} {m' = m'} {m'' = m''} time x q full e h t u =
 
 -- by what `update_runnable` said of the record
 module _ {c n k : ℕ} {m : List ℕ} (time x w : ℕ) (own : Bool) (q : Context) (v : UpdateResult) (hw : w ≡ k)
-  (hq : (M : Machine) → m ≡ encode M → Fits c n M → q ≡ context-at (M .contexts) x) (hv : v ≡ update-runnable w time own false q) where
+    (hq : (M : Machine) → m ≡ encode M → Fits c n M → q ≡ context-at (M .contexts) x) (hv : v ≡ update-runnable w time own false q) where
   said : (M : Machine) → m ≡ encode M → Fits c n M → update-runnable k time own false (context-at (M .contexts) x) ≡ v
   said M e o = sym (hv ∙ ap (λ (j : ℕ). update-runnable j time own false q) hw ∙ ap (λ (y : Context). update-runnable k time own false y) (hq M e o))
 
@@ -107,6 +108,6 @@ module _ {c n : ℕ} {m : List ℕ} (k time : ℕ) (b : PercpuBlock) (hb : (M : 
   switched-back x d e t =
       stage-as t
       (λ M z o.
-        let y : eqb (cpu-at M k .block .«current_ctxt») (cpu-at M k .block .«sched_ctxt») ≡ false = ne-eqb _ _ (rw (hb M z o) at d)
-        in let w : x ≡ cpu-at M k .block .«sched_ctxt» = rw (hb M z o) at e
-        in (rw (y, w), λ a g. g ∙ rw (y, w)))
+      let y : eqb (cpu-at M k .block .«current_ctxt») (cpu-at M k .block .«sched_ctxt») ≡ false = ne-eqb _ _ (rw (hb M z o) at d)
+      in let w : x ≡ cpu-at M k .block .«sched_ctxt» = rw (hb M z o) at e
+      in (rw (y, w), λ a g. g ∙ rw (y, w)))

@@ -17,7 +17,15 @@ pub enum DirectSwitch {
     NoRoom,
 }
 
-fn direct_switch(m: &mut [u64], c: usize, n: usize, k: usize, time: u64, x: usize, q: Context) -> DirectSwitch
+fn direct_switch(
+    m: &mut [u64],
+    c: usize,
+    n: usize,
+    k: usize,
+    time: u64,
+    x: usize,
+    q: Context,
+) -> DirectSwitch
     requires { ⌜ Image c n (now m) ⌝ }
     requires { ⌜ (k < c) × (x < n) × (time ≤ 4611686018427387903) ⌝ }
     requires { ⌜ ContextFits c q ⌝ }
@@ -33,7 +41,15 @@ fn direct_switch(m: &mut [u64], c: usize, n: usize, k: usize, time: u64, x: usiz
 }
 
 // `own`: x is in charge.
-pub fn direct_switch_by(m: &mut [u64], c: usize, n: usize, k: usize, time: u64, x: usize, own: bool) -> DirectSwitch
+pub fn direct_switch_by(
+    m: &mut [u64],
+    c: usize,
+    n: usize,
+    k: usize,
+    time: u64,
+    x: usize,
+    own: bool,
+) -> DirectSwitch
     requires { ⌜ Image c n (now m) ⌝ }
     requires { ⌜ (k < c) × (x < n) × (time ≤ 4611686018427387903) ⌝ }
     requires { ⌜ Ranged c n 9223372045444710400 12105675801593118718 (now m) ⌝ }
@@ -49,7 +65,13 @@ pub fn direct_switch_by(m: &mut [u64], c: usize, n: usize, k: usize, time: u64, 
     }
 }
 
-pub fn try_direct_switch_back(m: &mut [u64], c: usize, n: usize, k: usize, time: u64) -> DirectSwitch
+pub fn try_direct_switch_back(
+    m: &mut [u64],
+    c: usize,
+    n: usize,
+    k: usize,
+    time: u64,
+) -> DirectSwitch
     requires { ⌜ Image c n (now m) ⌝ }
     requires { ⌜ (k < c) × (time ≤ 4611686018427387903) ⌝ }
     requires { ⌜ Ranged c n 9223372045444710400 12105675801593118718 (now m) ⌝ }

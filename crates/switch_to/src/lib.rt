@@ -4,10 +4,10 @@ mod direct;
 mod records;
 
 use context::Context;
-use percpu::PercpuBlock;
 pub use direct::DirectSwitch;
 pub use direct::direct_switch_by;
 pub use direct::try_direct_switch_back;
+use percpu::PercpuBlock;
 ghost use mathlib.Core.Path.{_≡_};
 ghost use mathlib.Core.Bool.{Bool, false};
 ghost use Prim.Native.Nat.{ℕ, _<_, _≤_};
@@ -44,7 +44,17 @@ fn enter(m: &mut [u64], c: usize, n: usize, k: usize, time: u64, x: usize, b: Pe
 }
 
 // From y, whose record is q, to x. True if there is no room for y on the local list.
-fn switch_from(m: &mut [u64], c: usize, n: usize, k: usize, time: u64, x: usize, y: usize, b: PercpuBlock, q: Context) -> bool
+fn switch_from(
+    m: &mut [u64],
+    c: usize,
+    n: usize,
+    k: usize,
+    time: u64,
+    x: usize,
+    y: usize,
+    b: PercpuBlock,
+    q: Context,
+) -> bool
     requires { ⌜ Image c n (now m) ⌝ }
     requires { ⌜ (k < c) × (x < n) × (y < n) ⌝ }
     requires { ⌜ BlockFits n b ⌝ }

@@ -184,5 +184,5 @@ module _ {c n t b : ℕ} (s : State) (f : CpuFits n (s .cpu)) (g : (x : ℕ) →
       in
       pick (StateBelow n t (b + 288230376151711744)) (is-idle s) (λ z. state-more h w o)
       (λ z. pick (StateBelow n t (b + 288230376151711744)) (is-runnable ((holder s) .status))
-        (λ y. context-kept s (state-more h w o) (s .cpu .block .«sched_ctxt») (charged (s .cpu .block .v) e (holder s)) (charged-below (s .cpu .block .v) e (holder s) l (k .prio) (k .rem-slice) (o .cpu .v) held))
-        (λ y. state-more h w stop-below))
+      (λ y. context-kept s (state-more h w o) (s .cpu .block .«sched_ctxt») (charged (s .cpu .block .v) e (holder s)) (charged-below (s .cpu .block .v) e (holder s) l (k .prio) (k .rem-slice) (o .cpu .v) held))
+      (λ y. state-more h w stop-below))

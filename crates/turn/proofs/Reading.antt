@@ -50,8 +50,8 @@ module _ {c n : ℕ} {m : List ℕ} where
   stored-with {k = k} f t h =
       stage-as t
       (λ M e o.
-        let a = h M e o
-        in (ap (λ (p : Cpu). record { contexts = M .contexts; cpu = p; no-room = false }) (a .0), λ y z. a .1))
+      let a = h M e o
+      in (ap (λ (p : Cpu). record { contexts = M .contexts; cpu = p; no-room = false }) (a .0), λ y z. a .1))
 
   pub stored-as : {k : ℕ} {m' : List ℕ} {b : PercpuBlock} (f : Cpu → Cpu) → Staged c n k m m' false (λ (s : State). on-cpu (λ (p : Cpu). cpu-block b p) s)
       → ((M : Machine) → m ≡ encode M → Fits c n M → cpu-block b (cpu-at M k) ≡ f (cpu-at M k)) → Staged c n k m m' false (λ (s : State). on-cpu f s)
@@ -72,14 +72,14 @@ pub unchanged-with : {R : Type 0} {c n : ℕ} {m : List ℕ} {r : R} {g : State 
 unchanged-with {c = c} {n = n} k f i h =
     staged i
     (λ M e o.
-      let a = h M e o
-      in let z : put-state k (f (state-of k M)) M ≡ M = ap (λ (s : State). put-state k s M) (a .0) ∙ put-same k M
-      in record {
-        room = sym (ap (λ (s : State). s .no-room) (a .0));
-        after = λ y. e ∙ ap encode (sym z);
-        fits = λ y. subst (Fits c n) (sym z) o;
-        answer = λ y. a .1;
-      })
+    let a = h M e o
+    in let z : put-state k (f (state-of k M)) M ≡ M = ap (λ (s : State). put-state k s M) (a .0) ∙ put-same k M
+    in record {
+      room = sym (ap (λ (s : State). s .no-room) (a .0));
+      after = λ y. e ∙ ap encode (sym z);
+      fits = λ y. subst (Fits c n) (sym z) o;
+      answer = λ y. a .1;
+    })
 
 pub unchanged : {c n : ℕ} {m : List ℕ} (k : ℕ) (f : State → State) → Image c n m → ((M : Machine) → m ≡ encode M → Fits c n M → f (state-of k M) ≡ state-of k M) → Staged c n k m m false f
 unchanged k f i h = unchanged-with k f i (λ M e o. (h M e o, refl))

@@ -40,7 +40,15 @@ fn deactivate(m: &mut [u64], c: usize, n: usize, k: usize, x: usize, b: PercpuBl
 }
 
 // The wake of a holder that stops becomes a timer. True if there is no room for it.
-fn stop_holder(m: &mut [u64], c: usize, n: usize, k: usize, x: usize, b: PercpuBlock, q: Context) -> bool
+fn stop_holder(
+    m: &mut [u64],
+    c: usize,
+    n: usize,
+    k: usize,
+    x: usize,
+    b: PercpuBlock,
+    q: Context,
+) -> bool
     requires { ⌜ Image c n (now m) ⌝ }
     requires { ⌜ (k < c) × (x < n) ⌝ }
     requires { ⌜ BlockFits n b ⌝ }
@@ -58,7 +66,16 @@ fn stop_holder(m: &mut [u64], c: usize, n: usize, k: usize, x: usize, b: PercpuB
     false
 }
 
-fn charge_context(m: &mut [u64], c: usize, n: usize, k: usize, elapsed: u64, x: usize, b: PercpuBlock, q: Context) -> bool
+fn charge_context(
+    m: &mut [u64],
+    c: usize,
+    n: usize,
+    k: usize,
+    elapsed: u64,
+    x: usize,
+    b: PercpuBlock,
+    q: Context,
+) -> bool
     requires { ⌜ Image c n (now m) ⌝ }
     requires { ⌜ (k < c) × (x < n) ⌝ }
     requires { ⌜ BlockFits n b ⌝ }

@@ -4,10 +4,10 @@ mod charging;
 mod counting;
 mod timing;
 
-use cpu_stats::CpuStats;
-use percpu::PercpuBlock;
 pub use charging::charge_holder;
 pub use counting::count_switch;
+use cpu_stats::CpuStats;
+use percpu::PercpuBlock;
 pub use timing::Turn;
 pub use timing::times;
 ghost use mathlib.Core.Path.{_≡_};
