@@ -1,1 +1,3 @@
 pub mod Resolved
+pub mod Waking
+pub mod Operated

@@ -34,14 +34,14 @@ drain-ipi-context-wakeups k M =
     }
 
 -- a runnable context gets the status
-unfoldable pub block-with : Status → (k x : ℕ) → Machine → Outcome
-block-with s k x M =
+unfoldable pub block-with : Status → (x : ℕ) → Machine → Outcome
+block-with s x M =
     let b = blocked-as s (context-at (M .contexts) x) in
     finished (mark (b .done)) (set-context x (b .context) M)
 
 -- 6, and 7 as Stopped
-abbrev pub block : (k x : ℕ) → Machine → Outcome
+abbrev pub block : (x : ℕ) → Machine → Outcome
 block = block-with Blocked
 
-abbrev pub hard-block : (k x : ℕ) → Machine → Outcome
+abbrev pub hard-block : (x : ℕ) → Machine → Outcome
 hard-block = block-with Stopped

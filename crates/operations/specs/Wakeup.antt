@@ -2,7 +2,7 @@
 use mathlib.Core.Bool.{Bool, true, false}
 use Prim.Native.Nat.{ℕ, _-_}
 use mathlib.Core.List.{List, [], _∷_, _++_}
-use lib.Dec.{ltb, eqb}
+use lib.Dec.{leb, eqb}
 use lib.ListN.{length}
 use Rattle.columns.specs.Common.{if_then_else_}
 use Rattle.percpu.specs.With.{cpu-local-wakeup-list, cpu-ipi-context-wakeup-list}
@@ -18,16 +18,21 @@ other-cpu k cpu-id M =
     if eqb cpu-id 0 then Absent else
     if eqb (cpu-id - 1) k then Absent else get-percpu-block M (cpu-id - 1)
 
+-- the name x at the end of CPU k's local list, and of its interrupt list
+unfoldable pub push-local : (k x : ℕ) → Machine → Machine
+push-local k x M =
+    set-cpu k (cpu-local-wakeup-list (cpu-at M k .«local_wakeup_list» ++ (x ∷ [])) (cpu-at M k)) M
+
+unfoldable pub push-ipi : (k x : ℕ) → Machine → Machine
+push-ipi k x M =
+    set-cpu k (cpu-ipi-context-wakeup-list (cpu-at M k .«ipi_context_wakeup_list» ++ (x ∷ [])) (cpu-at M k)) M
+
 -- on another CPU's list it is a non-local wake-up, with the interrupt
 unfoldable pub wakeup-on : (k x result : ℕ) → Machine → CpuLookup → Outcome
 wakeup-on k x result M (Present t) =
-    let p = cpu-at M t in
-    let l = p .«ipi_context_wakeup_list» ++ (x ∷ []) in
-    record { machine = set-cpu t (cpu-ipi-context-wakeup-list l p) M; result = result; interrupt = true; no-room = ltb 64 (length l) }
+    record { machine = push-ipi t x M; result = result; interrupt = true; no-room = leb 64 (length (cpu-at M t .«ipi_context_wakeup_list»)) }
 wakeup-on k x result M Absent =
-    let p = cpu-at M k in
-    let l = p .«local_wakeup_list» ++ (x ∷ []) in
-    record { machine = set-cpu k (cpu-local-wakeup-list l p) M; result = result; interrupt = false; no-room = ltb 64 (length l) }
+    record { machine = push-local k x M; result = result; interrupt = false; no-room = leb 64 (length (cpu-at M k .«local_wakeup_list»)) }
 
 -- context x is woken from CPU k; `result` is what the call gives
 unfoldable pub wakeup-context : (k x result : ℕ) → Machine → Outcome

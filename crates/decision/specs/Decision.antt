@@ -1,0 +1,114 @@
+-- `schedule` and the calls that decide: `tick`, `switch` and `direct_switch_to`. Assumes nothing.
+use mathlib.Core.Bool.{Bool, false, _&&_}
+use mathlib.Core.List.{List, _∷_}
+use mathlib.Core.Option.{Option, none, some}
+use Prim.Native.Nat.{ℕ, _+_}
+use lib.Dec.{ltb, eqb}
+use lib.ListN.{set}
+use Rattle.columns.specs.Common.{if_then_else_}
+use Rattle.cpu_stats.specs.declared.CpuState.the-variants.{Idle}
+use Rattle.cpu_stats.specs.With.{stats-state}
+use Rattle.ticks.specs.Ticks.{ticks}
+use Rattle.runnable.specs.Runnable.{update-runnable}
+use Rattle.percpu.specs.Cpu.{Cpu}
+use Rattle.percpu.specs.With.{cpu-pit-ticks, cpu-stats}
+use Rattle.machine.specs.Machine.{Machine}
+use Rattle.decision.specs.State.{State, at, on-cpu, state-of, is-some, prev-runnable}
+use Rattle.decision.specs.Charging.{elapsed, was-idle, before-choice}
+use Rattle.decision.specs.Scan.{Scan, scan}
+use Rattle.decision.specs.Choice.{Choice, choice, chosen, ineligible-holder}
+use Rattle.decision.specs.Steal.{Stealing, steal, mark-stealable}
+use Rattle.decision.specs.SwitchTo.{advance, requeue, next-context, hand-over, switch-to, direct-switch-by, try-direct-switch-back}
+
+-- what a call gives: the machine, the result, the interrupt mark, and whether an insertion found no room
+pub record Outcome : Type 0 where
+  pub machine : Machine
+  pub result : ℕ
+  pub interrupt : Bool
+  pub no-room : Bool
+
+-- the state of CPU k put back among the CPUs
+abbrev pub finish : ℕ → List Cpu → ℕ → State → Outcome
+finish k cpus r s =
+    record {
+      machine = record { contexts = s .contexts; cpus = set cpus k (s .cpu) };
+      result = r;
+      interrupt = false;
+      no-room = s .no-room;
+    }
+
+-- what `schedule` gives: the state, every CPU (this one as it was), and who was picked; none: AllContextsIdle
+pub record Scheduled : Type 0 where
+  pub state : State
+  pub cpus : List Cpu
+  pub picked : Option ℕ
+
+module _ (k time : ℕ) where
+  abbrev pub scanned : State → Scan
+  scanned s = scan k time (s .cpu) (ineligible-holder s) (s .contexts) (s .cpu .queue)
+
+  abbrev pub locks : State → Choice → List ℕ
+  locks s w = s .cpu .block .«sched_ctxt» ∷ w .locked
+
+  -- the choice and the stealing, where s is the state before the choice
+  unfoldable pub choose-and-steal : List Cpu → State → Stealing
+  choose-and-steal cpus s =
+      let f = scanned s in
+      let w = choice s f in
+      steal k (prev-runnable s) (locks s w) cpus (w .winner) (chosen w f s)
+
+  -- V advances and a runnable holder that lost goes back
+  unfoldable pub settled : (runs : Bool) → ℕ → Stealing → State
+  settled runs n l =
+      let s = advance runs (l .winner) n (l .state) in
+      on-cpu mark-stealable (if is-some (l .winner) && runs then requeue s else s)
+
+  unfoldable pub picked-as : (was-idle : Bool) → List Cpu → Option ℕ → State → Scheduled
+  picked-as was-idle cpus none s = record { state = s; cpus = cpus; picked = none }
+  picked-as was-idle cpus (some x) s = record { state = hand-over time was-idle x s; cpus = cpus; picked = some x }
+
+  unfoldable pub schedule : List Cpu → State → Scheduled
+  schedule cpus s₀ =
+      let s = before-choice time s₀ in
+      let l = choose-and-steal cpus s in
+      let s′ = settled (prev-runnable s) (ticks (elapsed time (s₀ .cpu))) l in
+      picked-as (was-idle (s₀ .cpu)) (l .cpus) (next-context (prev-runnable s) (l .winner) s′) s′
+
+  -- the holder kept the slice: the CPU is marked Idle though the holder may run
+  unfoldable pub switch-as : State → List Cpu → Option ℕ → Outcome
+  switch-as s cpus none = finish k cpus 2 (on-cpu (λ p. cpu-stats (stats-state Idle (p .block .stats)) p) s)
+  switch-as s cpus (some x) = finish k cpus 1 (if eqb (s .cpu .block .«current_ctxt») x then s else switch-to k time x s)
+
+  unfoldable pub after-schedule : Scheduled → Outcome
+  after-schedule d = switch-as (d .state) (d .cpus) (d .picked)
+
+  unfoldable pub switch-inner-by : List Cpu → State → Option State → Outcome
+  switch-inner-by cpus s (some s′) = finish k cpus 1 s′
+  switch-inner-by cpus s none = after-schedule (schedule cpus s)
+
+  unfoldable pub switch-inner : List Cpu → State → Outcome
+  switch-inner cpus s = switch-inner-by cpus s (try-direct-switch-back k time s)
+
+  abbrev pub ticked : State → State
+  ticked s = on-cpu (λ p. cpu-pit-ticks (p .block .«pit_ticks» + 1) p) s
+
+  -- a switch is due on every third tick
+  unfoldable pub tick : Machine → Outcome
+  tick M =
+      let s = ticked (state-of k M) in
+      if ltb (s .cpu .block .«pit_ticks») 3 then finish k (M .cpus) 0 s else switch-inner (M .cpus) s
+
+  unfoldable pub switch : Machine → Outcome
+  switch M = switch-inner (M .cpus) (state-of k M)
+
+  -- x cannot be switched to: the CPU switches as it would by itself
+  unfoldable pub direct-switch-or : List Cpu → State → Option State → Outcome
+  direct-switch-or cpus s (some s′) = finish k cpus 1 s′
+  direct-switch-or cpus s none = switch-inner cpus s
+
+  unfoldable pub direct-switch-to : ℕ → Machine → Outcome
+  direct-switch-to x M =
+      let s = state-of k M in
+      if eqb (s .cpu .block .«current_ctxt») x then finish k (M .cpus) 1 s else
+      direct-switch-or (M .cpus) s
+      (direct-switch-by k time x s (update-runnable k time (eqb (s .cpu .block .«sched_ctxt») x) false (at s x)))

@@ -1,0 +1,12 @@
+pub mod State
+pub mod Wakeups
+pub mod Charging
+pub mod Scan
+pub mod Choice
+pub mod Steal
+pub mod SwitchTo
+pub mod Decision
+pub mod Opened
+pub mod Tidy
+pub mod Accepted
+pub mod Demand3

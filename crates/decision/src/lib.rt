@@ -1,0 +1,1 @@
+// The scheduling decisions (context/switch.rs): their definitions are in specs/.

@@ -1,0 +1,4 @@
+pub mod Starred
+pub mod Stray
+pub mod Replay
+pub mod KernelCases

@@ -1,0 +1,42 @@
+-- What each call answers and the image it leaves, of any words, CPU, time and context. Assumes nothing.
+use mathlib.Core.Bool.{Bool, true, false}
+use Prim.Native.Nat.{ℕ}
+use mathlib.Core.List.{List}
+use lib.Dec.{eqb}
+use Rattle.columns.specs.Common.{if_then_else_}
+use Rattle.machine.specs.Machine.{Machine}
+use Rattle.machine.specs.Encode.{decode}
+use Rattle.machine.specs.LookUp.{get-percpu-block}
+use Rattle.image.specs.Refusal.{size-c, size-n, image-refusal}
+use Rattle.ronthuyal.specs.declared.Checked.{Checked}
+use Rattle.ronthuyal.specs.declared.Checked.the-variants.{Refused, Passed}
+use Rattle.operations.specs.Named.{named}
+use Rattle.operations.specs.Operations.{unblock-context, drain-ipi-context-wakeups, block, hard-block}
+use Rattle.operations.specs.Reply.{Reply, refuse, reply-to, reply-on}
+
+-- refusals 1 to 4, or the counts of CPUs and contexts
+unfoldable pub check : List ℕ → ℕ → Checked
+check m time = if eqb (image-refusal time m) 0 then Passed (size-c m) (size-n m) else Refused (image-refusal time m)
+
+-- refusals 1 to 4 come first; then f answers, of the machine that the image stands for
+unfoldable pub checked-by : List ℕ → (Machine → Reply) → Checked → Reply
+checked-by m f (Refused r) = refuse r m
+checked-by m f (Passed c n) = f (decode m)
+
+abbrev pub checked : List ℕ → ℕ → (Machine → Reply) → Reply
+checked m time f = checked-by m f (check m time)
+
+abbrev pub unblock-context-call : List ℕ → (cpu time context : ℕ) → Reply
+unblock-context-call m cpu time context =
+    checked m time (λ (M : Machine). reply-to m (λ (k x : ℕ). unblock-context k x M) (named M cpu context))
+
+abbrev pub drain-ipi-context-wakeups-call : List ℕ → (cpu time : ℕ) → Reply
+drain-ipi-context-wakeups-call m cpu time =
+    checked m time (λ (M : Machine). reply-on m (λ (k : ℕ). drain-ipi-context-wakeups k M) (get-percpu-block M cpu))
+
+abbrev pub block-call : List ℕ → (cpu time context : ℕ) → Reply
+block-call m cpu time context = checked m time (λ (M : Machine). reply-to m (λ (k x : ℕ). block x M) (named M cpu context))
+
+abbrev pub hard-block-call : List ℕ → (cpu time context : ℕ) → Reply
+hard-block-call m cpu time context =
+    checked m time (λ (M : Machine). reply-to m (λ (k x : ℕ). hard-block x M) (named M cpu context))

@@ -1,0 +1,138 @@
+//! Chooses a short list of cases that goes through every branch, for the recorded
+//! list and for the small one.
+
+use crate::{
+    branches::{self, Seen},
+    generate::Stream,
+};
+use image::{Answer, Call};
+
+pub struct Limits {
+    pub cpus: u64,
+    pub contexts: u64,
+    /// How many words are not 0, before the call.
+    pub words: std::ops::RangeInclusive<usize>,
+    /// How often each feature is wanted, if there are such cases.
+    pub times: u32,
+    /// How often each refusal is wanted.
+    pub refused: u32,
+    /// Whether images whose length does not follow from their sizes are taken.
+    pub any_length: bool,
+    pub cases: usize,
+}
+
+pub struct Chosen {
+    pub call: Call,
+    pub image: Vec<u64>,
+    pub answer: Answer,
+    pub after: Vec<u64>,
+    features: Vec<usize>,
+    cost: usize,
+}
+
+/// Takes from `tries` cases, each time the one with most that is new for its size.
+pub fn choose(mut stream: Stream, tries: u64, limits: &Limits) -> Vec<Chosen> {
+    let mut from = Vec::new();
+    let mut seen_of = Vec::new();
+    for _ in 0..tries {
+        let seen = branches::next(&mut stream);
+        let words = seen.case.image.iter().filter(|word| **word != 0).count();
+        let sized = match seen.answer.refusal {
+            1 | 2 => limits.any_length,
+            _ => seen.case.image[0] <= limits.cpus && seen.case.image[1] <= limits.contexts,
+        };
+        if sized && limits.words.contains(&words) {
+            let chosen = features(seen, words);
+            for feature in &chosen.features {
+                seen_of.resize(seen_of.len().max(feature + 1), 0_u32);
+                seen_of[*feature] += 1;
+            }
+            // Enough of one feature's cases are kept to choose among them.
+            if chosen.features.iter().any(|feature| seen_of[*feature] < 60) {
+                from.push(chosen);
+            }
+        }
+    }
+    greedy(from, seen_of.len(), limits)
+}
+
+/// Features below the first are refusals, below the second operations with results,
+/// the rest branches.
+const REFUSALS: usize = 16;
+const ANSWERS: usize = 100;
+
+fn features(seen: Seen, words: usize) -> Chosen {
+    let call = seen.case.call;
+    let operation = call.operation.min(8) as usize;
+    let answer = seen.answer;
+    let features = if answer.refusal != 0 {
+        vec![answer.refusal as usize]
+    } else {
+        let answered = REFUSALS + operation * 8 + (answer.result * 2 + answer.interrupt) as usize;
+        let reached = branches::branches(&seen.reached);
+        let through = (0..reached.len())
+            .filter(|n| reached[*n])
+            .map(|n| ANSWERS + n);
+        through.chain([answered]).collect()
+    };
+    Chosen {
+        call,
+        image: seen.case.image,
+        answer,
+        after: seen.after,
+        features,
+        cost: 40 + words,
+    }
+}
+
+fn greedy(mut from: Vec<Chosen>, features: usize, limits: &Limits) -> Vec<Chosen> {
+    let mut taken: Vec<Chosen> = Vec::new();
+    let mut covered = vec![0_u32; features];
+    let mut times = 1;
+    while taken.len() < limits.cases && !from.is_empty() {
+        let gain = |case: &Chosen| {
+            let wanted = |f: usize| {
+                if f < REFUSALS {
+                    times.min(limits.refused)
+                } else {
+                    times
+                }
+            };
+            let new = case
+                .features
+                .iter()
+                .filter(|f| covered[**f] < wanted(**f))
+                .count();
+            new * 1_000_000 / case.cost
+        };
+        let best = (0..from.len()).max_by_key(|n| gain(&from[*n])).unwrap();
+        if gain(&from[best]) == 0 {
+            times += 1;
+            if times > limits.times {
+                break;
+            }
+            continue;
+        }
+        let case = from.swap_remove(best);
+        for feature in &case.features {
+            covered[*feature] += 1;
+        }
+        taken.push(case);
+    }
+    taken.sort_by_key(|case| (case.answer.refusal, case.call.operation, case.answer.result));
+    taken
+}
+
+/// The words that the call changes, with their new values.
+pub fn changes(case: &Chosen) -> Vec<(usize, u64)> {
+    let pairs = case.image.iter().zip(&case.after).enumerate();
+    pairs
+        .filter(|(_, (before, after))| before != after)
+        .map(|(index, (_, after))| (index, *after))
+        .collect()
+}
+
+pub fn nonzero(case: &Chosen) -> Vec<(usize, u64)> {
+    let words = case.image.iter().copied().enumerate();
+    words.filter(|(_, word)| *word != 0).collect()
+}

@@ -1,0 +1,77 @@
+//! Images whose words are in range but whose structure is broken, or just not.
+
+use super::rng::Rng;
+use image::{View, block as b, context as c};
+
+pub fn break_structure(rng: &mut Rng, image: &mut [u64]) {
+    let view = View(image);
+    let (cpus, contexts) = (view.cpus(), view.contexts());
+    let (one, other) = (rng.below(contexts), rng.below(contexts));
+    let block = view.block_at(rng.below(cpus));
+    let queue = image[block + b::QUEUE_COUNT] as usize;
+    let timers = image[block + b::TIMERS_COUNT] as usize;
+    match rng.below(8) {
+        0 => {
+            let id = image[view.context_at(other) + c::DEBUG_ID];
+            let at = view.context_at(one);
+            image[at + c::DEBUG_ID] = id;
+        }
+        1 => {
+            let at = view.context_at(one);
+            gone(&mut image[at..at + c::WORDS]);
+        }
+        2 if queue > 0 => {
+            let slot = rng.below(queue);
+            image[block + b::ENTRY_CONTEXT + slot] = one as u64;
+        }
+        3 if queue > 0 => {
+            let at = block + b::KEY_ID + rng.below(queue);
+            image[at] = rng.pick(&[image[at] ^ 1, image[at] + 1, 0]);
+        }
+        4 if queue > 1 => {
+            let slot = rng.within(1, queue - 1);
+            swap(rng, image, block, b::COLUMNS[0].1, slot);
+        }
+        5 if queue > 1 => {
+            // Equal deadlines: the larger slice must come first, then the smaller id.
+            let slot = rng.within(1, queue - 1);
+            image[block + b::KEY_VD + slot] = image[block + b::KEY_VD + slot - 1];
+            if rng.once_in(2) {
+                image[block + b::KEY_REM_SLICE + slot] = image[block + b::KEY_REM_SLICE + slot - 1];
+            }
+        }
+        6 if timers > 1 => {
+            let slot = rng.within(1, timers - 1);
+            swap(rng, image, block, b::COLUMNS[1].1, slot);
+        }
+        7 if timers > 1 => {
+            let slot = rng.within(1, timers - 1);
+            image[block + b::TIMER_WAKE + slot] = image[block + b::TIMER_WAKE + slot - 1];
+        }
+        _ => {
+            let seat = rng.pick(&[b::CURRENT_CTXT, b::SCHED_CTXT, b::IDLE_CTXT]);
+            if image[block + b::PRESENT] == 1 {
+                let at = View(image).context_at(image[block + seat] as usize);
+                gone(&mut image[at..at + c::WORDS]);
+            }
+        }
+    }
+}
+
+fn gone(record: &mut [u64]) {
+    record[c::STATUS..].fill(0);
+    record[c::GONE] = 1;
+}
+
+/// Changes places with the item before, or becomes equal to it.
+fn swap(rng: &mut Rng, image: &mut [u64], block: usize, columns: &[usize], slot: usize) {
+    let equal = rng.once_in(2);
+    for column in columns {
+        let at = block + column + slot;
+        if equal {
+            image[at] = image[at - 1];
+        } else {
+            image.swap(at, at - 1);
+        }
+    }
+}

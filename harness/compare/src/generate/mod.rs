@@ -1,0 +1,192 @@
+//! The seeded generator of cases.
+
+mod aim;
+mod breakage;
+mod damage;
+mod full;
+mod machine;
+pub mod rng;
+mod seats;
+#[cfg(test)]
+mod tests;
+mod tidy;
+mod untidy;
+mod values;
+
+use image::{Call, NUMBER_MAX, View, block as b};
+use rng::Rng;
+use tidy::Size;
+use values::Scale;
+
+#[derive(Clone, Copy, Debug, PartialEq, Eq)]
+pub enum Kind {
+    Tidy,
+    Untidy,
+    Full,
+    Damaged,
+    Chain,
+    /// Read from a recorded list, not generated.
+    Recorded,
+}
+
+#[cfg(feature = "branches")]
+pub const KINDS: [(Kind, &str); 5] = [
+    (Kind::Tidy, "tidy"),
+    (Kind::Untidy, "untidy"),
+    (Kind::Full, "full"),
+    (Kind::Damaged, "damaged"),
+    (Kind::Chain, "chain"),
+];
+
+#[derive(Clone)]
+pub struct Case {
+    pub kind: Kind,
+    pub image: Vec<u64>,
+    pub call: Call,
+}
+
+pub struct Stream {
+    rng: Rng,
+    small: bool,
+    /// The image after the last call, and how many calls the chain still has.
+    chain: Option<(Vec<u64>, Scale, usize)>,
+}
+
+impl Stream {
+    pub fn new(seed: u64) -> Self {
+        Self {
+            rng: Rng::new(seed),
+            small: false,
+            chain: None,
+        }
+    }
+    /// Only machines of one or two CPUs and few contexts.
+    #[cfg(feature = "branches")]
+    pub fn small(seed: u64) -> Self {
+        Self {
+            small: true,
+            ..Self::new(seed)
+        }
+    }
+
+    pub fn next(&mut self) -> Case {
+        if let Some((image, scale, left)) = self.chain.take() {
+            let call = self.call(&image, scale.time);
+            if left > 0 {
+                self.chain = Some((image.clone(), scale, left - 1));
+            }
+            return Case {
+                kind: Kind::Chain,
+                image,
+                call,
+            };
+        }
+        let kind = match self.rng.below(20) {
+            0..=4 => Kind::Tidy,
+            5..=10 => Kind::Untidy,
+            11..=13 => Kind::Full,
+            14..=18 => Kind::Damaged,
+            _ => Kind::Chain,
+        };
+        self.first(kind)
+    }
+
+    /// The image that the call left: the next one of a chain begins with it.
+    pub fn answered(&mut self, after: &[u64]) {
+        if let Some((image, scale, _)) = &mut self.chain {
+            image.clear();
+            image.extend(after);
+            let step = self
+                .rng
+                .pick(&[0, 1, 400_000, 2_250_000, 3_375_000, 6_750_000, 25_000_000]);
+            scale.time = (scale.time + step).min(NUMBER_MAX);
+        }
+    }
+
+    fn first(&mut self, kind: Kind) -> Case {
+        let rng = &mut self.rng;
+        let scale = Scale::new(rng);
+        let size = if self.small {
+            Size::small(rng)
+        } else {
+            Size::any(rng)
+        };
+        let mut machine = tidy::machine(rng, &size, &scale);
+        let spoiled = match kind {
+            Kind::Tidy => false,
+            Kind::Untidy => true,
+            _ => rng.once_in(2),
+        };
+        let aimed = rng.below(machine.cpu.len());
+        if rng.once_in(2) {
+            aim::at_holder(rng, &mut machine, aimed, scale.time, !spoiled);
+        }
+        if rng.once_in(3) {
+            aim::at_victims(rng, &mut machine, aimed);
+        }
+        if spoiled {
+            untidy::spoil(rng, &scale, &mut machine, aimed);
+        }
+        let filled = match kind {
+            Kind::Full => full::fill(rng, &scale, &mut machine, aimed),
+            _ => None,
+        };
+        let mut image = machine.image();
+        let mut call = self.call(&image, scale.time);
+        if !self.rng.once_in(4) && machine.cpu[aimed].present() {
+            call.cpu = aimed as u64;
+        }
+        if let Some(filled) = filled {
+            // Only a wake-up from another CPU puts a name there.
+            call.operation = 4;
+            call.cpu = (filled as u64 + 1) % machine.cpu.len() as u64;
+        }
+        for other in 0..machine.cpu.len() {
+            let held = machine.cpu[other].present() && self.rng.once_in(8);
+            if held && other as u64 != call.cpu {
+                let at = View(&image).block_at(other);
+                image[at + b::RUN_QUEUE_LOCKED] = 1;
+            }
+        }
+        if kind == Kind::Damaged {
+            damage::spoil(&mut self.rng, &mut image, &mut call);
+        }
+        if kind == Kind::Chain {
+            let left = self.rng.within(3, 15);
+            self.chain = Some((image.clone(), scale, left));
+        }
+        Case { kind, image, call }
+    }
+
+    fn call(&mut self, image: &[u64], time: u64) -> Call {
+        let rng = &mut self.rng;
+        let view = View(image);
+        let mut cpu = rng.below(view.cpus());
+        if !view.present(cpu) && !rng.once_in(12) {
+            cpu = (0..view.cpus()).find(|cpu| view.present(*cpu)).unwrap();
+        }
+        let mut operation = match rng.below(24) {
+            0..=4 => 1,
+            5..=12 => 2,
+            13..=17 => 3,
+            18 | 19 => 4,
+            20 | 21 => 5,
+            22 => 6,
+            _ => 7,
+        };
+        let mut context = rng.below(view.contexts());
+        let current = view.block(cpu, b::CURRENT_CTXT);
+        if operation == 3 && rng.once_in(6) {
+            context = current as usize;
+        } else if operation == 3 && current == view.block(cpu, b::IDLE_CTXT) && !rng.once_in(8) {
+            // Refused, as the source asserts: a few are enough.
+            operation = 2;
+        }
+        Call {
+            operation,
+            cpu: cpu as u64,
+            time,
+            context: context as u64,
+        }
+    }
+}

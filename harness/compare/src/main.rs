@@ -1,0 +1,62 @@
+//! The commands behind the scripts `run`, `branches`, `power` and `power-table`.
+
+#[cfg(feature = "branches")]
+mod branches;
+#[cfg(feature = "branches")]
+mod choose;
+#[path = "../../kernel/build/edits.rs"]
+mod edits;
+mod expected;
+mod generate;
+mod port;
+#[cfg(feature = "oracle")]
+mod power;
+#[cfg(feature = "branches")]
+mod record;
+mod replay;
+mod report;
+mod run;
+
+use std::process::ExitCode;
+
+fn main() -> ExitCode {
+    let args: Vec<String> = std::env::args().skip(1).collect();
+    let words: Vec<&str> = args.iter().map(String::as_str).collect();
+    #[cfg(feature = "oracle")]
+    kernel::oracle::quiet();
+    let number = |text: &str| text.parse::<u64>().expect("a number");
+    let good = match words[..] {
+        ["run", seed, count] => run::run(number(seed), number(count)),
+        ["replay", list] if list.ends_with(".txt") => replay::text(list),
+        ["replay", list] => replay::words(list),
+        ["edit", list, root] => edit(list, root),
+        #[cfg(feature = "oracle")]
+        ["answers", seed, count, to] => power::answers(number(seed), number(count), to),
+        #[cfg(feature = "oracle")]
+        ["against", seed, from] => power::against(number(seed), from),
+        #[cfg(feature = "branches")]
+        ["branches", seed, count] => branches::print(number(seed), number(count)),
+        #[cfg(feature = "branches")]
+        ["small", seed, count] => record::small(number(seed), number(count) as usize),
+        #[cfg(feature = "branches")]
+        ["record", seed, count, to] => record::list(number(seed), number(count) as usize, to),
+        _ => {
+            eprintln!("compare run SEED COUNT");
+            false
+        }
+    };
+    if good {
+        ExitCode::SUCCESS
+    } else {
+        ExitCode::FAILURE
+    }
+}
+
+/// Applies the edit that RONTHUYAL_EDIT numbers to its file below `root`.
+fn edit(list: &str, root: &str) -> bool {
+    let edit = edits::chosen(list.as_ref()).expect("RONTHUYAL_EDIT");
+    let path = std::path::Path::new(root).join(&edit.file);
+    let text = std::fs::read_to_string(&path).unwrap();
+    print!("{} ", edit.whereabouts(&text));
+    std::fs::write(path, edit.applied(&text)).is_ok()
+}

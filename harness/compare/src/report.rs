@@ -1,0 +1,57 @@
+//! Prints a case with the names of its words.
+
+use crate::generate::Case;
+use image::{Answer, OPERATIONS, name};
+
+pub fn case(case: &Case) {
+    let call = &case.call;
+    let operation = match call.operation {
+        1..=7 => OPERATIONS[call.operation as usize - 1],
+        _ => "none",
+    };
+    println!(
+        "{:?} case: operation {} ({operation}), cpu {}, time {}, context {}, {} words",
+        case.kind,
+        call.operation,
+        call.cpu,
+        call.time,
+        call.context,
+        case.image.len()
+    );
+    println!("words of the image that are not 0:");
+    for (index, value) in case.image.iter().enumerate() {
+        if *value != 0 {
+            println!("  {index:5} {} = {value}", word(case, index));
+        }
+    }
+}
+
+fn word(case: &Case, index: usize) -> String {
+    match case.image.as_slice() {
+        [cpus, contexts, ..] => name::of(*cpus, *contexts, index),
+        _ => format!("word {index}"),
+    }
+}
+
+/// Prints each difference; false if there is none.
+pub fn differences(case: &Case, want: (&Answer, &[u64]), got: (&Answer, &[u64])) -> bool {
+    if want == got {
+        return false;
+    }
+    self::case(case);
+    println!("differences:");
+    let row = |name: &str, want: u64, got: u64| {
+        if want != got {
+            println!("  {name}: expected {want}, got {got}");
+        }
+    };
+    row("refusal", want.0.refusal, got.0.refusal);
+    row("result", want.0.result, got.0.result);
+    row("interrupt mark", want.0.interrupt, got.0.interrupt);
+    for (index, (want, got)) in want.1.iter().zip(got.1).enumerate() {
+        if want != got {
+            row(&word(case, index), *want, *got);
+        }
+    }
+    true
+}

@@ -1,0 +1,89 @@
+//! The machine image of document 01: places of its words, their names, and an own
+//! reading of the table of refused calls.
+
+pub mod block;
+pub mod check;
+pub mod context;
+pub mod name;
+pub mod ranges;
+mod structure;
+pub mod tidy;
+
+pub const MAX_CPUS: u64 = 4;
+pub const MAX_CONTEXTS: u64 = 64;
+/// Room in a queue, timer set or list.
+pub const ROOM: usize = 64;
+/// 64-bit numbers go up to this, unless said otherwise.
+pub const NUMBER_MAX: u64 = (1 << 62) - 1;
+/// The whole slice of a context, in scaled ticks.
+pub const SLICE_MAX: u64 = 9 << 30;
+
+#[derive(Clone, Copy, Debug, PartialEq, Eq, Default)]
+pub struct Call {
+    pub operation: u64,
+    pub cpu: u64,
+    pub time: u64,
+    pub context: u64,
+}
+
+#[repr(C)]
+#[derive(Clone, Copy, Debug, PartialEq, Eq, Default)]
+pub struct Answer {
+    pub refusal: u64,
+    pub result: u64,
+    pub interrupt: u64,
+}
+
+impl Answer {
+    pub fn refused(refusal: u64) -> Self {
+        Self {
+            refusal,
+            ..Self::default()
+        }
+    }
+}
+
+pub const OPERATIONS: [&str; 7] = [
+    "tick",
+    "switch",
+    "direct_switch_to",
+    "unblock_context",
+    "drain_ipi_context_wakeups",
+    "block",
+    "hard_block",
+];
+
+pub fn length(cpus: usize, contexts: usize) -> usize {
+    2 + context::WORDS * contexts + block::WORDS * cpus
+}
+
+/// An image whose sizes and length agree.
+#[derive(Clone, Copy)]
+pub struct View<'a>(pub &'a [u64]);
+
+impl View<'_> {
+    pub fn cpus(self) -> usize {
+        self.0[0] as usize
+    }
+    pub fn contexts(self) -> usize {
+        self.0[1] as usize
+    }
+    pub fn context(self, number: usize, word: usize) -> u64 {
+        self.0[self.context_at(number) + word]
+    }
+    pub fn block(self, cpu: usize, word: usize) -> u64 {
+        self.0[self.block_at(cpu) + word]
+    }
+    pub fn context_at(self, number: usize) -> usize {
+        2 + context::WORDS * number
+    }
+    pub fn block_at(self, cpu: usize) -> usize {
+        2 + context::WORDS * self.contexts() + block::WORDS * cpu
+    }
+    pub fn present(self, cpu: usize) -> bool {
+        self.block(cpu, block::PRESENT) == 1
+    }
+    pub fn gone(self, number: usize) -> bool {
+        self.context(number, context::GONE) == 1
+    }
+}

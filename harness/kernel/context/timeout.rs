@@ -1,0 +1,1 @@
+//! Timeouts of files: no operation here sets one.

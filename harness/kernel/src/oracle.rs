@@ -1,0 +1,159 @@
+//! The kernel as the oracle: an image and a call that rows 1 to 8 let pass, and the
+//! answer and image that the kernel's own function leaves.
+
+use crate::{
+    branches,
+    context::{
+        self,
+        context::HardBlockedReason,
+        signal,
+        switch::{self, SwitchResult},
+    },
+    cpu_set::LogicalCpuId,
+    ipi,
+    load::{self, Machine},
+    percpu::{self, PercpuBlock},
+    store,
+    sync::CleanLockToken,
+    time,
+};
+use core::{
+    ptr,
+    sync::atomic::{AtomicBool, Ordering},
+};
+use image::{Answer, Call, MAX_CPUS, ROOM, View};
+use std::panic::{AssertUnwindSafe, catch_unwind};
+
+static IN_KERNEL: AtomicBool = AtomicBool::new(false);
+
+/// Panics of the kernel's functions are answers here, and are not to be printed.
+pub fn quiet() {
+    let print = std::panic::take_hook();
+    std::panic::set_hook(Box::new(move |info| {
+        if !IN_KERNEL.load(Ordering::Relaxed) {
+            print(info);
+        }
+    }));
+}
+
+/// A call that has no answer.
+#[derive(Debug, PartialEq, Eq)]
+pub enum Fault {
+    /// The kernel would wait for a lock.
+    Waits,
+    /// The kernel asserts, or its arithmetic overflows.
+    Panics(String),
+}
+
+/// Runs the call; `image` becomes the image after it.
+pub fn call(image: &mut [u64], call: &Call) -> Result<Answer, Fault> {
+    let before = image.to_vec();
+    let mut answer = run(image, call)?;
+    // A tick hides the result of its switch: the switch is run for itself.
+    if call.operation == 1 && answer.result == DUE && answer.refusal == 0 {
+        let mut again = before;
+        let ticks = View(&again).block_at(call.cpu as usize) + image::block::PIT_TICKS;
+        again[ticks] += 1;
+        let switch = Call {
+            operation: 2,
+            ..*call
+        };
+        answer.result = run(&mut again, &switch)?.result;
+        if again != image {
+            return Err(Fault::Panics("a tick and its switch differ".into()));
+        }
+    }
+    Ok(answer)
+}
+
+/// Stands for the result of a due tick until that of its switch is known.
+const DUE: u64 = u64::MAX;
+
+fn run(image: &mut [u64], call: &Call) -> Result<Answer, Fault> {
+    let mut machine = load::machine(View(image));
+    ipi::take_wakeup();
+    signal::take_called();
+    time::set(call.time);
+    connect(&mut machine, call.cpu as usize);
+    IN_KERNEL.store(true, Ordering::Relaxed);
+    let outcome = catch_unwind(AssertUnwindSafe(|| operation(&machine, call)));
+    IN_KERNEL.store(false, Ordering::Relaxed);
+    disconnect();
+    let result = outcome.map_err(|payload| {
+        if payload.is::<spin::WouldWait>() {
+            return Fault::Waits;
+        }
+        Fault::Panics(format!("{:?}", payload.downcast_ref::<&str>()))
+    })?;
+    for block in machine.blocks.iter_mut().flatten() {
+        let peaks = block.switch_internals.peaks();
+        if let Some(which) = peaks.iter().position(|peak| *peak > ROOM) {
+            branches::no_room(which);
+            return Ok(Answer::refused(9));
+        }
+    }
+    store::machine(&mut machine, image);
+    Ok(Answer {
+        refusal: 0,
+        result,
+        interrupt: ipi::take_wakeup().into(),
+    })
+}
+
+fn operation(machine: &Machine, call: &Call) -> u64 {
+    let mut clean = unsafe { CleanLockToken::new() };
+    let token = &mut clean;
+    let named = || {
+        machine.slots[call.context as usize]
+            .strong
+            .as_ref()
+            .expect("a context that is gone")
+    };
+    match call.operation {
+        1 => {
+            switch::tick(token);
+            if signal::take_called() { DUE } else { 0 }
+        }
+        2 => switched(switch::switch(token)),
+        3 => switched(switch::direct_switch_to(named().clone(), token)),
+        4 => context::unblock_context(named(), &mut token.downgrade()).into(),
+        5 => {
+            switch::drain_ipi_context_wakeups(token);
+            0
+        }
+        6 => named().write(token.token()).block("").into(),
+        7 => named()
+            .write(token.token())
+            .hard_block(HardBlockedReason::Stopped)
+            .into(),
+        _ => panic!("no such operation"),
+    }
+}
+
+fn switched(result: SwitchResult) -> u64 {
+    match result {
+        SwitchResult::Switched => 1,
+        SwitchResult::AllContextsIdle => 2,
+    }
+}
+
+fn connect(machine: &mut Machine, cpu: usize) {
+    crate::CPU_COUNT.store(machine.blocks.len() as u32, Ordering::Relaxed);
+    for (number, block) in machine.blocks.iter_mut().enumerate() {
+        let block = block
+            .as_mut()
+            .map_or(ptr::null_mut(), |block| &raw mut **block);
+        unsafe { percpu::init_tlb_shootdown(LogicalCpuId::new(number as u32), block) };
+        if number == cpu {
+            PercpuBlock::set_current(block);
+        }
+    }
+}
+
+fn disconnect() {
+    for number in 0..MAX_CPUS {
+        let id = LogicalCpuId::new(number as u32);
+        unsafe { percpu::init_tlb_shootdown(id, ptr::null_mut()) };
+    }
+    PercpuBlock::set_current(ptr::null_mut());
+}

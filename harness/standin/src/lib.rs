@@ -1,0 +1,32 @@
+//! Stands in for the port: the table and the kernel behind the port's interface. The
+//! comparison is tried on it, and edits of the table show whether it would see a port
+//! that reads the table otherwise.
+
+use image::{Answer, Call, check};
+use kernel::oracle;
+
+/// # Safety
+/// `image` points to `len` words.
+#[unsafe(no_mangle)]
+pub unsafe extern "C" fn ronthuyal_call(
+    image: *mut u64,
+    len: usize,
+    operation: u64,
+    cpu: u64,
+    time: u64,
+    context: u64,
+) -> Answer {
+    let words = unsafe { std::slice::from_raw_parts_mut(image, len) };
+    let call = Call {
+        operation,
+        cpu,
+        time,
+        context,
+    };
+    let refusal = check::refusal(words, &call);
+    if refusal != 0 {
+        return Answer::refused(refusal);
+    }
+    // No row has this number: an edited table let a call pass that has no answer.
+    oracle::call(words, &call).unwrap_or(Answer::refused(u64::MAX))
+}

@@ -1,0 +1,92 @@
+#!/usr/bin/env python3
+"""Calls of the kernel's own run as one antt file.
+
+usage: kernel_cases.py LIST.. > crates/decision_cases/specs/KernelCases.antt
+
+A list is text, a line for each call, `op cpu time ctx | idx:value .. | refusal result interrupt | idx:newvalue ..`,
+or words of 64 bits (name ending in .bin), as harness/recorded describes them. Calls of operations 1 to 3 are taken
+that were accepted or found no room, from a .bin list only those on small machines that found no room or that differ
+in kind from what was taken before.
+"""
+import struct
+import sys
+
+HEAD = '''-- Calls of the kernel's own run: words before, result, words after. Written by tools/kernel_cases.py. Assumes nothing.
+use mathlib.Core.Path.{_≡_, refl}
+use mathlib.Core.Bool.{Bool, true, false}
+use mathlib.Core.List.{List, [], _∷_}
+use Prim.Native.Nat.{ℕ}
+use Rattle.decision.specs.Opened.{opened}
+use Rattle.decision_cases.specs.Replay.{KernelCase, called, every-passes, zeros, sparse, same-words, replay, passes}
+
+unfoldable pub kernel-cases : List KernelCase
+kernel-cases =
+'''
+TAIL = '''    []
+
+pub every-case-passes : every-passes kernel-cases ≡ true
+unfolding opened kernel-cases zeros sparse same-words replay passes every-passes
+every-case-passes = refl
+'''
+
+
+def from_text(name):
+    for line in open(name):
+        line = line.strip()
+        if line and not line.startswith('#'):
+            call, image, answer, changed = [p.strip() for p in line.split('|')]
+            pairs = lambda text: [tuple(map(int, w.split(':'))) for w in text.split()]
+            words = dict(pairs(image))
+            yield tuple(map(int, call.split())), size_of(words), words, tuple(map(int, answer.split())), dict(pairs(changed))
+
+
+def from_words(name):
+    data = open(name, 'rb').read()
+    words = iter(struct.unpack(f'<{len(data) // 8}Q', data))
+    pairs = lambda: {next(words): next(words) for _ in range(next(words))}
+    for _ in range(next(words)):
+        call = tuple(next(words) for _ in range(4))
+        size = next(words)
+        image = pairs()
+        answer = tuple(next(words) for _ in range(3))
+        yield call, size, image, answer, pairs()
+
+
+def size_of(words):
+    return 2 + 26 * words.get(1, 0) + 665 * words.get(0, 0)
+
+
+def sparse(words, size):
+    at, out = 0, []
+    for i, v in sorted(words.items()):
+        if v:
+            out += [i - at, v]
+            at = i + 1
+    return ' ∷ '.join(map(str, out + [size - at])) + ' ∷ []'
+
+
+def show(call, size, before, answer, changed):
+    op, cpu, time, ctx = call
+    after = {**before, **changed}
+    full = 'true' if answer[0] else 'false'
+    return f'    called {op} {cpu} {time} {ctx} {full} {answer[1]} ({sparse(before, size)})\n    ({sparse(after, size)}) ∷\n'
+
+
+def main():
+    out, every = [], '--every' in sys.argv
+    for name in (a for a in sys.argv[1:] if a != '--every'):
+        kinds = set()
+        for case in (from_words if name.endswith('.bin') else from_text)(name):
+            call, size, before, answer, changed = case
+            if call[0] not in (1, 2, 3) or answer[0] not in (0, 9):
+                continue
+            kind = (call[0], answer, before[0], len(changed))
+            if name.endswith('.bin') and not every:
+                if not answer[0] and (len(before) > 90 or kind in kinds or len(out) >= 72):
+                    continue
+            kinds.add(kind)
+            out.append(show(*case))
+    sys.stdout.write(HEAD + ''.join(out) + TAIL)
+
+
+main()
