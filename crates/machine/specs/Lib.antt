@@ -2,3 +2,4 @@ pub mod Machine
 pub mod Encode
 pub mod Shape
 pub mod LookUp
+pub mod Outcome

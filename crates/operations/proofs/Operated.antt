@@ -31,7 +31,7 @@ use Rattle.machine.specs.Encode.{encode, cpu-place}
 use Rattle.machine.specs.LookUp.{get-percpu-block}
 use Rattle.machine.specs.Shape.{ContextFits, Fits, Image}
 use Rattle.operations.specs.declared.Answer.{Answer}
-use Rattle.operations.specs.Outcome.{Outcome, finished}
+use Rattle.machine.specs.Outcome.{Outcome, finished}
 use Rattle.operations.specs.Wakeup.{other-cpu, wakeup-on, wakeup-context}
 use Rattle.operations.specs.Operations.{unblock-context, drain-ipi-context-wakeups, block-with}
 use Rattle.operations.specs.Reply.{Reply, reply, replied, reply-to, reply-on}

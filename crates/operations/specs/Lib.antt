@@ -1,4 +1,3 @@
-pub mod Outcome
 pub mod Wakeup
 pub mod Operations
 pub mod Named

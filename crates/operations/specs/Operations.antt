@@ -11,7 +11,7 @@ use Rattle.context.specs.Status.{is-runnable}
 use Rattle.context.specs.Block.{blocked-as, unblocked}
 use Rattle.percpu.specs.With.{cpu-local-wakeup-list, cpu-ipi-context-wakeup-list}
 use Rattle.machine.specs.Machine.{Machine, context-at, cpu-at, set-context, set-cpu}
-use Rattle.operations.specs.Outcome.{Outcome, finished}
+use Rattle.machine.specs.Outcome.{Outcome, finished}
 use Rattle.operations.specs.Wakeup.{wakeup-context}
 
 -- 4: a context that is runnable already is woken too, and the result is then false

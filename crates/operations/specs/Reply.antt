@@ -10,7 +10,7 @@ use Rattle.machine.specs.Encode.{encode}
 use Rattle.operations.specs.declared.Answer.{Answer}
 use Rattle.operations.specs.declared.named.Named.{Named}
 use Rattle.operations.specs.declared.named.Named.the-variants.{Refused, Found}
-use Rattle.operations.specs.Outcome.{Outcome}
+use Rattle.machine.specs.Outcome.{Outcome}
 
 pub record Reply : Type 0 where
   pub answer : Answer

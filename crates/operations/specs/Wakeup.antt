@@ -10,7 +10,7 @@ use Rattle.machine.specs.declared.CpuLookup.{CpuLookup}
 use Rattle.machine.specs.declared.CpuLookup.the-variants.{Present, Absent}
 use Rattle.machine.specs.Machine.{Machine, context-at, cpu-at, set-cpu}
 use Rattle.machine.specs.LookUp.{get-percpu-block}
-use Rattle.operations.specs.Outcome.{Outcome}
+use Rattle.machine.specs.Outcome.{Outcome}
 
 -- the CPU of a record's CPU word, if it is another than CPU k and present
 unfoldable pub other-cpu : ℕ → ℕ → Machine → CpuLookup

@@ -16,7 +16,7 @@ ghost use Rattle.machine.specs.Machine.{Machine, set-context};
 ghost use Rattle.machine.specs.Encode.{encode};
 ghost use Rattle.machine.specs.Shape.{ContextFits, Image, Fits};
 ghost use Rattle.machine.specs.LookUp.{get-percpu-block};
-ghost use Rattle.operations.specs.Outcome.{finished};
+ghost use Rattle.machine.specs.Outcome.{finished};
 ghost use Rattle.operations.specs.Named.{named};
 ghost use Rattle.operations.specs.Wakeup.{wakeup-context};
 ghost use Rattle.operations.specs.Reply.{reply, replied, reply-to, reply-on};

@@ -1,7 +1,7 @@
--- What an operation makes of a machine. Assumes nothing.
+-- What a call makes of a machine. Assumes nothing.
 use mathlib.Core.Bool.{Bool, true, false}
 use Prim.Native.Nat.{ℕ}
 use Rattle.machine.specs.Machine.{Machine}
 
 pub record Outcome : Type 0 where
   pub machine : Machine
