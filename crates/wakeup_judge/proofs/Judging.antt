@@ -9,14 +9,15 @@ use Rattle.columns.specs.Common.{if_then_else_}
 use Rattle.columns.proofs.Tests.{by-test}
 use Rattle.context.specs.declared.Context.{Context}
 use Rattle.context.specs.Status.{is-runnable}
+use Rattle.run_queue.specs.declared.Timer.{Timer}
 use Rattle.percpu.specs.Cpu.{Cpu}
 use Rattle.percpu.specs.With.{cpu-block}
 use Rattle.decision.specs.State.{State, at}
-use Rattle.decision.specs.Wakeups.{may-enter, woken-by, wakeup-result, activated, dropped, locked, entered, woken-only}
+use Rattle.decision.specs.Wakeups.{waits-for, may-enter, woken-by, wakeup-result, activated, dropped, locked, entered, woken-only}
 use Rattle.wakeup_judge.specs.declared.Wakeup.{Wakeup}
 use Rattle.wakeup_judge.specs.declared.WakeupResult.{WakeupResult}
 use Rattle.wakeup_judge.specs.declared.WakeupResult.the-variants.{Dropped, Locked, WokenOnly, Entered}
-use Rattle.wakeup_judge.specs.Judge.{wake-of, wakeup-of, result-of, may-enter-at, judged, activated-block}
+use Rattle.wakeup_judge.specs.Judge.{live-at, wake-of, wakeup-of, result-of, may-enter-at, judged, activated-block}
 
 pub not-true : (b : Bool) → not b ≡ true → b ≡ false
 not-true false e = refl
@@ -25,6 +26,21 @@ not-true true e = let z : _≡_ {A = ℕ} 0 1 = cc in absurd (omega arith)
 pub not-false : (b : Bool) → not b ≡ false → b ≡ true
 not-false true e = refl
 not-false false e = let z : _≡_ {A = ℕ} 0 1 = cc in absurd (omega arith)
+
+module _ (sched : ℕ) (t : Timer) (c : Context) where
+  pub live-gone : c .gone ≡ true → false ≡ live-at sched t c
+  live-gone g = rw g
+
+  module _ (g : c .gone ≡ false) where
+    pub live-written : c .lock ≡ 2 → false ≡ live-at sched t c
+    live-written l = rw (g, eq-eqb (c .lock) 2 l)
+
+    module _ (l : c .lock ≡ 2 → ⊥) where
+      pub live-sched : t .«context_ref» ≡ sched → false ≡ live-at sched t c
+      live-sched d = rw (g, ne-eqb (c .lock) 2 l, eq-eqb (t .«context_ref») sched d)
+
+      pub live-waits : {r : Bool} → (t .«context_ref» ≡ sched → ⊥) → r ≡ waits-for (t .wake) c → r ≡ live-at sched t c
+      live-waits d h = rw (g, ne-eqb (c .lock) 2 l, ne-eqb (t .«context_ref») sched d) h
 
 abbrev entered-if : Bool → Context → WakeupResult
 entered-if b q = if b then Entered q else WokenOnly q

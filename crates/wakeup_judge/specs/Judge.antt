@@ -8,6 +8,7 @@ use Rattle.columns.specs.Common.{if_then_else_}
 use Rattle.context.specs.declared.Context.{Context}
 use Rattle.context.specs.Status.{is-runnable}
 use Rattle.weights.specs.Weights.{weight}
+use Rattle.run_queue.specs.declared.Timer.{Timer}
 use Rattle.percpu.specs.declared.PercpuBlock.{PercpuBlock}
 use Rattle.percpu.specs.With.{block-total-weight, block-published-weight}
 use Rattle.decision.specs.State.{State, at}
@@ -28,6 +29,11 @@ result-of Dropped = definition.dropped
 result-of Locked = definition.locked
 result-of (WokenOnly c) = definition.woken-only c
 result-of (Entered c) = definition.entered c
+
+-- `is-live-timer`, of the holder's name and of the context's record
+abbrev pub live-at : ℕ → Timer → Context → Bool
+live-at sched t c =
+    (not (c .gone) && not (eqb (c .lock) 2) && not (eqb (t .«context_ref») sched)) && definition.waits-for (t .wake) c
 
 -- `may-enter`, of the two names that it reads
 abbrev pub may-enter-at : (current sched x : ℕ) → Context → Bool

@@ -5,12 +5,13 @@ ghost use Rattle.context.specs.Block.{woken};
 ghost use Rattle.machine.specs.Shape.{EntryFits};
 ghost use Rattle.decision.specs.State.{queue-key};
 ghost use Rattle.decision.specs.Wakeups.{waits-for, woken-by, entering, entry-of};
-ghost use Rattle.wakeup_judge.specs.Judge.{wake-of, may-enter-at, judged, activated-block, Enterable};
+ghost use Rattle.wakeup_judge.specs.Judge.{live-at, wake-of, may-enter-at, judged, activated-block, Enterable};
 use context::Context;
 use context::Status;
 use percpu::PercpuBlock;
 use run_queue::Entry;
 use run_queue::Key;
+use run_queue::Timer;
 
 // A context to be woken; `wake` is that of the timer that gave it, if a timer did.
 pub struct Wakeup {
@@ -39,6 +40,22 @@ pub fn waits_for(c: Context, wake: u64) -> bool
         return false;
     }
     false
+}
+
+// A due timer gives a wake-up: c, its context's record, can be read and still waits for that wake.
+pub fn is_live(sched: u64, t: Timer, c: Context) -> bool
+    ensures { λ r. ⌜ r ≡ live-at sched t c ⌝ }
+{
+    if c.gone {
+        return false;
+    }
+    if c.lock == 2 {
+        return false;
+    }
+    if t.context_ref == sched {
+        return false;
+    }
+    waits_for(c, t.wake)
 }
 
 // Runnable, and no wake is left.
