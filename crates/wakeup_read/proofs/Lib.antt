@@ -1,0 +1,3 @@
+pub mod Scratched
+pub mod Reading
+pub mod Draining
