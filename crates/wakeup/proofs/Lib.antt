@@ -1,0 +1,3 @@
+pub mod Pacing
+pub mod Entering
+pub mod Serving

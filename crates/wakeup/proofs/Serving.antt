@@ -1,0 +1,252 @@
+-- The wake-ups served in order: one lemma for each need. Assumes nothing.
+use mathlib.Core.Path.{_≡_, refl, sym, ap, _∙_, subst}
+use mathlib.Core.Bool.{Bool, true, false}
+use mathlib.Core.List.{List, [], _∷_, _++_, map}
+use mathlib.Core.Option.{Option, none, some}
+use Prim.Native.Nat.{ℕ, zero, suc, _+_, _-_, _*_, _<_, _≤_}
+use native.Mathlib.Omega.{arith}
+use native.Mathlib.Numerals.{add-one}
+use lib.Dec.{ltb, eqb}
+use lib.ListN.{length, getD}
+use borrow.Author.Tests.{ltb-true, ltb-false}
+use Rattle.columns.specs.Common.{if_then_else_, fold, keep, All}
+use Rattle.columns.proofs.Tests.{by-test}
+use Rattle.context.specs.declared.Context.{Context}
+use Rattle.run_queue.specs.declared.Timer.{Timer}
+use Rattle.percpu.specs.declared.PercpuBlock.{PercpuBlock}
+use Rattle.percpu.specs.Layout.{no-timer}
+use Rattle.machine.specs.Machine.{Machine, context-at, cpu-at}
+use Rattle.machine.specs.Encode.{encode}
+use Rattle.machine.specs.Shape.{ContextFits, Fits, Image}
+use Rattle.decision.specs.State.{State, state-of, at, put-context, insert-timer, push-local}
+use Rattle.decision.specs.Wakeups as definition
+use Rattle.decision.specs.Wakeups.{is-due, is-live-timer, timer-wakeup, local-wakeup, wakeups, drained, waits-for, woken-by, put-back, enter, wakeup-result, wake-as, serve-wakeup, serve-wakeups}
+use Rattle.decision.proofs.WakeupCases.{wakeup-cases}
+use Rattle.stages.specs.Stage.{put-state, Staged, Ranged}
+use Rattle.stages.proofs.Compose.{state-put, stage-then, stage-as}
+use Rattle.stages.proofs.Fitting.{all-of}
+use Rattle.wakeup_judge.specs.declared.Wakeup.{Wakeup}
+use Rattle.wakeup_judge.specs.declared.WakeupResult.{WakeupResult}
+use Rattle.wakeup_judge.specs.declared.WakeupResult.the-variants.{Dropped, Locked, WokenOnly, Entered}
+use Rattle.wakeup_judge.specs.Judge.{wake-of, wakeup-of, result-of, may-enter-at, judged}
+use Rattle.wakeup_judge.proofs.Judging.{judged-is}
+use Rattle.wakeup_read.specs.Read.{wakeup-at, wakeups-in}
+use Rattle.wakeup_read.proofs.Scratched.{wakeup-such}
+use Rattle.wakeup_read.proofs.Draining.{all-keep}
+use Rattle.wakeup.specs.Paced.{Slow, Paced, RecordFits, ResultFits, Named}
+use Rattle.wakeup.proofs.Pacing.{slow-more, slow-serve, woken-vtime}
+use Rattle.wakeup.proofs.Entering.{Loaded, staged-none}
+
+-- put back, as the code found it
+abbrev back : Wakeup → Bool → State → State
+back w b s = put-back (if b then some (w .wake) else none) (w .«context_ref») s
+
+module _ {c n k : ℕ} {m m' : List ℕ} {r : Bool} (w : Wakeup) where
+  pub back-timer : w .«by_timer» ≡ true → Staged c n k m m' r (λ (s : State). insert-timer (record { wake = w .wake; «context_ref» = w .«context_ref» }) s)
+      → Staged c n k m m' r (λ (s : State). put-back (wake-of w) (w .«context_ref») s)
+  back-timer h t = stage-as t (λ M e o. (ap (λ (b : Bool). back w b (state-of k M)) (sym h), λ y z. refl))
+
+  pub back-name : (x : ℕ) → w .«by_timer» ≡ false → x ≡ w .«context_ref» → Staged c n k m m' r (λ (s : State). push-local x s)
+      → Staged c n k m m' r (λ (s : State). put-back (wake-of w) (w .«context_ref») s)
+  back-name x h q t = stage-as t (λ M e o. (ap (λ (y : ℕ). push-local y (state-of k M)) q ∙ ap (λ (b : Bool). back w b (state-of k M)) (sym h), λ y z. refl))
+
+-- one lemma for each result
+module _ {c n k : ℕ} {m : List ℕ} (w : Wakeup) (r : WakeupResult) where
+  pub as-dropped : Image c n m → r ≡ Dropped → Staged c n k m m false (λ (s : State). wake-as s (wakeup-of w) (result-of r))
+  unfolding wake-as
+  as-dropped i h = stage-as (staged-none k i) (λ M e o. (ap (λ (y : WakeupResult). wake-as (state-of k M) (wakeup-of w) (result-of y)) (sym h), λ y z. refl))
+
+  pub as-locked : {m' : List ℕ} {b : Bool} → r ≡ Locked → Staged c n k m m' b (λ (s : State). put-back (wake-of w) (w .«context_ref») s)
+      → Staged c n k m m' b (λ (s : State). wake-as s (wakeup-of w) (result-of r))
+  unfolding wake-as
+  as-locked h t = stage-as t (λ M e o. (ap (λ (y : WakeupResult). wake-as (state-of k M) (wakeup-of w) (result-of y)) (sym h), λ y z. refl))
+
+  module _ (x : ℕ) (q : Context) (hx : x ≡ w .«context_ref») where
+    pub as-woken : {m' : List ℕ} → r ≡ WokenOnly q → Staged c n k m m' false (λ (s : State). put-context x q s)
+        → Staged c n k m m' false (λ (s : State). wake-as s (wakeup-of w) (result-of r))
+    unfolding wake-as
+    as-woken h t =
+        stage-as t (λ M e o. (ap (λ (y : ℕ). put-context y q (state-of k M)) hx ∙ ap (λ (y : WakeupResult). wake-as (state-of k M) (wakeup-of w) (result-of y)) (sym h), λ y z. refl))
+
+    pub as-entered : {m' : List ℕ} {b : Bool} → r ≡ Entered q → Staged c n k m m' b (λ (s : State). enter x q s)
+        → Staged c n k m m' b (λ (s : State). wake-as s (wakeup-of w) (result-of r))
+    unfolding wake-as
+    as-entered h t =
+        stage-as t (λ M e o. (ap (λ (y : ℕ). enter y q (state-of k M)) hx ∙ ap (λ (y : WakeupResult). wake-as (state-of k M) (wakeup-of w) (result-of y)) (sym h), λ y z. refl))
+
+pub record-woken : {c : ℕ} {r : WakeupResult} (q : Context) → r ≡ WokenOnly q → ResultFits c r → RecordFits c q
+record-woken {c} q h f = subst (ResultFits c) h f
+
+pub record-entered : {c : ℕ} {r : WakeupResult} (q : Context) → r ≡ Entered q → ResultFits c r → RecordFits c q
+record-entered {c} q h f = subst (ResultFits c) h f
+
+-- the record that a wake-up leaves is in its ranges
+woken-fits : {c : ℕ} (t : Option ℕ) (q : Context) → RecordFits c q → RecordFits c (woken-by t q)
+woken-fits none q f = f
+woken-fits {c} (some t) q f =
+    by-test (waits-for t q)
+    (λ e. rw e (record { fits = record { cpu-id = f .fits .cpu-id; prio = f .fits .prio; rem-slice = f .fits .rem-slice }; vtime = f .vtime }))
+    (λ e. rw e f)
+
+judged-fits : {c : ℕ} (current sched : ℕ) (w : Wakeup) (q : Context) → RecordFits c q → ResultFits c (judged current sched w q)
+unfolding judged
+judged-fits {c} current sched w q f =
+    fits-if (eqb (w .«context_ref») sched) (q .gone) (eqb (q .lock) 0) (may-enter-at current sched (w .«context_ref») (woken-by (wake-of w) q)) (woken-by (wake-of w) q) (woken-fits (wake-of w) q f)
+  where
+    fits-if : (a g l b : Bool) (y : Context) → RecordFits c y → ResultFits c (if a then Dropped else if g then Dropped else if mathlib.Core.Bool.not l then Locked else if b then Entered y else WokenOnly y)
+    fits-if true g l b y z = tt
+    fits-if false true l b y z = tt
+    fits-if false false false b y z = tt
+    fits-if false false true true y z = z
+    fits-if false false true false y z = z
+
+module _ {c n k : ℕ} {m : List ℕ} (w : Wakeup) (x : ℕ) (b : PercpuBlock) (q : Context) (r : WakeupResult) (f : Loaded c n k m b) (hx : x ≡ w .«context_ref»)
+    (g : (M : Machine) → m ≡ encode M → Fits c n M → q ≡ context-at (M .contexts) x) (hr : r ≡ judged (b .«current_ctxt») (b .«sched_ctxt») w q) where
+  pub result-fits : w .«context_ref» < n → (u : ℕ) → Paced c n k 4611686018427387903 u m → ResultFits c r
+  result-fits h u p =
+      let e : context-at (p .M .contexts) (w .«context_ref») ≡ q = sym (g (p .M) (p .eq) (p .fits) ∙ ap (context-at (p .M .contexts)) hx)
+      in subst (ResultFits c) (sym hr)
+      (judged-fits (b .«current_ctxt») (b .«sched_ctxt») w q
+      (subst (RecordFits c) e (record { fits = p .fits .context (w .«context_ref») h; vtime = p .slow .vtime (w .«context_ref») h })))
+
+  pub served-staged : {m' : List ℕ} {full : Bool} → Staged c n k m m' full (λ (s : State). wake-as s (wakeup-of w) (result-of r))
+      → Staged c n k m m' full (λ (s : State). serve-wakeup s (wakeup-of w))
+  unfolding serve-wakeup
+  served-staged t =
+      stage-as t
+      (λ M e o.
+        (ap (wake-as (state-of k M) (wakeup-of w))
+          (ap result-of (hr ∙ ap (λ (y : PercpuBlock). judged (y .«current_ctxt») (y .«sched_ctxt») w q) (f M e o)
+            ∙ ap (judged (cpu-at M k .block .«current_ctxt») (cpu-at M k .block .«sched_ctxt») w) (g M e o ∙ ap (context-at (M .contexts)) hx))
+          ∙ judged-is (state-of k M) w),
+        λ y z. refl))
+
+-- the mark stays
+put-back-full : (o : Option ℕ) (x : ℕ) (s : State) → s .no-room ≡ true → (put-back o x s) .no-room ≡ true
+put-back-full none x s h = rw h
+put-back-full (some t) x s h = rw h
+
+serve-full : (s : State) (w : definition.Wakeup) → s .no-room ≡ true → (serve-wakeup s w) .no-room ≡ true
+unfolding serve-wakeup wake-as enter
+serve-full s w h =
+    wakeup-cases s w (λ r. (wake-as s w r) .no-room ≡ true) h (λ a. put-back-full (w .wake) (w .«context_ref») s h) (λ a l e. rw h) (λ a t. h)
+
+-- the state after the first i wake-ups of the scratch
+abbrev pub after : List ℕ → ℕ → State → State
+after d i s = fold serve-wakeup s (wakeups-in d i)
+
+fold-append : {A B : Type 0} (f : B → A → B) (b : B) (xs ys : List A) → fold f b (xs ++ ys) ≡ fold f (fold f b xs) ys
+fold-append f b [] ys = refl
+fold-append f b (x ∷ xs) ys = fold-append f (f b x) xs ys
+
+after-next : (d : List ℕ) (i : ℕ) (s : State) → after d (suc i) s ≡ serve-wakeup (after d i s) (wakeup-of (wakeup-at d i))
+unfolding wakeups-in
+after-next d i s = fold-append serve-wakeup s (wakeups-in d i) (wakeup-of (wakeup-at d i) ∷ [])
+
+after-full : (d : List ℕ) (i j : ℕ) (s : State) → i ≤ j → (after d i s) .no-room ≡ true → (after d j s) .no-room ≡ true
+after-full d i zero s h e = let z : i ≡ 0 = omega arith in rw z at e
+after-full d i (suc j) s h e =
+    by-test (ltb i (suc j))
+    (λ t. let b : i ≤ j = (let a : i < suc j = ltb-true i (suc j) t in omega arith) in rw (after-next d j s) (serve-full (after d j s) (wakeup-of (wakeup-at d j)) (after-full d i j s b e)))
+    (λ t. let a : suc j ≤ i = ltb-false i (suc j) t in let z : i ≡ suc j = omega arith in rw z at e)
+
+never {ℓ} : {C : Type ℓ} → true ≡ false → C
+never e = let z : _≡_ {A = ℕ} 0 1 = cc in absurd (omega arith)
+
+-- a stage without room, and all that sets the mark where it does
+staged-full : {c n k : ℕ} {m m' m'' : List ℕ} {f f' : State → State} → Staged c n k m m' true f → ((s : State) → (f s) .no-room ≡ true → (f' s) .no-room ≡ true) → Staged c n k m m'' true f'
+staged-full {k = k} t h =
+    record {
+      image = λ e. never e;
+      stage = λ M e o.
+          record { room = sym (h (state-of k M) (sym (t .stage M e o .room))); after = λ y. never y; fits = λ y. never y; answer = λ y. never y };
+    }
+
+pub paced-more : {c n k b w : ℕ} {m : List ℕ} (w' : ℕ) → w ≤ w' → Paced c n k b w m → Paced c n k b w' m
+paced-more w' h p = record { M = p .M; eq = p .eq; fits = p .fits; slow = slow-more w' h (p .slow) }
+
+-- a stage that keeps the pace
+pub paced-by : {c n k b w w' : ℕ} {m m' : List ℕ} {f : State → State} → k < c → ((s : State) → Slow n b w s → Slow n b w' (f s)) → Staged c n k m m' false f → Paced c n k b w m → Paced c n k b w' m'
+paced-by {n = n} {k = k} {b = b} {w' = w'} {f = f} h g t p =
+    let a = t .stage (p .M) (p .eq) (p .fits)
+    in let l : k < length (p .M .cpus) = omega (arith, p .fits .cpus)
+    in let z : state-of k (put-state k (f (state-of k (p .M))) (p .M)) ≡ f (state-of k (p .M)) = state-put k (f (state-of k (p .M))) (p .M) l (sym (a .room))
+    in record { M = put-state k (f (state-of k (p .M))) (p .M); eq = a .after refl; fits = a .fits refl; slow = subst (Slow n b w') (sym z) (g (state-of k (p .M)) (p .slow)) }
+
+-- the invariant: m₀ and m are the image where the loop begins and now
+pub record ServeLoop (c n k len : ℕ) (m₀ m d : List ℕ) (i : ℕ) : Type 0 where
+  pub here : i ≤ len
+  pub same : length m ≡ length m₀
+  pub served : Staged c n k m₀ m false (λ (s : State). after d i s)
+  pub paced : Paced c n k 4611686018427387903 (4611686018427387903 + 88761 * i) m
+
+pub serve-start : {c n k : ℕ} {m : List ℕ} (len : ℕ) (d : List ℕ) → Image c n m → Paced c n k 4611686018427387903 4611686018427387903 m → ServeLoop c n k len m m d 0
+unfolding wakeups-in
+serve-start {k = k} len d i p = record { here = omega arith; same = refl; served = staged-none k i; paced = paced-more _ (omega arith) p }
+
+module _ {c n k len : ℕ} {m₀ m d : List ℕ} {i : ℕ} (h : k < c) (l : ServeLoop c n k len m₀ m d i) (b : i < len) (w : Wakeup) (hw : w ≡ wakeup-at d i) where
+  pub serve-named : Named n (wakeups-in d len) → w .«context_ref» < n
+  serve-named a = subst (λ (y : Wakeup). y .«context_ref» < n) (sym hw) (wakeup-such (λ (u : definition.Wakeup). u .«context_ref» < n) d len i a b)
+
+  pub serve-paced : len ≤ 128 → Paced c n k 4611686018427387903 4611686018438749311 m
+  serve-paced s = paced-more 4611686018438749311 (omega arith) (l .paced)
+
+  once-more : {m' : List ℕ} {r : Bool} → Staged c n k m m' r (λ (s : State). serve-wakeup s (wakeup-of w)) → Staged c n k m₀ m' r (λ (s : State). after d (suc i) s)
+  once-more t =
+      stage-as (stage-then h (l .served) t)
+      (λ M e o. (ap (λ (y : Wakeup). serve-wakeup (after d i (state-of k M)) (wakeup-of y)) hw ∙ sym (after-next d i (state-of k M)), λ y z. refl))
+
+  pub serve-no-room : {m' : List ℕ} {r : Bool} → r ≡ true → Staged c n k m m' r (λ (s : State). serve-wakeup s (wakeup-of w)) → Staged c n k m₀ m' true (λ (s : State). after d len s)
+  serve-no-room {m'} e t =
+      staged-full (subst (λ (y : Bool). Staged c n k m₀ m' y (λ (s : State). after d (suc i) s)) e (once-more t)) (λ s f. after-full d (suc i) len s (omega arith) f)
+
+  pub serve-next : {m' : List ℕ} {r : Bool} → Named n (wakeups-in d len) → r ≡ false → Staged c n k m m' r (λ (s : State). serve-wakeup s (wakeup-of w)) → length m' ≡ length m
+      → ServeLoop c n k len m₀ m' d (i + 1)
+  serve-next {m'} a e t z =
+      let u = subst (λ (y : Bool). Staged c n k m m' y (λ (s : State). serve-wakeup s (wakeup-of w))) e t
+      in record {
+        here = omega arith;
+        same = z ∙ l .same;
+        served = rw (add-one i) (once-more u);
+        paced = paced-more (4611686018427387903 + 88761 * (i + 1)) (omega arith)
+            (paced-by h (λ s o. slow-serve s (wakeup-of w) o (serve-named a)) u (l .paced));
+      }
+
+pub serve-end : {c n k len : ℕ} {m₀ m d : List ℕ} {i : ℕ} → ServeLoop c n k len m₀ m d i → len ≤ i → Staged c n k m₀ m false (λ (s : State). after d len s)
+serve-end {c} {n} {k} {len} {m₀} {m} {d} {i} l b =
+    let z : i ≡ len = omega (arith, l .here) in subst (λ (y : ℕ). Staged c n k m₀ m false (λ (s : State). after d y s)) z (l .served)
+
+-- every wake-up names a context
+all-append : {A : Type 0} (P : A → Type 0) (l r : List A) → All P l → All P r → All P (l ++ r)
+all-append P [] r a b = b
+all-append P (x ∷ xs) r a b = (a .0, all-append P xs r (a .1) b)
+
+all-map : {A B : Type 0} (P : B → Type 0) (f : A → B) (l : List A) → All (λ (a : A). P (f a)) l → All P (map f l)
+all-map P f [] a = tt
+all-map P f (x ∷ xs) a = (a .0, all-map P f xs (a .1))
+
+pub wakeups-named : {c n : ℕ} (k time : ℕ) (M : Machine) → k < c → Fits c n M → Named n (wakeups time (state-of k M))
+unfolding wakeups
+wakeups-named {n = n} k time M h o =
+    let P : definition.Wakeup → Type 0 = λ (w : definition.Wakeup). w .«context_ref» < n
+    in all-append P (map timer-wakeup (keep (is-live-timer (state-of k M)) (keep (is-due time) (cpu-at M k .timers)))) (map local-wakeup (cpu-at M k .«local_wakeup_list»))
+    (all-map P timer-wakeup (keep (is-live-timer (state-of k M)) (keep (is-due time) (cpu-at M k .timers)))
+      (all-keep (is-live-timer (state-of k M)) (λ (t : Timer). t .«context_ref» < n) (keep (is-due time) (cpu-at M k .timers))
+        (all-keep (is-due time) (λ (t : Timer). t .«context_ref» < n) (cpu-at M k .timers) (all-of (λ (t : Timer). t .«context_ref» < n) no-timer (cpu-at M k .timers) (o .cpu k h .timer)))))
+    (all-map P local-wakeup (cpu-at M k .«local_wakeup_list») (all-of (λ (x : ℕ). x < n) 0 (cpu-at M k .«local_wakeup_list») (o .cpu k h .local-name)))
+
+-- the whole
+module _ {c n k : ℕ} {m : List ℕ} (time len : ℕ) (d : List ℕ) (h : k < c) (f : (M : Machine) → m ≡ encode M → Fits c n M → wakeups-in d len ≡ wakeups time (state-of k M)) where
+  pub read-named : Image c n m → Named n (wakeups-in d len)
+  read-named i = subst (Named n) (sym (f (i .M) (i .eq) (i .fits))) (wakeups-named k time (i .M) h (i .fits))
+
+  pub whole : {m' m'' : List ℕ} {r : Bool} → Staged c n k m m' false (λ (s : State). drained time s) → Staged c n k m' m'' r (λ (s : State). fold serve-wakeup s (wakeups-in d len))
+      → Staged c n k m m'' r (λ (s : State). serve-wakeups time s)
+  unfolding serve-wakeups
+  whole t u = stage-as (stage-then h t u) (λ M e o. (ap (λ (y : List definition.Wakeup). fold serve-wakeup (drained time (state-of k M)) y) (f M e o), λ y z. refl))
+
+pub drained-paced : {c n k t b : ℕ} {m m' : List ℕ} (time : ℕ) → k < c → Ranged c n t b m → Staged c n k m m' false (λ (s : State). drained time s) → Paced c n k b b m'
+drained-paced {k = k} {b = b} time h g t =
+    let s = g .below .cpu k h
+    in paced-by {w = b} h (λ s o. record { vtime = o .vtime; v = o .v; total-weight = o .total-weight }) t
+    (record { M = g .M; eq = g .eq; fits = g .fits; slow = record { vtime = λ x y. g .below .context x y .vtime; v = s .v; total-weight = s .total-weight } })
