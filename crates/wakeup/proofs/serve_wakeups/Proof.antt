@@ -1,3 +1,5 @@
+use Rattle.wakeup.proofs.Serving.{read-named, whole, drained-paced}
+use mathlib.Core.Path.{refl}
 use native.Mathlib.Omega.{arith}
 use borrow.Author.Needs.{needs}
 use Rattle.wakeup.proofs.serve_wakeups.Statement.{statement}
@@ -18,7 +20,7 @@ drain-requires c κs = search needs
 
 -- src/lib.rt:104:5
 serve-all-requires : tie.Need-serve-all-requires
-serve-all-requires c κs = search needs
+serve-all-requires c κs = (c .before .before .before .before .drain .ensures .image refl, ((c .before .before .before .before .before .before .before .before .before .before .before .before .before .pre .1 .0 .0, c .before .before .before .before .before .before .before .before .read-wakeups .ensures .0, omega (arith, c .before .before .before .before .before .before .before .before .before .before .before .before .before .pre .1 .0 .2), read-named _ _ _ (c .before .before .before .before .before .before .before .before .before .before .before .before .before .pre .1 .0 .0) (c .before .before .before .before .before .before .before .before .read-wakeups .ensures .1) (c .before .before .before .before .before .before .before .before .before .before .before .before .before .pre .0)), drained-paced _ (c .before .before .before .before .before .before .before .before .before .before .before .before .before .pre .1 .0 .0) (c .before .before .before .before .before .before .before .before .before .before .before .before .before .pre .1 .1) (c .before .before .before .before .drain .ensures)))
 
 -- src/lib.rt:96:1
 same-length : tie.Need-same-length
@@ -30,7 +32,7 @@ same-length-2 c = search needs
 
 -- src/lib.rt:96:1
 returns : tie.Need-returns
-returns c = search needs
+returns c = whole _ _ _ (c .before .before .before .before .before .before .before .before .before .before .before .before .before .before .before .before .pre .1 .0 .0) (c .before .before .before .before .before .before .before .before .before .before .before .read-wakeups .ensures .1) (c .before .before .before .before .before .before .before .drain .ensures) (c .before .before .serve-all .ensures)
 
 pub serve-wakeups-spec : {M : Type 1} → statement M
 serve-wakeups-spec =
