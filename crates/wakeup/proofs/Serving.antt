@@ -1,7 +1,7 @@
 -- The wake-ups served in order: one lemma for each need. Assumes nothing.
 use mathlib.Core.Path.{_≡_, refl, sym, ap, _∙_, subst}
 use mathlib.Core.Bool.{Bool, true, false}
-use mathlib.Core.List.{List, [], _∷_, _++_, map}
+use mathlib.Core.List.{List, [], _∷_, _++_}
 use mathlib.Core.Option.{Option, none, some}
 use Prim.Native.Nat.{ℕ, zero, suc, _+_, _-_, _*_, _<_, _≤_}
 use native.Mathlib.Omega.{arith}
@@ -9,22 +9,19 @@ use native.Mathlib.Numerals.{add-one}
 use lib.Dec.{ltb, eqb}
 use lib.ListN.{length, getD}
 use borrow.Author.Tests.{ltb-true, ltb-false}
-use Rattle.columns.specs.Common.{if_then_else_, fold, keep, All}
+use Rattle.columns.specs.Common.{if_then_else_, fold, All}
 use Rattle.columns.proofs.Tests.{by-test}
 use Rattle.context.specs.declared.Context.{Context}
-use Rattle.run_queue.specs.declared.Timer.{Timer}
 use Rattle.percpu.specs.declared.PercpuBlock.{PercpuBlock}
-use Rattle.percpu.specs.Layout.{no-timer}
 use Rattle.machine.specs.Machine.{Machine, context-at, cpu-at}
 use Rattle.machine.specs.Encode.{encode}
 use Rattle.machine.specs.Shape.{ContextFits, Fits, Image}
 use Rattle.decision.specs.State.{State, state-of, at, put-context, insert-timer, push-local}
 use Rattle.decision.specs.Wakeups as definition
-use Rattle.decision.specs.Wakeups.{is-due, is-live-timer, timer-wakeup, local-wakeup, wakeups, drained, waits-for, woken-by, put-back, enter, wakeup-result, wake-as, serve-wakeup, serve-wakeups}
+use Rattle.decision.specs.Wakeups.{wakeups, drained, waits-for, woken-by, put-back, enter, wakeup-result, wake-as, serve-wakeup, serve-wakeups}
 use Rattle.decision.proofs.WakeupCases.{wakeup-cases}
 use Rattle.stages.specs.Stage.{put-state, Staged, Ranged}
 use Rattle.stages.proofs.Compose.{state-put, stage-then, stage-as}
-use Rattle.stages.proofs.Fitting.{all-of}
 use Rattle.wakeup_judge.specs.declared.Wakeup.{Wakeup}
 use Rattle.wakeup_judge.specs.declared.WakeupResult.{WakeupResult}
 use Rattle.wakeup_judge.specs.declared.WakeupResult.the-variants.{Dropped, Locked, WokenOnly, Entered}
@@ -32,10 +29,10 @@ use Rattle.wakeup_judge.specs.Judge.{wake-of, wakeup-of, result-of, may-enter-a
 use Rattle.wakeup_judge.proofs.Judging.{judged-is}
 use Rattle.wakeup_read.specs.Read.{wakeup-at, wakeups-in}
 use Rattle.wakeup_read.proofs.Scratched.{wakeup-such}
-use Rattle.wakeup_read.proofs.Draining.{all-keep}
 use Rattle.wakeup.specs.Paced.{Slow, Paced, RecordFits, ResultFits, Named}
 use Rattle.wakeup.proofs.Pacing.{slow-more, slow-serve, woken-vtime}
 use Rattle.wakeup.proofs.Entering.{Loaded, staged-none}
+use Rattle.wakeup.proofs.Listed.{wakeups-named}
 
 -- put back, as the code found it
 abbrev back : Wakeup → Bool → State → State
@@ -216,29 +213,10 @@ pub serve-end : {c n k len : ℕ} {m₀ m d : List ℕ} {i : ℕ} → ServeLoop 
 serve-end {c} {n} {k} {len} {m₀} {m} {d} {i} l b =
     let z : i ≡ len = omega (arith, l .here) in subst (λ (y : ℕ). Staged c n k m₀ m false (λ (s : State). after d y s)) z (l .served)
 
--- every wake-up names a context
-all-append : {A : Type 0} (P : A → Type 0) (l r : List A) → All P l → All P r → All P (l ++ r)
-all-append P [] r a b = b
-all-append P (x ∷ xs) r a b = (a .0, all-append P xs r (a .1) b)
-
-all-map : {A B : Type 0} (P : B → Type 0) (f : A → B) (l : List A) → All (λ (a : A). P (f a)) l → All P (map f l)
-all-map P f [] a = tt
-all-map P f (x ∷ xs) a = (a .0, all-map P f xs (a .1))
-
-pub wakeups-named : {c n : ℕ} (k time : ℕ) (M : Machine) → k < c → Fits c n M → Named n (wakeups time (state-of k M))
-unfolding wakeups
-wakeups-named {n = n} k time M h o =
-    let P : definition.Wakeup → Type 0 = λ (w : definition.Wakeup). w .«context_ref» < n
-    in all-append P (map timer-wakeup (keep (is-live-timer (state-of k M)) (keep (is-due time) (cpu-at M k .timers)))) (map local-wakeup (cpu-at M k .«local_wakeup_list»))
-    (all-map P timer-wakeup (keep (is-live-timer (state-of k M)) (keep (is-due time) (cpu-at M k .timers)))
-      (all-keep (is-live-timer (state-of k M)) (λ (t : Timer). t .«context_ref» < n) (keep (is-due time) (cpu-at M k .timers))
-        (all-keep (is-due time) (λ (t : Timer). t .«context_ref» < n) (cpu-at M k .timers) (all-of (λ (t : Timer). t .«context_ref» < n) no-timer (cpu-at M k .timers) (o .cpu k h .timer)))))
-    (all-map P local-wakeup (cpu-at M k .«local_wakeup_list») (all-of (λ (x : ℕ). x < n) 0 (cpu-at M k .«local_wakeup_list») (o .cpu k h .local-name)))
-
 -- the whole
 module _ {c n k : ℕ} {m : List ℕ} (time len : ℕ) (d : List ℕ) (h : k < c) (f : (M : Machine) → m ≡ encode M → Fits c n M → wakeups-in d len ≡ wakeups time (state-of k M)) where
   pub read-named : Image c n m → Named n (wakeups-in d len)
-  read-named i = subst (Named n) (sym (f (i .M) (i .eq) (i .fits))) (wakeups-named k time (i .M) h (i .fits))
+  read-named i = subst (Named n) (sym (f (i .M) (i .eq) (i .fits))) (wakeups-named time (state-of k (i .M)) (i .fits .cpu k h))
 
   pub whole : {m' m'' : List ℕ} {r : Bool} → Staged c n k m m' false (λ (s : State). drained time s) → Staged c n k m' m'' r (λ (s : State). fold serve-wakeup s (wakeups-in d len))
       → Staged c n k m m'' r (λ (s : State). serve-wakeups time s)
