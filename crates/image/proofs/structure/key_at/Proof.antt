@@ -1,49 +1,36 @@
 use Rattle.percpu.specs.Layout.{entry-at}
 use mathlib.Core.Path.{refl}
-use native.Mathlib.Omega.{arith}
 use borrow.Author.Needs.{needs}
 use Rattle.image.proofs.structure.key_at.Statement.{statement}
 use Rattle.image.proofs.structure.key_at.Tie as tie
-use Rattle.image.proofs.structure.key_at.Reads as reads
-use Rattle.image.proofs.structure.key_at.Lts as lts
 
--- src/structure.rt:81:15
 add-t3 : tie.Need-add-t3
 add-t3 c = search needs
 
--- src/structure.rt:81:13
 mul-t4 : tie.Need-mul-t4
 mul-t4 c = search needs
 
--- src/structure.rt:81:13
 shared-slice-read-t6 : tie.Need-shared-slice-read-t6
 shared-slice-read-t6 c = search needs
 
--- src/structure.rt:82:22
 add-t7 : tie.Need-add-t7
 add-t7 c = search needs
 
--- src/structure.rt:82:20
 mul-t8 : tie.Need-mul-t8
 mul-t8 c = search needs
 
--- src/structure.rt:82:20
 shared-slice-read-t10 : tie.Need-shared-slice-read-t10
 shared-slice-read-t10 c = search needs
 
--- src/structure.rt:83:20
 add-t11 : tie.Need-add-t11
 add-t11 c = search needs
 
--- src/structure.rt:83:18
 mul-t12 : tie.Need-mul-t12
 mul-t12 c = search needs
 
--- src/structure.rt:83:18
 shared-slice-read-t14 : tie.Need-shared-slice-read-t14
 shared-slice-read-t14 c = search needs
 
--- src/structure.rt:76:1
 returns : tie.Need-returns
 unfolding entry-at
 returns c = refl

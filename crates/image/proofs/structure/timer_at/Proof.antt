@@ -1,37 +1,27 @@
 use Rattle.percpu.specs.Layout.{timer-at}
 use mathlib.Core.Path.{refl}
-use native.Mathlib.Omega.{arith}
 use borrow.Author.Needs.{needs}
 use Rattle.image.proofs.structure.timer_at.Statement.{statement}
 use Rattle.image.proofs.structure.timer_at.Tie as tie
-use Rattle.image.proofs.structure.timer_at.Reads as reads
-use Rattle.image.proofs.structure.timer_at.Lts as lts
 
--- src/structure.rt:92:17
 add-t3 : tie.Need-add-t3
 add-t3 c = search needs
 
--- src/structure.rt:92:15
 mul-t4 : tie.Need-mul-t4
 mul-t4 c = search needs
 
--- src/structure.rt:92:15
 shared-slice-read-t6 : tie.Need-shared-slice-read-t6
 shared-slice-read-t6 c = search needs
 
--- src/structure.rt:93:24
 add-t7 : tie.Need-add-t7
 add-t7 c = search needs
 
--- src/structure.rt:93:22
 mul-t8 : tie.Need-mul-t8
 mul-t8 c = search needs
 
--- src/structure.rt:93:22
 shared-slice-read-t10 : tie.Need-shared-slice-read-t10
 shared-slice-read-t10 c = search needs
 
--- src/structure.rt:87:1
 returns : tie.Need-returns
 unfolding timer-at
 returns c = refl

@@ -2,23 +2,17 @@ use Rattle.image.proofs.Structured.{neighbours}
 use Rattle.image.specs.Structure.{timers-rise}
 use Rattle.percpu.specs.Layout.{timer-at}
 use Rattle.run_queue.specs.Order.{sooner}
-use Rattle.columns.proofs.Tests.{every-none, every-next, every-no, every-end, and-no}
-use Rattle.columns.specs.Common.{every, if_then_else_}
-use borrow.Author.Tests.{le-leb, lt-leb, lt-ltb, le-ltb, eq-eqb, ne-eqb, not-true, not-false}
-use lib.ListN.{length, getD}
-use lib.Dec.{ltb, leb, eqb}
-use Prim.Native.Nat.{ℕ, _+_, _-_, _*_, _<_, _≤_, _%_}
-use mathlib.Core.Bool.{Bool, true, false, _&&_, not}
-use mathlib.Core.Path.{_≡_, refl, sym, ap, _∙_}
+use Rattle.columns.proofs.Tests.{every-none, every-next, every-no, every-end}
+use Rattle.columns.specs.Common.{every}
+use borrow.Author.Tests.{not-true, not-false}
+use lib.ListN.{getD}
+use Prim.Native.Nat.{ℕ, _+_, _-_, _≤_}
+use mathlib.Core.Bool.{true}
+use mathlib.Core.Path.{_≡_, sym}
 use borrow.Author.Needs.{needs}
 use native.Mathlib.Omega.{arith}
 use Rattle.image.proofs.structure.timers_rise.Statement.{statement}
 use Rattle.image.proofs.structure.timers_rise.Tie as tie
-use Rattle.image.proofs.structure.timers_rise.Reads as reads
-use Rattle.image.proofs.structure.timers_rise.Lts as lts
-use Rattle.image.proofs.structure.timer_at.Reads as timer-at-reads
-use Rattle.machine.proofs.index.Reads as index-reads
-use Rattle.run_queue.proofs.Timer.sooner.Reads as sooner-reads
 
 abbrev Inv-loop : tie.InvT-loop
 Inv-loop b k last₀ i₀ last i = (i ≤ k - 1) × (k ≡ getD b 22 0) × (last ≡ timer-at b i) × (every (λ (j : ℕ). sooner (timer-at b j) (timer-at b (j + 1))) i ≡ true)
@@ -26,56 +20,43 @@ Inv-loop b k last₀ i₀ last i = (i ≤ k - 1) × (k ≡ getD b 22 0) × (last
 abbrev μ-loop : tie.MeasureT-loop
 μ-loop b k last₀ i₀ last i = k - i
 
--- src/structure.rt:119:28
 shared-slice-read-index : tie.Need-shared-slice-read-index Inv-loop μ-loop
 shared-slice-read-index c = search needs
 
--- src/structure.rt:119:9
 index-requires : tie.Need-index-requires Inv-loop μ-loop
 index-requires c κs = search needs
 
--- src/structure.rt:120:9
 timer-at-requires : tie.Need-timer-at-requires Inv-loop μ-loop
 timer-at-requires c κs = search needs
 
--- src/structure.rt:122:5
 loop-holds : tie.Need-loop-holds Inv-loop μ-loop
 loop-holds c = (omega arith, c .before .index .ensures, c .timer-at .ensures, every-none _)
 
--- src/structure.rt:122:11
 add-loop : tie.Need-add-loop Inv-loop μ-loop
 add-loop c = search needs
 
--- src/structure.rt:123:32
 add-timer-at : tie.Need-add-timer-at Inv-loop μ-loop
 add-timer-at c = search needs
 
--- src/structure.rt:123:13
 timer-at-requires-2 : tie.Need-timer-at-requires-2 Inv-loop μ-loop
 timer-at-requires-2 c κs = (c .before .before .before .before .before .before .pre .0, omega (arith, c .before .before .before .before .before .before .pre .1))
 
--- src/structure.rt:124:13
 sooner-requires : tie.Need-sooner-requires Inv-loop μ-loop
 sooner-requires c κs = search needs
 
--- src/structure.rt:125:13
 returns : tie.Need-returns Inv-loop μ-loop
 unfolding timers-rise
 returns c = sym (every-no _ _ _ (omega (arith, c .before .before .before .before .loop .inv .1)) (neighbours sooner (timer-at (c .before .before .before .before .before .before .before .before .before .args .b .now)) _ _ _ (c .before .before .before .before .loop .inv .2) (c .before .before .timer-at2 .ensures) (c .before .sooner .ensures) (not-true _ (c .if1 .taken))))
 
--- src/structure.rt:128:9
 add-i : tie.Need-add-i Inv-loop μ-loop
 add-i c = search needs
 
--- src/structure.rt:122:5
 loop-less : tie.Need-loop-less Inv-loop μ-loop
 loop-less c = search needs
 
--- src/structure.rt:122:5
 loop-again : tie.Need-loop-again Inv-loop μ-loop
 loop-again c = (omega arith, c .before .before .before .before .loop .inv .1, c .before .before .timer-at2 .ensures, every-next _ _ (c .before .before .before .before .loop .inv .3) (neighbours sooner (timer-at (c .before .before .before .before .before .before .before .before .before .args .b .now)) _ _ _ (c .before .before .before .before .loop .inv .2) (c .before .before .timer-at2 .ensures) (c .before .sooner .ensures) (not-false _ (c .if1 .left))))
 
--- src/structure.rt:115:1
 returns-2 : tie.Need-returns-2 Inv-loop μ-loop
 unfolding timers-rise
 returns-2 c = every-end _ _ _ (omega (arith, c .before .loop .inv .1)) (omega (arith, c .before .loop .inv .1)) (c .before .loop .inv .3)
