@@ -1,11 +1,10 @@
 -- What the wake-up stage adds: virtual times and the total weight grow by at most 2^30, and no time changes. Assumes nothing.
-use mathlib.Core.Path.{_≡_, refl, sym, ap, _∙_, subst}
 use mathlib.Core.Bool.{Bool, true, false, not}
 use mathlib.Core.List.{List, [], _∷_}
 use mathlib.Core.Option.{Option, none, some}
-use Prim.Native.Nat.{ℕ, zero, suc, _+_, _*_, _<_, _≤_, max}
+use Prim.Native.Nat.{ℕ, _+_, _*_, _<_, _≤_}
 use native.Mathlib.Omega.{arith}
-use lib.ListN.{length, getD}
+use lib.ListN.{length}
 use Rattle.columns.specs.Common.{if_then_else_, fold, keep, All}
 use Rattle.columns.proofs.Tests.{by-test}
 use Rattle.context.specs.declared.Context.{Context}
@@ -17,7 +16,7 @@ use Rattle.run_queue.specs.Queue.{queue-insert, queue-remove, timer-insert, key
 use Rattle.percpu.specs.Cpu.{Cpu}
 use Rattle.percpu.specs.With.{cpu-timers}
 use Rattle.percpu.specs.Layout.{no-entry, no-timer}
-use Rattle.machine.specs.Machine.{context-at, no-context}
+use Rattle.machine.specs.Machine.{no-context}
 use Rattle.machine.specs.Shape.{CpuFits}
 use Rattle.machine.proofs.Steps.{getD-set}
 use Rattle.decision.specs.State.{State, at, put-context, queue-key}

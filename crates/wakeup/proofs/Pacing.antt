@@ -1,9 +1,9 @@
 -- How far the wake-ups move virtual times and the total weight. Assumes nothing.
-use mathlib.Core.Path.{_≡_, refl, sym, ap, _∙_, subst}
+use mathlib.Core.Path.{_≡_, refl}
 use mathlib.Core.Bool.{Bool, true, false}
 use mathlib.Core.List.{List, [], _∷_}
 use mathlib.Core.Option.{Option, none, some}
-use Prim.Native.Nat.{ℕ, zero, suc, _+_, _*_, _<_, _≤_, max}
+use Prim.Native.Nat.{ℕ, zero, suc, _+_, _<_, _≤_, max}
 use native.Mathlib.Omega.{arith}
 use native.Mathlib.Nat.{div-zero}
 use lib.Dec.{ltb}
@@ -14,7 +14,7 @@ use Rattle.columns.proofs.Tests.{by-test}
 use Rattle.context.specs.declared.Context.{Context}
 use Rattle.weights.specs.Weights.{weights, weight, full-slice, whole-slice}
 use Rattle.weights.proofs.Table.{weight-high, whole-slice-high}
-use Rattle.machine.specs.Machine.{context-at, no-context}
+use Rattle.machine.specs.Machine.{no-context}
 use Rattle.machine.proofs.Steps.{getD-set}
 use Rattle.decision.specs.State.{State, at, put-context}
 use Rattle.decision.specs.Wakeups.{Wakeup, waits-for, woken-by, put-back, enter, entering, wake-as, serve-wakeup}

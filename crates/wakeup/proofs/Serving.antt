@@ -3,22 +3,22 @@ use mathlib.Core.Path.{_≡_, refl, sym, ap, _∙_, subst}
 use mathlib.Core.Bool.{Bool, true, false}
 use mathlib.Core.List.{List, [], _∷_, _++_}
 use mathlib.Core.Option.{Option, none, some}
-use Prim.Native.Nat.{ℕ, zero, suc, _+_, _-_, _*_, _<_, _≤_}
+use Prim.Native.Nat.{ℕ, zero, suc, _+_, _*_, _<_, _≤_}
 use native.Mathlib.Omega.{arith}
 use native.Mathlib.Numerals.{add-one}
 use lib.Dec.{ltb, eqb}
-use lib.ListN.{length, getD}
+use lib.ListN.{length}
 use borrow.Author.Tests.{ltb-true, ltb-false}
-use Rattle.columns.specs.Common.{if_then_else_, fold, All}
+use Rattle.columns.specs.Common.{if_then_else_, fold}
 use Rattle.columns.proofs.Tests.{by-test}
 use Rattle.context.specs.declared.Context.{Context}
 use Rattle.percpu.specs.declared.PercpuBlock.{PercpuBlock}
 use Rattle.machine.specs.Machine.{Machine, context-at, cpu-at}
 use Rattle.machine.specs.Encode.{encode}
-use Rattle.machine.specs.Shape.{ContextFits, Fits, Image}
+use Rattle.machine.specs.Shape.{Fits, Image}
 use Rattle.decision.specs.State.{State, state-of, at, put-context, insert-timer, push-local}
 use Rattle.decision.specs.Wakeups as definition
-use Rattle.decision.specs.Wakeups.{wakeups, drained, waits-for, woken-by, put-back, enter, wakeup-result, wake-as, serve-wakeup, serve-wakeups}
+use Rattle.decision.specs.Wakeups.{wakeups, drained, waits-for, woken-by, put-back, enter, wake-as, serve-wakeup, serve-wakeups}
 use Rattle.decision.proofs.WakeupCases.{wakeup-cases}
 use Rattle.stages.specs.Stage.{put-state, Staged, Ranged}
 use Rattle.stages.proofs.Compose.{state-put, stage-then, stage-as}
@@ -30,7 +30,7 @@ use Rattle.wakeup_judge.proofs.Judging.{judged-is}
 use Rattle.wakeup_read.specs.Read.{wakeup-at, wakeups-in}
 use Rattle.wakeup_read.proofs.Scratched.{wakeup-such}
 use Rattle.wakeup.specs.Paced.{Slow, Paced, RecordFits, ResultFits, Named}
-use Rattle.wakeup.proofs.Pacing.{slow-more, slow-serve, woken-vtime}
+use Rattle.wakeup.proofs.Pacing.{slow-more, slow-serve}
 use Rattle.wakeup.proofs.Entering.{Loaded, staged-none}
 use Rattle.wakeup.proofs.Listed.{wakeups-named}
 

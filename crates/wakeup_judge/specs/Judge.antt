@@ -1,6 +1,5 @@
 -- A wake-up by value, and what the definitions of the decision say of it. Assumes nothing.
-use mathlib.Core.Path.{_≡_, refl}
-use mathlib.Core.Bool.{Bool, true, false, not, _&&_, _||_}
+use mathlib.Core.Bool.{Bool, not, _&&_, _||_}
 use mathlib.Core.Option.{Option, none, some}
 use Prim.Native.Nat.{ℕ, _+_, _<_, _≤_}
 use lib.Dec.{eqb}
@@ -11,7 +10,7 @@ use Rattle.weights.specs.Weights.{weight}
 use Rattle.run_queue.specs.declared.Timer.{Timer}
 use Rattle.percpu.specs.declared.PercpuBlock.{PercpuBlock}
 use Rattle.percpu.specs.With.{block-total-weight, block-published-weight}
-use Rattle.decision.specs.State.{State, at}
+use Rattle.decision.specs.State.{at}
 use Rattle.decision.specs.Wakeups as definition
 use Rattle.wakeup_judge.specs.declared.Wakeup.{Wakeup}
 use Rattle.wakeup_judge.specs.declared.WakeupResult.{WakeupResult}

@@ -1,12 +1,12 @@
 -- The due timers and the local list taken out. Assumes nothing.
-use mathlib.Core.Path.{_≡_, refl, sym, ap, _∙_, subst}
+use mathlib.Core.Path.{_≡_, sym, ap, _∙_}
 use mathlib.Core.Bool.{Bool, true, false, not}
 use mathlib.Core.List.{List, [], _∷_}
-use Prim.Native.Nat.{ℕ, zero, suc, _+_, _-_, _*_, _<_, _≤_}
+use Prim.Native.Nat.{ℕ, _+_, _-_, _<_, _≤_}
 use native.Mathlib.Omega.{arith}
-use lib.ListN.{length, getD, take, drop}
+use lib.ListN.{length, take, drop}
 use borrow.Rule.Slice.PartMut.{putMid}
-use Rattle.columns.specs.Common.{if_then_else_, keep, All}
+use Rattle.columns.specs.Common.{keep, All}
 use Rattle.columns.proofs.Tests.{by-test}
 use Rattle.run_queue.specs.declared.Timer.{Timer}
 use Rattle.run_queue.specs.Order.{sooner}

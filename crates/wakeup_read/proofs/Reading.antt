@@ -1,19 +1,17 @@
 -- What is read from the image, one lemma for each answer. Assumes nothing.
 use mathlib.Core.Path.{_≡_, refl, sym, ap, _∙_, subst}
-use mathlib.Core.Bool.{Bool, true, false, not}
+use mathlib.Core.Bool.{Bool, true, false}
 use mathlib.Core.List.{List, [], _∷_, _++_, map, append-assoc, append-nil}
-use Prim.Native.Nat.{ℕ, zero, suc, _+_, _-_, _*_, _<_, _≤_}
+use Prim.Native.Nat.{ℕ, _+_, _-_, _<_, _≤_}
 use native.Mathlib.Omega.{arith}
 use native.Mathlib.Numerals.{add-one}
 use lib.ListN.{length, getD, take, drop}
 use lib.Seq.{take-suc, take-all}
-use Rattle.columns.specs.Common.{if_then_else_, keep}
+use Rattle.columns.specs.Common.{keep}
 use Rattle.columns.proofs.Tests.{by-test}
 use Rattle.cpu_stats.specs.Words.{stats-words}
 use Rattle.context.specs.declared.Context.{Context}
 use Rattle.run_queue.specs.declared.Timer.{Timer}
-use Rattle.run_queue.specs.Order.{sooner}
-use Rattle.run_queue.specs.Sorted.{Sorted}
 use Rattle.percpu.specs.Cpu.{Cpu}
 use Rattle.percpu.specs.Words.{block-words}
 use Rattle.percpu.specs.Layout.{cpu-words, counts, timer-at, no-timer}
@@ -25,12 +23,12 @@ use Rattle.machine.specs.Encode.{encode, cpu-place}
 use Rattle.machine.specs.Shape.{Fits, Image}
 use Rattle.machine.proofs.Places.{lent-is}
 use Rattle.machine.proofs.LookUps.{block-word}
-use Rattle.decision.specs.State.{State, state-of}
+use Rattle.decision.specs.State.{state-of}
 use Rattle.decision.specs.Wakeups as definition
 use Rattle.decision.specs.Wakeups.{is-due, local-wakeup, timer-wakeup, wakeups}
 use Rattle.stages.proofs.Lent.{lent-word, timer-count, timers-small}
 use Rattle.wakeup_judge.specs.declared.Wakeup.{Wakeup}
-use Rattle.wakeup_judge.specs.Judge.{wakeup-of, live-at}
+use Rattle.wakeup_judge.specs.Judge.{live-at}
 use Rattle.wakeup_read.specs.Read.{wakeups-in, live-wakeups, TimerRead, NameRead}
 
 module _ {c n : ℕ} (m : List ℕ) (k : ℕ) (h : k < c) (M : Machine) (e : m ≡ encode M) (o : Fits c n M) where

@@ -1,41 +1,26 @@
 use Rattle.wakeup.proofs.Serving.{result-fits, served-staged}
-use native.Mathlib.Omega.{arith}
 use borrow.Author.Needs.{needs}
 use Rattle.wakeup.proofs.serve_one.Statement.{statement}
 use Rattle.wakeup.proofs.serve_one.Tie as tie
-use Rattle.wakeup.proofs.serve_one.Reads as reads
-use Rattle.wakeup.proofs.serve_one.Lts as lts
-use Rattle.machine.proofs.index.Reads as index-reads
-use Rattle.machine.proofs.load.Reads as load-reads
-use Rattle.stages.proofs.load_block.Reads as load-block-reads
-use Rattle.wakeup.proofs.serve_as.Reads as serve-as-reads
-use Rattle.wakeup_judge.proofs.judge.Reads as judge-reads
 
--- src/lib.rt:70:9
 load-block-requires : tie.Need-load-block-requires
 load-block-requires c κs = search needs
 
--- src/lib.rt:71:9
 index-requires : tie.Need-index-requires
 index-requires c κs = search needs
 
--- src/lib.rt:72:9
 load-requires : tie.Need-load-requires
 load-requires c κs = search needs
 
--- src/lib.rt:73:9
 judge-requires : tie.Need-judge-requires
 judge-requires c κs = search needs
 
--- src/lib.rt:74:5
 serve-as-requires : tie.Need-serve-as-requires
 serve-as-requires c κs = (c .before .before .before .before .before .before .before .before .pre .0, ((c .before .before .before .before .before .before .before .before .pre .1 .0 .0, c .before .before .before .before .before .before .before .before .pre .1 .0 .1, result-fits _ _ _ _ _ (c .before .before .before .before .before .load-block .ensures) (c .before .before .before .before .index .ensures) (c .before .before .load .ensures) (c .before .judge .ensures) (c .before .before .before .before .before .before .before .before .pre .1 .0 .1) _ (c .before .before .before .before .before .before .before .before .pre .1 .1)), c .before .before .before .before .before .before .before .before .pre .1 .1))
 
--- src/lib.rt:64:1
 same-length : tie.Need-same-length
 same-length c = search needs
 
--- src/lib.rt:64:1
 returns : tie.Need-returns
 returns c = served-staged _ _ _ _ _ (c .before .before .before .before .before .before .before .before .load-block .ensures) (c .before .before .before .before .before .before .before .index .ensures) (c .before .before .before .before .before .load .ensures) (c .before .before .before .before .judge .ensures) (c .before .before .serve-as .ensures)
 

@@ -1,24 +1,16 @@
-use native.Mathlib.Omega.{arith}
 use borrow.Author.Needs.{needs}
 use Rattle.wakeup_judge.proofs.activate_block.Statement.{statement}
 use Rattle.wakeup_judge.proofs.activate_block.Tie as tie
-use Rattle.wakeup_judge.proofs.activate_block.Reads as reads
-use Rattle.wakeup_judge.proofs.activate_block.Lts as lts
-use Rattle.weights.proofs.weight_of.Reads as weight-of-reads
 
--- src/lib.rt:141:9
 returns : tie.Need-returns
 returns c = rw (c .if1 .taken)
 
--- src/lib.rt:143:41
 weight-of-requires : tie.Need-weight-of-requires
 weight-of-requires c κs = search needs
 
--- src/lib.rt:143:24
 add-total-weight : tie.Need-add-total-weight
 add-total-weight c = search needs
 
--- src/lib.rt:136:1
 returns-2 : tie.Need-returns-2
 returns-2 c = rw (c .before .before .if1 .left, c .before .weight-of .ensures .0)
 

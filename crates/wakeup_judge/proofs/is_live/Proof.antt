@@ -1,29 +1,20 @@
 use Rattle.wakeup_judge.proofs.Judging.{live-gone, live-written, live-sched, live-waits}
-use native.Mathlib.Omega.{arith}
 use borrow.Author.Needs.{needs}
 use Rattle.wakeup_judge.proofs.is_live.Statement.{statement}
 use Rattle.wakeup_judge.proofs.is_live.Tie as tie
-use Rattle.wakeup_judge.proofs.is_live.Reads as reads
-use Rattle.wakeup_judge.proofs.is_live.Lts as lts
-use Rattle.wakeup_judge.proofs.waits_for.Reads as waits-for-reads
 
--- src/lib.rt:50:9
 returns : tie.Need-returns
 returns c = live-gone (c .before .args .sched) (c .before .args .t) (c .before .args .c) (c .if1 .taken)
 
--- src/lib.rt:53:9
 returns-2 : tie.Need-returns-2
 returns-2 c = live-written (c .before .before .before .args .sched) (c .before .before .before .args .t) (c .before .before .before .args .c) (c .before .before .if1 .left) (c .if2 .taken)
 
--- src/lib.rt:56:9
 returns-3 : tie.Need-returns-3
 returns-3 c = live-sched (c .before .before .before .before .before .args .sched) (c .before .before .before .before .before .args .t) (c .before .before .before .before .before .args .c) (c .before .before .before .before .if1 .left) (c .before .before .if2 .left) (c .if3 .taken)
 
--- src/lib.rt:58:5
 waits-for-requires : tie.Need-waits-for-requires
 waits-for-requires c κs = search needs
 
--- src/lib.rt:46:1
 returns-4 : tie.Need-returns-4
 returns-4 c = live-waits (c .before .before .before .before .before .before .args .sched) (c .before .before .before .before .before .before .args .t) (c .before .before .before .before .before .before .args .c) (c .before .before .before .before .before .if1 .left) (c .before .before .before .if2 .left) (c .before .if3 .left) (c .waits-for .ensures)
 

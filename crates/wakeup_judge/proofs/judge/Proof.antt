@@ -1,38 +1,26 @@
 use Rattle.wakeup_judge.proofs.Judging.{judged-sched, judged-gone, judged-locked, judged-entered, judged-woken}
-use native.Mathlib.Omega.{arith}
 use borrow.Author.Needs.{needs}
 use Rattle.wakeup_judge.proofs.judge.Statement.{statement}
 use Rattle.wakeup_judge.proofs.judge.Tie as tie
-use Rattle.wakeup_judge.proofs.judge.Reads as reads
-use Rattle.wakeup_judge.proofs.judge.Lts as lts
-use Rattle.wakeup_judge.proofs.may_enter.Reads as may-enter-reads
-use Rattle.wakeup_judge.proofs.woken_by.Reads as woken-by-reads
 
--- src/lib.rt:94:9
 returns : tie.Need-returns
 returns c = judged-sched _ _ _ _ (c .if1 .taken)
 
--- src/lib.rt:97:9
 returns-2 : tie.Need-returns-2
 returns-2 c = judged-gone _ _ _ _ (c .before .if1 .left) (c .if2 .taken)
 
--- src/lib.rt:100:9
 returns-3 : tie.Need-returns-3
 returns-3 c = judged-locked _ _ _ _ (c .before .before .before .if1 .left) (c .before .before .if2 .left) (c .if3 .taken)
 
--- src/lib.rt:102:9
 woken-by-requires : tie.Need-woken-by-requires
 woken-by-requires c κs = search needs
 
--- src/lib.rt:103:8
 may-enter-requires : tie.Need-may-enter-requires
 may-enter-requires c κs = search needs
 
--- src/lib.rt:104:9
 returns-4 : tie.Need-returns-4
 returns-4 c = judged-entered _ _ _ _ (c .before .before .before .before .before .before .if1 .left) _ _ (c .before .before .woken-by .ensures) (c .before .may-enter .ensures) (c .before .before .before .before .before .if2 .left) (c .before .before .before .if3 .left) (c .if4 .taken)
 
--- src/lib.rt:89:1
 returns-5 : tie.Need-returns-5
 returns-5 c = judged-woken _ _ _ _ (c .before .before .before .before .before .before .if1 .left) _ _ (c .before .before .woken-by .ensures) (c .before .may-enter .ensures) (c .before .before .before .before .before .if2 .left) (c .before .before .before .if3 .left) (c .if4 .left)
 

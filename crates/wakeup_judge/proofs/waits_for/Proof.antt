@@ -1,25 +1,17 @@
 use mathlib.Core.Path.{sym, _∙_}
-use native.Mathlib.Omega.{arith}
 use borrow.Author.Needs.{needs}
 use Rattle.wakeup_judge.proofs.waits_for.Statement.{statement}
 use Rattle.wakeup_judge.proofs.waits_for.Tie as tie
-use Rattle.wakeup_judge.proofs.waits_for.Reads as reads
-use Rattle.wakeup_judge.proofs.waits_for.Lts as lts
-use Rattle.context.proofs.Status.is_soft_blocked.Reads as is-soft-blocked-reads
 
--- src/lib.rt:35:8
 is-soft-blocked-requires : tie.Need-is-soft-blocked-requires
 is-soft-blocked-requires c κs = search needs
 
--- src/lib.rt:37:13
 returns : tie.Need-returns
 returns c = rw (sym (c .before .before .before .is-soft-blocked .ensures) ∙ c .before .before .if1 .taken, c .before .if2 .taken)
 
--- src/lib.rt:39:9
 returns-2 : tie.Need-returns-2
 returns-2 c = rw (sym (c .before .before .is-soft-blocked .ensures) ∙ c .before .if1 .taken, c .if2 .left)
 
--- src/lib.rt:31:1
 returns-3 : tie.Need-returns-3
 returns-3 c = rw (sym (c .before .is-soft-blocked .ensures) ∙ c .if1 .left)
 

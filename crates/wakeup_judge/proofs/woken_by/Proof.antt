@@ -1,30 +1,20 @@
 use mathlib.Core.Path.{sym, _∙_}
-use native.Mathlib.Omega.{arith}
 use borrow.Author.Needs.{needs}
 use Rattle.wakeup_judge.proofs.woken_by.Statement.{statement}
 use Rattle.wakeup_judge.proofs.woken_by.Tie as tie
-use Rattle.wakeup_judge.proofs.woken_by.Reads as reads
-use Rattle.wakeup_judge.proofs.woken_by.Lts as lts
-use Rattle.wakeup_judge.proofs.waits_for.Reads as waits-for-reads
-use Rattle.wakeup_judge.proofs.wake_up.Reads as wake-up-reads
 
--- src/lib.rt:57:12
 waits-for-requires : tie.Need-waits-for-requires
 waits-for-requires c κs = search needs
 
--- src/lib.rt:58:13
 wake-up-requires : tie.Need-wake-up-requires
 wake-up-requires c κs = search needs
 
--- src/lib.rt:58:13
 returns : tie.Need-returns
 returns c = rw (c .before .before .before .if1 .taken, sym (c .before .before .waits-for .ensures) ∙ c .before .if2 .taken) (c .wake-up .ensures)
 
--- src/lib.rt:60:9
 returns-2 : tie.Need-returns-2
 returns-2 c = rw (c .before .before .if1 .taken, sym (c .before .waits-for .ensures) ∙ c .if2 .left)
 
--- src/lib.rt:53:1
 returns-3 : tie.Need-returns-3
 returns-3 c = rw (c .if1 .left)
 

@@ -7,55 +7,40 @@ use native.Mathlib.Omega.{arith}
 use borrow.Author.Needs.{needs}
 use Rattle.wakeup_read.proofs.drain.Statement.{statement}
 use Rattle.wakeup_read.proofs.drain.Tie as tie
-use Rattle.wakeup_read.proofs.drain.Reads as reads
-use Rattle.wakeup_read.proofs.drain.Lts as lts
-use Rattle.wakeup_read.proofs.drain_block.Reads as drain-block-reads
 
--- src/lib.rt:153:18
 mul-at : tie.Need-mul-at
 mul-at c = search needs
 
--- src/lib.rt:153:14
 add-at : tie.Need-add-at
 add-at c = search needs
 
--- src/lib.rt:153:27
 mul-at-2 : tie.Need-mul-at-2
 mul-at-2 c = search needs
 
--- src/lib.rt:153:14
 add-at-2 : tie.Need-add-at-2
 add-at-2 c = search needs
 
--- src/lib.rt:154:15
 add-end : tie.Need-add-end
 add-end c = search needs
 
--- src/lib.rt:155:17
 mul-drain-block : tie.Need-mul-drain-block
 mul-drain-block c = search needs
 
--- src/lib.rt:155:17
 sub-drain-block : tie.Need-sub-drain-block
 sub-drain-block c = search needs
 
--- src/lib.rt:155:17
 part-drain-block-start : tie.Need-part-drain-block-start
 part-drain-block-start c = search needs
 
--- src/lib.rt:155:17
 part-drain-block-end : tie.Need-part-drain-block-end
 part-drain-block-end c = omega (arith, sized (c .before .pre .0))
 
--- src/lib.rt:155:5
 drain-block-requires : tie.Need-drain-block-requires
 drain-block-requires c κs = (search needs, subst (λ y. y ≤ 64) (sym (lent-word (c .before .before .args .m .now) (c .before .before .args .n) (c .before .before .args .k) 22 (omega arith))) (timers-small (c .before .before .pre .0) _ (c .before .before .pre .1 .0)), c .before .before .pre .1 .1)
 
--- src/lib.rt:148:1
 same-length : tie.Need-same-length
 same-length c = search needs
 
--- src/lib.rt:148:1
 returns : tie.Need-returns
 returns c = drained-staged (c .before .before .before .before .before .pre .0) _ (c .before .before .before .before .before .pre .1 .0) _ _ (c .before .before .drain-block .ensures)
 

@@ -7,51 +7,37 @@ use native.Mathlib.Omega.{arith}
 use borrow.Author.Needs.{needs}
 use Rattle.wakeup_read.proofs.due.Statement.{statement}
 use Rattle.wakeup_read.proofs.due.Tie as tie
-use Rattle.wakeup_read.proofs.due.Reads as reads
-use Rattle.wakeup_read.proofs.due.Lts as lts
-use Rattle.timers.proofs.due.Reads as due-reads
 
--- src/lib.rt:35:18
 mul-at : tie.Need-mul-at
 mul-at c = search needs
 
--- src/lib.rt:35:14
 add-at : tie.Need-add-at
 add-at c = search needs
 
--- src/lib.rt:35:27
 mul-at-2 : tie.Need-mul-at-2
 mul-at-2 c = search needs
 
--- src/lib.rt:35:14
 add-at-2 : tie.Need-add-at-2
 add-at-2 c = search needs
 
--- src/lib.rt:36:15
 add-end : tie.Need-add-end
 add-end c = search needs
 
--- src/lib.rt:37:17
 mul-due : tie.Need-mul-due
 mul-due c = search needs
 
--- src/lib.rt:37:17
 sub-due : tie.Need-sub-due
 sub-due c = search needs
 
--- src/lib.rt:37:17
 part-due-start : tie.Need-part-due-start
 part-due-start c = search needs
 
--- src/lib.rt:37:17
 part-due-end : tie.Need-part-due-end
 part-due-end c = omega (arith, sized (c .before .pre .0))
 
--- src/lib.rt:37:5
 due-requires : tie.Need-due-requires
 due-requires c κs = (search needs, subst (λ y. y ≤ 64) (sym (lent-word (c .before .before .args .m .now) (c .before .before .args .n) (c .before .before .args .k) 22 (omega arith))) (timers-small (c .before .before .pre .0) _ (c .before .before .pre .1 .0)), search needs)
 
--- src/lib.rt:30:1
 returns : tie.Need-returns
 returns c = due-read (c .before .before .before .pre .0) _ (c .before .before .before .pre .1 .0) _ _ (c .due .ensures)
 

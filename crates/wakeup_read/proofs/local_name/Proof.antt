@@ -4,42 +4,31 @@ use native.Mathlib.Omega.{arith}
 use borrow.Author.Needs.{needs}
 use Rattle.wakeup_read.proofs.local_name.Statement.{statement}
 use Rattle.wakeup_read.proofs.local_name.Tie as tie
-use Rattle.wakeup_read.proofs.local_name.Reads as reads
-use Rattle.wakeup_read.proofs.local_name.Lts as lts
 
--- src/lib.rt:65:18
 mul-at : tie.Need-mul-at
 mul-at c = search needs
 
--- src/lib.rt:65:14
 add-at : tie.Need-add-at
 add-at c = search needs
 
--- src/lib.rt:65:27
 mul-at-2 : tie.Need-mul-at-2
 mul-at-2 c = search needs
 
--- src/lib.rt:65:14
 add-at-2 : tie.Need-add-at-2
 add-at-2 c = search needs
 
--- src/lib.rt:65:14
 add-at-3 : tie.Need-add-at-3
 add-at-3 c = search needs
 
--- src/lib.rt:65:14
 add-at-4 : tie.Need-add-at-4
 add-at-4 c = omega (arith, sized (c .pre .0), local-small (c .pre .0) _ (c .pre .1 .0))
 
--- src/lib.rt:66:5
 mul-result : tie.Need-mul-result
 mul-result c = omega (arith, sized (c .pre .0), local-small (c .pre .0) _ (c .pre .1 .0))
 
--- src/lib.rt:66:5
 shared-slice-read-result : tie.Need-shared-slice-read-result
 shared-slice-read-result c = omega (arith, sized (c .before .pre .0), local-small (c .before .pre .0) _ (c .before .pre .1 .0))
 
--- src/lib.rt:60:1
 returns : tie.Need-returns
 returns c = name-read (c .before .pre .0) _ (c .before .pre .1 .0) _ (c .before .pre .1 .1)
 

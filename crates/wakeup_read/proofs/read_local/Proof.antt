@@ -4,11 +4,6 @@ use borrow.Author.Needs.{needs}
 use native.Mathlib.Omega.{arith}
 use Rattle.wakeup_read.proofs.read_local.Statement.{statement}
 use Rattle.wakeup_read.proofs.read_local.Tie as tie
-use Rattle.wakeup_read.proofs.read_local.Reads as reads
-use Rattle.wakeup_read.proofs.read_local.Lts as lts
-use Rattle.wakeup_read.proofs.local_len.Reads as local-len-reads
-use Rattle.wakeup_read.proofs.local_name.Reads as local-name-reads
-use Rattle.wakeup_read.proofs.scratch.put_wakeup.Reads as put-wakeup-reads
 
 abbrev Inv-loop : tie.InvT-loop
 Inv-loop m d₀ c n k from count i₀ d i = LocalLoop c n k from count m d₀ d i
@@ -16,47 +11,36 @@ Inv-loop m d₀ c n k from count i₀ d i = LocalLoop c n k from count m d₀ d 
 abbrev μ-loop : tie.MeasureT-loop
 μ-loop m d₀ c n k from count i₀ d i = count - i
 
--- src/lib.rt:113:9
 local-len-requires : tie.Need-local-len-requires Inv-loop μ-loop
 local-len-requires c κs = search needs
 
--- src/lib.rt:115:5
 loop-holds : tie.Need-loop-holds Inv-loop μ-loop
 loop-holds c = local-start _ _ _ _ _ _ _ (c .before .before .before .pre .1 .2)
 
--- src/lib.rt:116:13
 local-name-requires : tie.Need-local-name-requires Inv-loop μ-loop
 local-name-requires c κs = search needs
 
--- src/lib.rt:122:23
 add-put-wakeup : tie.Need-add-put-wakeup Inv-loop μ-loop
 add-put-wakeup c = search needs
 
--- src/lib.rt:122:9
 put-wakeup-requires : tie.Need-put-wakeup-requires Inv-loop μ-loop
 put-wakeup-requires c κs = search needs
 
--- src/lib.rt:123:9
 add-i : tie.Need-add-i Inv-loop μ-loop
 add-i c = search needs
 
--- src/lib.rt:115:5
 loop-less : tie.Need-loop-less Inv-loop μ-loop
 loop-less c = search needs
 
--- src/lib.rt:115:5
 loop-again : tie.Need-loop-again Inv-loop μ-loop
 loop-again c = local-next (c .before .before .before .before .before .before .before .before .before .before .pre .1 .0) (c .before .before .before .before .before .before .loop .inv) _ (c .before .before .before .before .before .loop-test .taken) (c .before .before .before .before .before .before .before .local-len .ensures .0) (c .before .before .before .before .local-name .ensures) (c .before .before .put-wakeup .ensures) (omega arith)
 
--- src/lib.rt:125:5
 add-result : tie.Need-add-result Inv-loop μ-loop
 add-result c = search needs
 
--- src/lib.rt:108:1
 same-length : tie.Need-same-length Inv-loop μ-loop
 same-length c = search needs
 
--- src/lib.rt:108:1
 returns : tie.Need-returns Inv-loop μ-loop
 returns c = local-end (c .before .before .before .before .before .pre .1 .0) (c .before .loop .inv) (omega arith) (c .before .before .before .before .before .pre .1 .1) (c .before .before .local-len .ensures .1) (c .before .before .local-len .ensures .2)
 

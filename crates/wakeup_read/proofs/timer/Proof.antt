@@ -5,51 +5,37 @@ use native.Mathlib.Omega.{arith}
 use borrow.Author.Needs.{needs}
 use Rattle.wakeup_read.proofs.timer.Statement.{statement}
 use Rattle.wakeup_read.proofs.timer.Tie as tie
-use Rattle.wakeup_read.proofs.timer.Reads as reads
-use Rattle.wakeup_read.proofs.timer.Lts as lts
-use Rattle.timers.proofs.timer.Reads as timer-reads
 
--- src/lib.rt:45:18
 mul-at : tie.Need-mul-at
 mul-at c = search needs
 
--- src/lib.rt:45:14
 add-at : tie.Need-add-at
 add-at c = search needs
 
--- src/lib.rt:45:27
 mul-at-2 : tie.Need-mul-at-2
 mul-at-2 c = search needs
 
--- src/lib.rt:45:14
 add-at-2 : tie.Need-add-at-2
 add-at-2 c = search needs
 
--- src/lib.rt:46:15
 add-end : tie.Need-add-end
 add-end c = search needs
 
--- src/lib.rt:47:19
 mul-timer : tie.Need-mul-timer
 mul-timer c = search needs
 
--- src/lib.rt:47:19
 sub-timer : tie.Need-sub-timer
 sub-timer c = search needs
 
--- src/lib.rt:47:19
 part-timer-start : tie.Need-part-timer-start
 part-timer-start c = search needs
 
--- src/lib.rt:47:19
 part-timer-end : tie.Need-part-timer-end
 part-timer-end c = omega (arith, sized (c .before .pre .0))
 
--- src/lib.rt:47:5
 timer-requires : tie.Need-timer-requires
 timer-requires c κs = (search needs, omega (arith, timers-small (c .before .before .pre .0) _ (c .before .before .pre .1 .0)))
 
--- src/lib.rt:40:1
 returns : tie.Need-returns
 returns c = timer-read (c .before .before .before .pre .0) _ (c .before .before .before .pre .1 .0) _ (c .before .before .before .pre .1 .1) _ (c .timer .ensures)
 

@@ -1,42 +1,27 @@
 use Rattle.wakeup.proofs.Entering.{entry-fits, joined}
 use mathlib.Core.Path.{refl}
-use native.Mathlib.Omega.{arith}
 use borrow.Author.Needs.{needs}
 use Rattle.wakeup.proofs.enter.join.Statement.{statement}
 use Rattle.wakeup.proofs.enter.join.Tie as tie
-use Rattle.wakeup.proofs.enter.join.Reads as reads
-use Rattle.wakeup.proofs.enter.join.Lts as lts
-use Rattle.machine.proofs.word.Reads as word-reads
-use Rattle.stages.proofs.insert_entry.Reads as insert-entry-reads
-use Rattle.stages.proofs.store_context.Reads as store-context-reads
-use Rattle.wakeup_judge.proofs.make_entry.Reads as make-entry-reads
-use Rattle.weights.proofs.weight_of.Reads as weight-of-reads
 
--- src/enter.rt:59:5
 store-context-requires : tie.Need-store-context-requires
 store-context-requires c κs = search needs
 
--- src/enter.rt:60:9
 weight-of-requires : tie.Need-weight-of-requires
 weight-of-requires c κs = search needs
 
--- src/enter.rt:61:9
 word-requires : tie.Need-word-requires
 word-requires c κs = search needs
 
--- src/enter.rt:62:9
 make-entry-requires : tie.Need-make-entry-requires
 make-entry-requires c κs = search needs
 
--- src/enter.rt:63:5
 insert-entry-requires : tie.Need-insert-entry-requires
 insert-entry-requires c κs = (c .before .before .before .before .before .before .store-context .ensures .image refl, (c .before .before .before .before .before .before .before .before .before .pre .1 .0 .0, entry-fits _ _ _ _ (c .before .before .before .before .before .before .before .before .before .args .e) _ (c .before .before .word .ensures) (c .before .before .before .weight-of .ensures) (c .before .make-entry .ensures) (c .before .before .before .before .before .before .before .before .before .pre .1 .0 .1)))
 
--- src/enter.rt:53:1
 same-length : tie.Need-same-length
 same-length c = search needs
 
--- src/enter.rt:53:1
 returns : tie.Need-returns
 returns c = joined _ _ _ _ (c .before .before .before .before .before .before .before .before .before .before .before .before .args .e) _ (c .before .before .before .before .before .word .ensures) (c .before .before .before .before .before .before .weight-of .ensures) (c .before .before .before .before .make-entry .ensures) (c .before .before .before .before .before .before .before .before .before .before .before .before .pre .1 .0 .0) (c .before .before .before .before .before .before .before .before .before .store-context .ensures) (c .before .before .insert-entry .ensures)
 

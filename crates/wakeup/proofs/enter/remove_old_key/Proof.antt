@@ -1,30 +1,20 @@
 use Rattle.wakeup.proofs.Entering.{old-key-out, no-old-key}
-use native.Mathlib.Omega.{arith}
 use borrow.Author.Needs.{needs}
 use Rattle.wakeup.proofs.enter.remove_old_key.Statement.{statement}
 use Rattle.wakeup.proofs.enter.remove_old_key.Tie as tie
-use Rattle.wakeup.proofs.enter.remove_old_key.Reads as reads
-use Rattle.wakeup.proofs.enter.remove_old_key.Lts as lts
-use Rattle.wakeup.proofs.enter.take_out.Reads as take-out-reads
-use Rattle.wakeup_judge.proofs.key_of.Reads as key-of-reads
 
--- src/enter.rt:46:13
 key-of-requires : tie.Need-key-of-requires
 key-of-requires c κs = search needs
 
--- src/enter.rt:47:9
 take-out-requires : tie.Need-take-out-requires
 take-out-requires c κs = search needs
 
--- src/enter.rt:48:9
 same-length : tie.Need-same-length
 same-length c = search needs
 
--- src/enter.rt:48:9
 returns : tie.Need-returns
 returns c = old-key-out _ (c .before .before .before .before .before .before .before .args .q) _ (c .before .before .before .before .before .if1 .taken) (c .before .before .before .before .key-of .ensures) (c .before .before .take-out .ensures)
 
--- src/enter.rt:40:1
 returns-2 : tie.Need-returns-2
 returns-2 c = no-old-key _ (c .before .before .args .q) (c .before .before .pre .0) (c .if1 .left)
 

@@ -4,54 +4,40 @@ use native.Mathlib.Omega.{arith}
 use borrow.Author.Needs.{needs}
 use Rattle.wakeup_read.proofs.scratch.put_wakeup.Statement.{statement}
 use Rattle.wakeup_read.proofs.scratch.put_wakeup.Tie as tie
-use Rattle.wakeup_read.proofs.scratch.put_wakeup.Reads as reads
-use Rattle.wakeup_read.proofs.scratch.put_wakeup.Lts as lts
 
--- src/scratch.rt:15:14
 mul-at : tie.Need-mul-at
 mul-at c = search needs
 
--- src/scratch.rt:16:13
 cast-d : tie.Need-cast-d
 cast-d c = search needs
 
--- src/scratch.rt:16:5
 mul-d : tie.Need-mul-d
 mul-d c = search needs
 
--- src/scratch.rt:16:5
 slice-write-d : tie.Need-slice-write-d
 slice-write-d c = search needs
 
--- src/scratch.rt:17:7
 add-d : tie.Need-add-d
 add-d c = search needs
 
--- src/scratch.rt:17:5
 mul-d-2 : tie.Need-mul-d-2
 mul-d-2 c = search needs
 
--- src/scratch.rt:17:5
 slice-write-d-2 : tie.Need-slice-write-d-2
 slice-write-d-2 c = simp length-set (omega arith)
 
--- src/scratch.rt:18:7
 add-d-2 : tie.Need-add-d-2
 add-d-2 c = search needs
 
--- src/scratch.rt:18:5
 mul-d-3 : tie.Need-mul-d-3
 mul-d-3 c = search needs
 
--- src/scratch.rt:18:5
 slice-write-d-3 : tie.Need-slice-write-d-3
 slice-write-d-3 c = simp length-set (omega arith)
 
--- src/scratch.rt:11:1
 same-length : tie.Need-same-length
 same-length c = search needs
 
--- src/scratch.rt:11:1
 returns : tie.Need-returns
 returns c = wakeups-next _ _ (c .before .args .w) (omega arith)
 
