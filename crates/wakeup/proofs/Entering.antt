@@ -91,9 +91,10 @@ module _ {c n : ℕ} {m : List ℕ} (k : ℕ) (q : Context) where
       → Staged c n k m m' false (λ (s : State). on-cpu (λ (p : Cpu). cpu-queue (without-old-key q (p .queue)) p) s)
   old-key-out key h e t =
       stage-as t
-      (λ M z o.
-        (ap (λ (y : Key). on-cpu (λ (p : Cpu). cpu-queue (queue-remove y (p .queue)) p) (state-of k M)) e ∙ ap (λ (y : Bool). without q y (state-of k M)) (sym h),
-        λ y w. refl))
+      (λ M z o. (
+        ap (λ (y : Key). on-cpu (λ (p : Cpu). cpu-queue (queue-remove y (p .queue)) p) (state-of k M)) e ∙ ap (λ (y : Bool). without q y (state-of k M)) (sym h),
+        λ y w. refl,
+      ))
 
   pub no-old-key : Image c n m → q .«has_queue_key» ≡ false → Staged c n k m m false (λ (s : State). on-cpu (λ (p : Cpu). cpu-queue (without-old-key q (p .queue)) p) s)
   no-old-key i h = stage-as (staged-none k i) (λ M z o. (ap (λ (y : Bool). without q y (state-of k M)) (sym h), λ y w. refl))
@@ -124,7 +125,8 @@ pub entered-staged : {c n k : ℕ} {m m' m'' m''' : List ℕ} {r : Bool} (x : �
 unfolding enter
 entered-staged {k = k} x q e b h f g t u v =
     stage-as (stage-then h (stage-then h t u) v)
-    (λ M z o.
-      (ap (λ (y : Context). insert-entry (entry-of x (weight (q .prio)) y) (put-context x y (on-cpu (λ (p : Cpu). cpu-queue (without-old-key q (p .queue)) (activated q p)) (state-of k M))))
-        (g ∙ ap (λ (y : PercpuBlock). entering (y .v) q) (f M z o)),
-      λ y w. refl))
+    (λ M z o. (
+      ap (λ (y : Context). insert-entry (entry-of x (weight (q .prio)) y) (put-context x y (on-cpu (λ (p : Cpu). cpu-queue (without-old-key q (p .queue)) (activated q p)) (state-of k M))))
+          (g ∙ ap (λ (y : PercpuBlock). entering (y .v) q) (f M z o)),
+      λ y w. refl,
+    ))

@@ -41,7 +41,7 @@ module _ (time : ℕ) (s : State) where
   such P a b =
       all-append P (map timer-wakeup live) (map local-wakeup (s .cpu .«local_wakeup_list»))
       (all-map P timer-wakeup live
-        (all-keep (is-live-timer s) (λ (t : Timer). P (timer-wakeup t)) (keep (is-due time) (s .cpu .timers)) (all-keep (is-due time) (λ (t : Timer). P (timer-wakeup t)) (s .cpu .timers) a)))
+      (all-keep (is-live-timer s) (λ (t : Timer). P (timer-wakeup t)) (keep (is-due time) (s .cpu .timers)) (all-keep (is-due time) (λ (t : Timer). P (timer-wakeup t)) (s .cpu .timers) a)))
       (all-map P local-wakeup (s .cpu .«local_wakeup_list») b)
 
   pub wakeups-named : {n : ℕ} → CpuFits n (s .cpu) → Named n (wakeups time s)

@@ -1,78 +1,30 @@
--- What is read from the image, one lemma for each answer. Assumes nothing.
-use mathlib.Core.Path.{_≡_, refl, sym, ap, _∙_, subst}
+-- The wake-ups read in order, one lemma for each need. Assumes nothing.
+use mathlib.Core.Path.{_≡_, refl, sym, ap, _∙_}
 use mathlib.Core.Bool.{Bool, true, false}
 use mathlib.Core.List.{List, [], _∷_, _++_, map, append-assoc, append-nil}
-use Prim.Native.Nat.{ℕ, _+_, _-_, _<_, _≤_}
+use Prim.Native.Nat.{ℕ, _+_, _<_, _≤_}
 use native.Mathlib.Omega.{arith}
 use native.Mathlib.Numerals.{add-one}
-use lib.ListN.{length, getD, take, drop}
+use lib.ListN.{length, getD, take}
 use lib.Seq.{take-suc, take-all}
 use Rattle.columns.specs.Common.{keep}
 use Rattle.columns.proofs.Tests.{by-test}
-use Rattle.cpu_stats.specs.Words.{stats-words}
 use Rattle.context.specs.declared.Context.{Context}
 use Rattle.run_queue.specs.declared.Timer.{Timer}
-use Rattle.percpu.specs.Cpu.{Cpu}
-use Rattle.percpu.specs.Words.{block-words}
-use Rattle.percpu.specs.Layout.{cpu-words, counts, timer-at, no-timer}
-use Rattle.percpu.proofs.Read.{timer-is, local-is}
+use Rattle.percpu.specs.Layout.{no-timer}
 use Rattle.table.specs.First.{lead}
 use Rattle.timers.proofs.Table.{due-kept}
 use Rattle.machine.specs.Machine.{Machine, context-at, cpu-at}
 use Rattle.machine.specs.Encode.{encode, cpu-place}
-use Rattle.machine.specs.Shape.{Fits, Image}
-use Rattle.machine.proofs.Places.{lent-is}
-use Rattle.machine.proofs.LookUps.{block-word}
+use Rattle.machine.specs.Shape.{Fits}
 use Rattle.decision.specs.State.{state-of}
 use Rattle.decision.specs.Wakeups as definition
 use Rattle.decision.specs.Wakeups.{is-due, local-wakeup, timer-wakeup, wakeups}
-use Rattle.stages.proofs.Lent.{lent-word, timer-count, timers-small}
+use Rattle.stages.proofs.Lent.{timer-count}
 use Rattle.wakeup_judge.specs.declared.Wakeup.{Wakeup}
 use Rattle.wakeup_judge.specs.Judge.{live-at}
 use Rattle.wakeup_read.specs.Read.{wakeups-in, live-wakeups, TimerRead, NameRead}
-
-module _ {c n : ℕ} (m : List ℕ) (k : ℕ) (h : k < c) (M : Machine) (e : m ≡ encode M) (o : Fits c n M) where
-  pub local-count : getD m (cpu-place n k + 23) 0 ≡ length (cpu-at M k .«local_wakeup_list»)
-  unfolding cpu-words block-words stats-words counts
-  local-count = block-word m k M e o 23 h (omega arith)
-
-pub local-small : {c n : ℕ} {m : List ℕ} (i : Image c n m) (k : ℕ) → k < c → getD m (cpu-place n k + 23) 0 ≤ 64
-local-small {m = m} i k h = rw (local-count m k h (i .M) (i .eq) (i .fits)) (i .fits .cpu k h .local)
-
-module _ {c n : ℕ} {m : List ℕ} (i : Image c n m) (k : ℕ) (h : k < c) where
-  abbrev lent : List ℕ
-  lent = take (cpu-place n k + 665 - cpu-place n k) (drop (cpu-place n k) m)
-
-  pub due-read : (time r : ℕ) → (r ≤ getD lent 22 0) × ((p : Cpu) → lent ≡ cpu-words p → length (p .timers) ≤ 64 → r ≡ lead (is-due time) (p .timers))
-      → (r ≤ getD m (cpu-place n k + 22) 0) × (r ≤ 64) × ((M : Machine) → m ≡ encode M → Fits c n M → r ≡ lead (is-due time) (cpu-at M k .timers))
-  due-read time r f =
-      let a : r ≤ getD m (cpu-place n k + 22) 0 = subst (λ (y : ℕ). r ≤ y) (lent-word m n k 22 (omega arith)) (f .0)
-      in (a, omega (arith, timers-small i k h), λ M e o. f .1 (cpu-at M k) (lent-is m k h M e o) (o .cpu k h .timers))
-
-  pub timer-read : (j : ℕ) → j < getD m (cpu-place n k + 22) 0 → (r : Timer) → r ≡ timer-at lent j → TimerRead c n k j m r
-  timer-read j b r e =
-      record {
-        is = at;
-        name = subst (λ (t : Timer). t .«context_ref» < n) (sym (at (i .M) (i .eq) (i .fits))) (i .fits .cpu k h .timer j (rw (timer-count m k h (i .M) (i .eq) (i .fits)) at b));
-      }
-    where
-      at : (M : Machine) → m ≡ encode M → Fits c n M → r ≡ getD (cpu-at M k .timers) j no-timer
-      at M z o =
-          e ∙ ap (λ (l : List ℕ). timer-at l j) (lent-is m k h M z o) ∙ timer-is (cpu-at M k) j (rw (timer-count m k h M z o) at b) (o .cpu k h .timers)
-
-  pub name-read : (j : ℕ) → j < getD m (cpu-place n k + 23) 0 → NameRead c n k j m (getD m (cpu-place n k + 537 + j) 0)
-  name-read j b =
-      record {
-        is = at;
-        name = subst (λ (x : ℕ). x < n) (sym (at (i .M) (i .eq) (i .fits))) (i .fits .cpu k h .local-name j (rw (local-count m k h (i .M) (i .eq) (i .fits)) at b));
-      }
-    where
-      at : (M : Machine) → m ≡ encode M → Fits c n M → getD m (cpu-place n k + 537 + j) 0 ≡ getD (cpu-at M k .«local_wakeup_list») j 0
-      at M z o =
-          let s : j < 64 = omega (arith, local-small i k h)
-          in let p : cpu-place n k + 537 + j ≡ cpu-place n k + (537 + j) = omega arith
-          in ap (λ (y : ℕ). getD m y 0) p ∙ block-word m k M z o (537 + j) h (omega arith)
-          ∙ local-is (cpu-at M k) j (rw (local-count m k h M z o) at b) (o .cpu k h .local)
+use Rattle.wakeup_read.proofs.Items.{local-count}
 
 -- the live ones of one timer, and of two lists
 pub live-one : (sched : ℕ) (cs : List Context) (t : Timer) → live-at sched t (context-at cs (t .«context_ref»)) ≡ true → live-wakeups sched cs (t ∷ []) ≡ timer-wakeup t ∷ []
@@ -145,10 +97,13 @@ pub timers-end : {c n k count : ℕ} {m d : List ℕ} {len i : ℕ} (time : ℕ)
     → (len ≤ 64) × ((M : Machine) → m ≡ encode M → Fits c n M → wakeups-in d len ≡ live-wakeups (cpu-at M k .block .«sched_ctxt») (M .contexts) (keep (is-due time) (cpu-at M k .timers)))
 timers-end {k = k} {count = count} {i = i} time h l b s f =
     let q : i ≡ count = omega (arith, l .here)
-    in (omega (arith, l .few, l .here), λ M e o.
-      l .read M e o
-      ∙ ap (λ (y : ℕ). live-wakeups (cpu-at M k .block .«sched_ctxt») (M .contexts) (take y (cpu-at M k .timers))) (q ∙ f M e o)
-      ∙ ap (live-wakeups (cpu-at M k .block .«sched_ctxt») (M .contexts)) (sym (due-kept time (cpu-at M k .timers) (o .cpu k h .timers-rise) .0)))
+    in (
+      omega (arith, l .few, l .here),
+      λ M e o.
+          l .read M e o
+          ∙ ap (λ (y : ℕ). live-wakeups (cpu-at M k .block .«sched_ctxt») (M .contexts) (take y (cpu-at M k .timers))) (q ∙ f M e o)
+          ∙ ap (live-wakeups (cpu-at M k .block .«sched_ctxt») (M .contexts)) (sym (due-kept time (cpu-at M k .timers) (o .cpu k h .timers-rise) .0)),
+    )
 
 -- the loop over the local list, behind the wake-ups that were read
 pub record LocalLoop (c n k from count : ℕ) (m d₀ d : List ℕ) (i : ℕ) : Type 0 where
@@ -179,17 +134,19 @@ module _ {c n k from count : ℕ} {m d₀ d : List ℕ} {i : ℕ} (h : k < c) (l
             ∙ ap (λ (y : List definition.Wakeup). y ++ (local-wakeup x ∷ [])) (l .read M e o)
             ∙ append-assoc (wakeups-in d₀ from) (map local-wakeup (take i L)) (local-wakeup x ∷ [])
             ∙ ap (λ (y : List definition.Wakeup). wakeups-in d₀ from ++ y)
-              (sym (map-append local-wakeup (take i L) (x ∷ []))
-              ∙ ap (λ (y : ℕ). map local-wakeup (take i L ++ (y ∷ []))) (a .is M e o)
-              ∙ ap (map local-wakeup) (sym (take-suc L i 0 w) ∙ ap (λ (y : ℕ). take y L) (sym (add-one i))));
+            (sym (map-append local-wakeup (take i L) (x ∷ []))
+            ∙ ap (λ (y : ℕ). map local-wakeup (take i L ++ (y ∷ []))) (a .is M e o)
+            ∙ ap (map local-wakeup) (sym (take-suc L i 0 w) ∙ ap (λ (y : ℕ). take y L) (sym (add-one i))));
       }
 
   pub local-end : count ≤ i → from ≤ 64 → count ≤ 64 → ((M : Machine) → m ≡ encode M → Fits c n M → count ≡ length (cpu-at M k .«local_wakeup_list»))
       → (from + i ≤ 128) × ((M : Machine) → m ≡ encode M → Fits c n M → wakeups-in d (from + i) ≡ wakeups-in d₀ from ++ map local-wakeup (cpu-at M k .«local_wakeup_list»))
-  local-end b g s f =
-      (omega (arith, l .here), λ M e o.
+  local-end b g s f = (
+    omega (arith, l .here),
+    λ M e o.
         let w : length (cpu-at M k .«local_wakeup_list») ≤ i = omega (arith, f M e o)
-        in l .read M e o ∙ ap (λ (y : List ℕ). wakeups-in d₀ from ++ map local-wakeup y) (take-all i (cpu-at M k .«local_wakeup_list») w))
+        in l .read M e o ∙ ap (λ (y : List ℕ). wakeups-in d₀ from ++ map local-wakeup y) (take-all i (cpu-at M k .«local_wakeup_list») w),
+  )
 
 -- all of them
 pub all-read : {c n : ℕ} {m : List ℕ} (k a r time : ℕ) (d d' : List ℕ)

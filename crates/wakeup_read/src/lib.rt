@@ -2,9 +2,9 @@
 // In every function m is the image of a machine of c CPUs and n contexts, and k is the CPU; d is the scratch, three words a wake-up.
 mod scratch;
 
+use run_queue::Timer;
 pub use scratch::put_wakeup;
 pub use scratch::wakeup_in;
-use run_queue::Timer;
 use wakeup_judge::Wakeup;
 ghost use mathlib.Core.Path.{_≡_};
 ghost use mathlib.Core.Bool.{Bool, true, false, not};
@@ -67,7 +67,15 @@ fn local_name(m: &[u64], c: usize, n: usize, k: usize, i: usize) -> u64
 }
 
 // A due timer: behind the len wake-ups of the scratch if it is live. How many there are then.
-fn read_timer(m: &[u64], d: &mut [u64], c: usize, n: usize, sched: u64, len: usize, t: Timer) -> usize
+fn read_timer(
+    m: &[u64],
+    d: &mut [u64],
+    c: usize,
+    n: usize,
+    sched: u64,
+    len: usize,
+    t: Timer,
+) -> usize
     requires { ⌜ Image c n (now m) ⌝ }
     requires { ⌜ (t .«context_ref» < n) × (length (now d) ≡ 384) × (len < 128) ⌝ }
     ensures { λ r. ⌜ (r ≤ len + 1) × ((M : Machine) → now (m .entry) ≡ encode M → Fits c n M → wakeups-in (now (d .exit)) r ≡ wakeups-in (now (d .entry)) len ++ live-wakeups sched (M .contexts) (t ∷ [])) ⌝ }

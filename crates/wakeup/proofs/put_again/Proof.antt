@@ -1,4 +1,4 @@
-use Rattle.wakeup.proofs.Serving.{back-timer, back-name}
+use Rattle.wakeup.proofs.Judged.{back-timer, back-name}
 use borrow.Author.Needs.{needs}
 use Rattle.wakeup.proofs.put_again.Statement.{statement}
 use Rattle.wakeup.proofs.put_again.Tie as tie

@@ -1,4 +1,4 @@
-use Rattle.wakeup.proofs.Serving.{as-dropped, as-locked, as-woken, as-entered, record-woken, record-entered}
+use Rattle.wakeup.proofs.Judged.{as-dropped, as-locked, as-woken, as-entered, record-woken, record-entered}
 use native.Mathlib.Omega.{arith}
 use borrow.Author.Needs.{needs}
 use Rattle.wakeup.proofs.serve_as.Statement.{statement}

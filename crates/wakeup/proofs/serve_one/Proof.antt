@@ -1,4 +1,4 @@
-use Rattle.wakeup.proofs.Serving.{result-fits, served-staged}
+use Rattle.wakeup.proofs.Judged.{result-fits, served-staged}
 use borrow.Author.Needs.{needs}
 use Rattle.wakeup.proofs.serve_one.Statement.{statement}
 use Rattle.wakeup.proofs.serve_one.Tie as tie

@@ -1,4 +1,4 @@
-use Rattle.wakeup_read.proofs.Reading.{due-read}
+use Rattle.wakeup_read.proofs.Items.{due-read}
 use Rattle.stages.proofs.Lent.{lent-word, timers-small}
 use Rattle.machine.proofs.Steps.{sized}
 use mathlib.Core.Path.{sym, subst}

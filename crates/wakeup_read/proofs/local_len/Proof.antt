@@ -1,4 +1,4 @@
-use Rattle.wakeup_read.proofs.Reading.{local-count, local-small}
+use Rattle.wakeup_read.proofs.Items.{local-count, local-small}
 use Rattle.machine.proofs.Steps.{sized}
 use mathlib.Core.Path.{_∙_}
 use native.Mathlib.Omega.{arith}

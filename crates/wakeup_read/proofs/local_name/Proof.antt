@@ -1,4 +1,4 @@
-use Rattle.wakeup_read.proofs.Reading.{local-small, name-read}
+use Rattle.wakeup_read.proofs.Items.{local-small, name-read}
 use Rattle.machine.proofs.Steps.{sized}
 use native.Mathlib.Omega.{arith}
 use borrow.Author.Needs.{needs}

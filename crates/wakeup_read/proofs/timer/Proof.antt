@@ -1,4 +1,4 @@
-use Rattle.wakeup_read.proofs.Reading.{timer-read}
+use Rattle.wakeup_read.proofs.Items.{timer-read}
 use Rattle.stages.proofs.Lent.{timers-small}
 use Rattle.machine.proofs.Steps.{sized}
 use native.Mathlib.Omega.{arith}
