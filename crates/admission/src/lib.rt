@@ -1,0 +1,1 @@
+// What an image that passes the check gives a decision.
