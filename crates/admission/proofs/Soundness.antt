@@ -156,13 +156,13 @@ module _ {time : ℕ} (m : List ℕ) (p : Passed time m) where
   queue-empty k e =
       by-test (ltb k (size-c m))
       (λ t.
-        let h = ltb-true k (size-c m) t
-        in let w : eqb (getD (block-at k) 0 0) 1 ≡ false = sym (ap (λ (q : Cpu). q .block .present) (cpus-are k h)) ∙ e
-        in let f : getD (block-at k) 0 0 ≤ 1 = a-block m p k h .scalar 0 (omega arith)
-        in let n : getD (block-at k) 0 0 ≢ 1 = eqb-false _ 1 w
-        in let z : getD (block-at k) 0 0 ≡ 0 = omega (arith, f, n)
-        in let q : getD (block-at k) 21 0 ≡ 0 = a-block m p k h .absent z 21 (omega arith)
-        in ap (λ (c : Cpu). c .queue) (cpus-are k h) ∙ rw q)
+      let h = ltb-true k (size-c m) t
+      in let w : eqb (getD (block-at k) 0 0) 1 ≡ false = sym (ap (λ (q : Cpu). q .block .present) (cpus-are k h)) ∙ e
+      in let f : getD (block-at k) 0 0 ≤ 1 = a-block m p k h .scalar 0 (omega arith)
+      in let n : getD (block-at k) 0 0 ≢ 1 = eqb-false _ 1 w
+      in let z : getD (block-at k) 0 0 ≡ 0 = omega (arith, f, n)
+      in let q : getD (block-at k) 21 0 ≡ 0 = a-block m p k h .absent z 21 (omega arith)
+      in ap (λ (c : Cpu). c .queue) (cpus-are k h) ∙ rw q)
       (λ t. ap (λ (c : Cpu). c .queue) (beyond k (ltb-false k (size-c m) t)))
 
   entry-found : (k : ℕ) → k < size-c m → (i : ℕ) → i < length ((cpu-at M k) .queue) → (i < getD (block-at k) 21 0) × (getD ((cpu-at M k) .queue) i no-entry ≡ entry-at (block-at k) i)
@@ -191,6 +191,7 @@ module _ {time : ℕ} (m : List ℕ) (p : Passed time m) where
     where
       none : {C : Type 0} → i < length {A = Entry} [] → C
       none z = absurd (omega arith)
+
       of-present : (cpu-at M k) .block .present ≡ true
           → (context M ((getD ((cpu-at M k) .queue) i no-entry) .«context_ref»)) .«debug_id» ≡ (getD ((cpu-at M k) .queue) i no-entry) .key .«ctxt_id»
       of-present e = id-of-entry k h i b (structure-of k e .ids)
