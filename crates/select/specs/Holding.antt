@@ -1,0 +1,26 @@
+-- What the code goes by is what the state has. Assumes nothing.
+use mathlib.Core.Path.{_≡_}
+use Prim.Native.Nat.{ℕ}
+use Rattle.decision.specs.State.{State, holder, prev-runnable}
+use Rattle.decision.specs.Choice.{prev-is-eligible, ineligible-holder}
+use Rattle.select.specs.declared.Holder.{Holder}
+use Rattle.select.specs.declared.Scanner.{Scanner}
+use Rattle.select.specs.Values.{vtime-of}
+
+pub record Holding (h : Holder) (s : State) : Type 0 where
+  pub runnable : h .runnable ≡ prev-runnable s
+  pub eligible : h .eligible ≡ prev-is-eligible s
+  pub vtime : h .vtime ≡ (holder s) .vtime
+  pub vd : h .vd ≡ (holder s) .vd
+  pub rem-slice : h .«rem_slice» ≡ (holder s) .«rem_slice»
+  pub v : h .v ≡ s .cpu .block .v
+
+-- of CPU k at a time
+pub record Scanning (k time : ℕ) (t : Scanner) (s : State) : Type 0 where
+  pub cpu-id : t .«cpu_id» ≡ k
+  pub time-is : t .time ≡ time
+  pub idle : t .«idle_ctxt» ≡ s .cpu .block .«idle_ctxt»
+  pub sched : t .«sched_ctxt» ≡ s .cpu .block .«sched_ctxt»
+  pub current : t .«current_ctxt» ≡ s .cpu .block .«current_ctxt»
+  pub v : t .v ≡ s .cpu .block .v
+  pub ineligible : vtime-of (t .«ineligible_holder») ≡ ineligible-holder s
