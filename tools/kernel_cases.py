@@ -1,12 +1,12 @@
 #!/usr/bin/env python3
 """Calls of the kernel's own run as one antt file.
 
-usage: kernel_cases.py LIST.. > crates/decision_cases/specs/KernelCases.antt
+usage: kernel_cases.py [--every] LIST.. > crates/decision_cases/specs/KernelCases.antt
 
 A list is text, a line for each call, `op cpu time ctx | idx:value .. | refusal result interrupt | idx:newvalue ..`,
-or words of 64 bits (name ending in .bin), as harness/recorded describes them. Calls of operations 1 to 3 are taken
-that were accepted or found no room, from a .bin list only those on small machines that found no room or that differ
-in kind from what was taken before.
+or words of 64 bits (name ending in .bin), as harness/recorded describes them. Taken are calls of operations 1 to 3 that
+were accepted or found no room: of a text list all, of a .bin list those without room and some small machines, each of
+another kind than those before. With --every all of them are taken: more than one theorem can compute.
 """
 import struct
 import sys

@@ -10,14 +10,14 @@ use borrow.Author.Tests.{eqb-true, eqb-false}
 use Rattle.ticks.specs.Ticks.{ticks}
 use Rattle.machine.specs.Machine.{Machine, context-at, cpu-at}
 use Rattle.decision.specs.State.{State, at, state-of, is-idle, prev-runnable}
-use Rattle.decision.specs.Charging.{was-idle}
+use Rattle.decision.specs.Charging.{was-idle, before-choice}
 use Rattle.decision.specs.Choice.{Choice, choice}
 use Rattle.decision.specs.Steal.{Stealing, steal}
 use Rattle.decision.specs.SwitchTo.{next-context}
-use Rattle.decision.specs.Decision.{locks, scanned, choose-and-steal, settled, picked-as, schedule, after-schedule}
+use Rattle.decision.specs.Decision.{locks, scanned, choose-and-steal, settled, selected, select-next-context, picked-as, schedule, after-schedule}
 use Rattle.decision.specs.Tidy.{Sound, Tidy, Present}
-use Rattle.decision.specs.Accepted.{ServesOwn}
 use Rattle.decision.specs.Demand3.{judged}
+use Rattle.decision.proofs.Turn.{Turn}
 use Rattle.decision.proofs.Cases.{pick, and-both, not-is-true}
 use Rattle.decision.proofs.Before.{Roles, roles, queues, Free}
 use Rattle.decision.proofs.Woken.{Waking}
@@ -36,12 +36,30 @@ use Rattle.decision.proofs.TidyAfter.{Ending}
 abbrev pub scheduled-machine : (k time : ℕ) → Machine → Machine
 scheduled-machine k time M = (after-schedule k time (schedule k time (M .cpus) (state-of k M))) .machine
 
-module _ (k time : ℕ) (M : Machine) (S : Sound M) (T : Tidy M) (P : Present M k) (own : ServesOwn k time M) where
+module _ (turn : Turn) where
+  abbrev k : ℕ
+  k = turn .k
+
+  abbrev time : ℕ
+  time = turn .time
+
+  abbrev M : Machine
+  M = turn .M
+
+  abbrev S : Sound M
+  S = turn .sound
+
+  abbrev T : Tidy M
+  T = turn .tidy
+
+  abbrev P : Present M k
+  P = turn .present
+
   abbrev pub J : State
   J = judged k time M
 
   pub waking : Waking k time M S T (judged k time M)
-  waking = before-waking k time M S T P own
+  waking = before-waking k time M S T P (turn .own)
 
   abbrev pub chose : Choice
   chose = choice J (scanned k time J)
@@ -141,7 +159,7 @@ module _ (k time : ℕ) (M : Machine) (S : Sound M) (T : Tidy M) (P : Present M 
   at-home false none q j p m = T .one-idle k j P p m
 
   pub ending : Ending k time M S T P in-range c s (l .cpus) (scheduled-machine k time M)
-  unfolding schedule choose-and-steal
+  unfolding schedule select-next-context selected choose-and-steal before-choice
   ending =
       record {
         inv = is-settled .inv;

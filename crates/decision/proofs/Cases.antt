@@ -1,4 +1,4 @@
--- Going by a test, with its equation. Assumes scan-start.
+-- Going by a test, with its equation. Assumes nothing.
 use mathlib.Core.Path.{_≡_, refl}
 use mathlib.Core.Bool.{Bool, true, false, not, _&&_, _||_}
 use mathlib.Core.Logic.{_⊎_, inl, inr}

@@ -13,7 +13,7 @@ use Rattle.weights.specs.Weights.{weight}
 use Rattle.charge.specs.Charge.{charged, renewed, is-yield, stopped}
 use Rattle.machine.specs.Machine.{Machine, context-at}
 use Rattle.decision.specs.State.{State, put-context, on-cpu, state-of, holder, is-idle}
-use Rattle.decision.specs.Charging.{times, inactive, holder-stopped, charge-holder, before-choice}
+use Rattle.decision.specs.Charging.{times, inactive, holder-stopped, charge-holder, before-selection, before-choice}
 use Rattle.decision.specs.Tidy.{Sound, Tidy, Present}
 use Rattle.decision.specs.Accepted.{ServesOwn}
 use Rattle.decision.proofs.Cases.{pick}
@@ -92,5 +92,5 @@ module _ (k time : ℕ) (M : Machine) (S : Sound M) (T : Tidy M) (P : Present M 
   times-waking s n = record { kept = n .kept; roles-kept = n .roles-kept; v = n .v; has = n .has }
 
   pub before-waking : ServesOwn k time M → Waking k time M S T (before-choice time (state-of k M))
-  unfolding before-choice
+  unfolding before-choice before-selection
   before-waking own = charge-waking _ _ (times-waking _ (wakeups-waking k time M S T own))

@@ -12,7 +12,7 @@ use Rattle.runnable.specs.Runnable.{update-runnable}
 use Rattle.percpu.specs.Cpu.{Cpu}
 use Rattle.machine.specs.Machine.{Machine, cpu-at}
 use Rattle.decision.specs.State.{State, at, state-of}
-use Rattle.decision.specs.Charging.{before-choice}
+use Rattle.decision.specs.Charging.{before-selection}
 use Rattle.decision.specs.SwitchTo.{direct-switch-by, try-direct-switch-back}
 use Rattle.decision.specs.Decision.{
   Outcome,
@@ -31,7 +31,7 @@ use Rattle.decision.specs.Accepted.{Call, by-tick, by-switch, by-direct-
 use Rattle.decision.specs.Demand3.{Demand3}
 use Rattle.decision.proofs.Cases.{never, pick, and-both, not-is-true}
 use Rattle.decision.proofs.Assembled.{scheduled-machine}
-use Rattle.decision.proofs.Ruled.{demanded}
+use Rattle.decision.proofs.Decided.{demanded}
 
 module _ (k time : ℕ) where
   no-direct-switch : (x : ℕ) (s : State) (u : UpdateResult) → can-switch u ≡ false → direct-switch-by k time x s u ≡ none
@@ -56,7 +56,7 @@ module _ (k time : ℕ) where
 
   -- the count of ticks makes no difference to `schedule`
   ticked-same : (cpus : List Cpu) (s : State) → schedule k time cpus (ticked k time s) ≡ schedule k time cpus s
-  unfolding schedule before-choice
+  unfolding schedule before-selection
   ticked-same cpus s = refl
 
   tick-decides : (M : Machine) → decides k time M by-tick ≡ true → (tick k time M) .machine ≡ scheduled-machine k time M
@@ -91,4 +91,4 @@ module _ (k time : ℕ) where
 pub demand-3 : (call : Call) (k time : ℕ) (M : Machine) → Sound M → Tidy M → Accepted k time M call → ServesOwn k time M
     → Demand3 k time M ((outcome call k time M) .machine)
 demand-3 call k time M S T a own =
-    subst (λ M′. Demand3 k time M M′) (sym (call-decides k time call M (a .decision))) (demanded k time M S T (a .present) own)
+    subst (λ M′. Demand3 k time M M′) (sym (call-decides k time call M (a .decision))) (demanded (record { k = k; time = time; M = M; sound = S; tidy = T; present = a .present; own = own }))

@@ -110,7 +110,7 @@ module _ (k time : ℕ) (M : Machine) (S : Sound M) (T : Tidy M) (J : State) (n 
   pub record AfterChoice (w : Option ℕ) (t : State) : Type 0 where
     pub inv : Inv (Free M) (M .contexts) (t .contexts) (on k (t .cpu .queue) (queues M))
     pub winner : (x : ℕ) → w ≡ some x → Winner (Free M) (M .contexts) k (queues M) x (t .contexts) (on k (t .cpu .queue) (queues M))
-    pub kept : (y : ℕ) → Has y (queues M) → Has y (on k (t .cpu .queue) (queues M)) ⊎ (Lost (at t y) ⊎ (w ≡ some y))
+    pub kept : (y : ℕ) → Has y (on k (J .cpu .queue) (queues M)) → Has y (on k (t .cpu .queue) (queues M)) ⊎ (Lost (at t y) ⊎ (w ≡ some y))
     pub frame : (y : ℕ) → Without y (on k (J .cpu .queue) (queues M)) → (at t y) .status ≡ (at J y) .status
     pub roles-kept : roles (t .cpu) ≡ roles (cpu-at M k)
     pub v : t .cpu .block .v ≡ choice-of .v
@@ -129,7 +129,7 @@ module _ (k time : ℕ) (M : Machine) (S : Sound M) (T : Tidy M) (J : State) (n 
       record {
         inv = kept-scan .inv;
         winner = λ x z. absurd (some-none z refl);
-        kept = λ y h. stays y (n .has y h);
+        kept = stays;
         frame = λ y o. ap (λ (c : Context). c .status) (kept-scan .frame y (λ e i. o e k (rw (eq-eqb k k refl) i)));
         roles-kept = n .roles-kept;
         v = refl;

@@ -1,4 +1,4 @@
--- `first` and `least` find what the rule says. Assumes scan-start.
+-- `first` and `least` find what the rule says. Assumes nothing.
 use mathlib.Core.Path.{_≡_, refl, sym, ap, _∙_}
 use mathlib.Core.Bool.{Bool, true, false, _&&_}
 use mathlib.Core.List.{List, [], _∷_}

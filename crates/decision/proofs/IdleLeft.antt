@@ -9,24 +9,37 @@ use Rattle.run_queue.specs.Order.{before, entry-before}
 use Rattle.machine.specs.Machine.{Machine, cpu-at}
 use Rattle.decision.specs.State.{State}
 use Rattle.decision.specs.Steal.{Stealing, first-wins}
-use Rattle.decision.specs.Tidy.{Sound, Tidy, Present}
-use Rattle.decision.specs.Accepted.{ServesOwn}
+use Rattle.decision.specs.Tidy.{Present}
 use Rattle.decision.specs.Demand3.{NobodyWaits, in-charge, Stole, FirstStolen, StoleNothing}
+use Rattle.decision.proofs.Turn.{Turn}
 use Rattle.decision.proofs.Lists.{In, all-at}
 use Rattle.decision.proofs.Robbed.{StealResult, nothing, robbed}
 use Rattle.decision.proofs.Settled.{successor}
 use Rattle.decision.proofs.Chosen.{sorted}
 use Rattle.decision.proofs.Firsts.{some-none}
 use Rattle.decision.proofs.Assembled.{scheduled-machine, J, chose, C, runs, locked, l, stole, kept, awake, c}
-use Rattle.decision.proofs.Outcomes.{in-charge-is, nothing-stolen, of-the-lot}
+use Rattle.decision.proofs.After.{in-charge-is}
+use Rattle.decision.proofs.Outcomes.{nothing-stolen, of-the-lot}
 use Rattle.decision.proofs.Contested.{none-waits, waits-none}
 
-module _ (k time : ℕ) (M : Machine) (S : Sound M) (T : Tidy M) (P : Present M k) (own : ServesOwn k time M) where
+module _ (turn : Turn) where
+  abbrev k : ℕ
+  k = turn .k
+
+  abbrev time : ℕ
+  time = turn .time
+
+  abbrev M : Machine
+  M = turn .M
+
+  abbrev P : Present M k
+  P = turn .present
+
   abbrev pub M′ : Machine
   M′ = scheduled-machine k time M
 
   abbrev pub here : State
-  here = J k time M S T P own
+  here = J turn
 
   abbrev pub idle : ℕ
   idle = (cpu-at M k) .block .«idle_ctxt»
@@ -36,17 +49,17 @@ module _ (k time : ℕ) (M : Machine) (S : Sound M) (T : Tidy M) (P : Present M 
 
   -- with nobody else the first stolen wins, and idle is in charge if there is none
   pub stolen-first : NobodyWaits k time M → (x : ℕ) → Stole k time M M′ x → (y : ℕ) × FirstStolen k time M M′ y × (in-charge k time M M′ ≡ y)
-  stolen-first a x y = go (stole k time M S T P own)
+  stolen-first a x y = go (stole turn)
     where
-      none-chosen : (chose k time M S T P own) .winner ≡ none
-      none-chosen = (waits-none k time M S T P own a) .0
+      none-chosen : (chose turn) .winner ≡ none
+      none-chosen = (waits-none turn a) .0
 
-      fw : first-wins (runs k time M S T P own) ((chose k time M S T P own) .winner) ≡ true
-      fw = rw (none-chosen, (waits-none k time M S T P own a) .1)
+      fw : first-wins (runs turn) ((chose turn) .winner) ≡ true
+      fw = rw (none-chosen, (waits-none turn a) .1)
 
-      go : StealResult k M (runs k time M S T P own) (locked k time M S T P own) ((chose k time M S T P own) .winner) (C k time M S T P own) (l k time M S T P own)
+      go : StealResult k M (runs turn) (locked turn) ((chose turn) .winner) (C turn) (l turn)
           → (z : ℕ) × FirstStolen k time M M′ z × (in-charge k time M M′ ≡ z)
-      go (nothing p) = absurd (nothing-stolen k time M S T P own x y p)
+      go (nothing p) = absurd (nothing-stolen turn x y p)
       go (robbed d t e es b) = (
         e .«context_ref»,
         record {
@@ -58,13 +71,13 @@ module _ (k time : ℕ) (M : Machine) (S : Sound M) (T : Tidy M) (P : Present M 
             of = refl;
             is-here = inr is-in-charge;
           };
-          first = λ z s. let (i, q) = of-the-lot k time M S T P own z s t e es b (b .first fw) in order z s q i;
+          first = λ z s. let (i, q) = of-the-lot turn z s t e es b (b .first fw) in order z s q i;
         },
         is-in-charge,
       )
         where
           is-in-charge : in-charge k time M M′ ≡ e .«context_ref»
-          is-in-charge = in-charge-is k time M S T P own ∙ ap (successor k M (runs k time M S T P own)) (b .first fw)
+          is-in-charge = in-charge-is turn ∙ ap (successor k M (runs turn)) (b .first fw)
 
           order : (z : ℕ) (s : Stole k time M M′ z) → s .cpu ≡ t → (s .entry ≡ e) ⊎ In (s .entry) es
               → (z ≡ e .«context_ref») ⊎ ((s .cpu ≡ t) × (before (e .key) (s .entry .key) ≡ true))
@@ -72,14 +85,14 @@ module _ (k time : ℕ) (M : Machine) (S : Sound M) (T : Tidy M) (P : Present M 
           order z s q (inr i) = inr (q, all-at (λ g. entry-before e g ≡ true) es (b .sorted .0) (s .entry) i)
 
   pub idle-left : NobodyWaits k time M → StoleNothing k time M M′ → in-charge k time M M′ ≡ idle
-  idle-left a nothing-taken = go (stole k time M S T P own)
+  idle-left a nothing-taken = go (stole turn)
     where
-      go : StealResult k M (runs k time M S T P own) (locked k time M S T P own) ((chose k time M S T P own) .winner) (C k time M S T P own) (l k time M S T P own)
+      go : StealResult k M (runs turn) (locked turn) ((chose turn) .winner) (C turn) (l turn)
           → in-charge k time M M′ ≡ idle
       go (nothing p) =
-          in-charge-is k time M S T P own
-          ∙ ap (successor k M (runs k time M S T P own)) (ap (λ (q : Stealing). q .winner) p ∙ (waits-none k time M S T P own a) .0)
-          ∙ rw ((waits-none k time M S T P own a) .1)
+          in-charge-is turn
+          ∙ ap (successor k M (runs turn)) (ap (λ (q : Stealing). q .winner) p ∙ (waits-none turn a) .0)
+          ∙ rw ((waits-none turn a) .1)
       go (robbed d t e es b) =
           absurd (nothing-taken (e .«context_ref»)
           (record {
@@ -88,31 +101,31 @@ module _ (k time : ℕ) (M : Machine) (S : Sound M) (T : Tidy M) (P : Present M 
             was-queued = record { present = b .present; is-in = b .from e (inl refl) };
             elsewhere = b .other;
             of = refl;
-            is-here = inr (in-charge-is k time M S T P own ∙ ap (successor k M (runs k time M S T P own)) (b .first (rw ((waits-none k time M S T P own a) .0, (waits-none k time M S T P own a) .1))));
+            is-here = inr (in-charge-is turn ∙ ap (successor k M (runs turn)) (b .first (rw ((waits-none turn a) .0, (waits-none turn a) .1))));
           }))
 
   -- idle is in charge only so
   pub idle-only : in-charge k time M M′ ≡ idle → NobodyWaits k time M × StoleNothing k time M M′
-  idle-only m = go (runs k time M S T P own) ((l k time M S T P own) .winner) refl refl
+  idle-only m = go (runs turn) ((l turn) .winner) refl refl
     where
-      is-idle : c k time M S T P own ≡ idle
-      is-idle = sym (in-charge-is k time M S T P own) ∙ m
+      is-idle : c turn ≡ idle
+      is-idle = sym (in-charge-is turn) ∙ m
 
-      unchosen : (l k time M S T P own) .winner ≡ none → (w : Option ℕ) → (chose k time M S T P own) .winner ≡ w → (chose k time M S T P own) .winner ≡ none
+      unchosen : (l turn) .winner ≡ none → (w : Option ℕ) → (chose turn) .winner ≡ w → (chose turn) .winner ≡ none
       unchosen z none p = p
-      unchosen z (some x) p = absurd (some-none (kept k time M S T P own .keeps x p) z)
+      unchosen z (some x) p = absurd (some-none (kept turn .keeps x p) z)
 
-      go : (b : Bool) (w : Option ℕ) → runs k time M S T P own ≡ b → (l k time M S T P own) .winner ≡ w → NobodyWaits k time M × StoleNothing k time M M′
+      go : (b : Bool) (w : Option ℕ) → runs turn ≡ b → (l turn) .winner ≡ w → NobodyWaits k time M × StoleNothing k time M M′
       go b (some x) p q =
-          absurd ((kept k time M S T P own .winner x q) .free .not-idle k P (sym (ap (successor k M (runs k time M S T P own)) q) ∙ is-idle))
+          absurd ((kept turn .winner x q) .free .not-idle k P (sym (ap (successor k M (runs turn)) q) ∙ is-idle))
       go true none p q =
-          absurd (awake k time M S T P own p
-          (sym (ap (λ b. successor k M b ((l k time M S T P own) .winner)) p ∙ ap (successor k M true) q) ∙ is-idle))
+          absurd (awake turn p
+          (sym (ap (λ b. successor k M b ((l turn) .winner)) p ∙ ap (successor k M true) q) ∙ is-idle))
       go false none p q =
-          let z = unchosen q ((chose k time M S T P own) .winner) refl in
-          (none-waits k time M S T P own z p, λ x y. took z x y (stole k time M S T P own))
+          let z = unchosen q ((chose turn) .winner) refl in
+          (none-waits turn z p, λ x y. took z x y (stole turn))
         where
-          took : (chose k time M S T P own) .winner ≡ none → (x : ℕ) → Stole k time M M′ x
-              → StealResult k M (runs k time M S T P own) (locked k time M S T P own) ((chose k time M S T P own) .winner) (C k time M S T P own) (l k time M S T P own) → ⊥
-          took z x y (nothing t) = nothing-stolen k time M S T P own x y t
+          took : (chose turn) .winner ≡ none → (x : ℕ) → Stole k time M M′ x
+              → StealResult k M (runs turn) (locked turn) ((chose turn) .winner) (C turn) (l turn) → ⊥
+          took z x y (nothing t) = nothing-stolen turn x y t
           took z x y (robbed d t e es b) = some-none (b .first (rw (z, p))) q

@@ -1,4 +1,4 @@
--- Keys and timers are ordered. Assumes scan-start.
+-- Keys and timers are ordered. Assumes nothing.
 use mathlib.Core.Path.{_≡_, sym}
 use mathlib.Core.Bool.{true, false, _&&_, _||_}
 use mathlib.Core.Logic.{_⊎_, inl, inr}

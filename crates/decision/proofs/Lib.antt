@@ -27,11 +27,15 @@ pub mod Ended
 pub mod Settled
 pub mod TidyAfter
 pub mod ReadyIs
+pub mod Turn
 pub mod Assembled
+pub mod After
 pub mod Outcomes
 pub mod NobodyLost
 pub mod Contested
 pub mod IdleLeft
 pub mod Ruled
+pub mod Decided
 pub mod Demand
 pub mod NoRoom
+pub mod EarlyExit

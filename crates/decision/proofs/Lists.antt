@@ -1,4 +1,4 @@
--- All and In, too-many lists. Assumes scan-start.
+-- All and In, too-many lists. Assumes nothing.
 use mathlib.Core.Path.{_≡_, refl, subst, sym, ap}
 use mathlib.Core.Bool.{Bool, true}
 use mathlib.Core.List.{List, [], _∷_, _++_, map}

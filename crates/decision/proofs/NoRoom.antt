@@ -14,12 +14,12 @@ use Rattle.percpu.specs.Cpu.{Cpu}
 use Rattle.machine.specs.Machine.{no-cpu}
 use Rattle.decision.specs.State.{State, at, on-cpu, put-context, remove-key, insert-entry, queue-key, with-new-key, is-some, holder, is-idle}
 use Rattle.decision.specs.Wakeups.{Wakeup, entry-of, put-back, enter, wake-as, serve-wakeup, serve-wakeups, wakeups, drained}
-use Rattle.decision.specs.Charging.{count-switch, times, holder-stopped, charge-holder, before-choice}
+use Rattle.decision.specs.Charging.{count-switch, times, holder-stopped, charge-holder, before-selection, before-choice}
 use Rattle.decision.specs.Scan.{Scan}
 use Rattle.decision.specs.Choice.{Choice, cleaned-up, taken-out, chosen}
 use Rattle.decision.specs.Steal.{Stealing, Moving, should-steal, can-steal-from, first-wins, move-entry, steal-entries, steal-from, steal, targets}
 use Rattle.decision.specs.SwitchTo.{advance, requeue, hand-over, switch-to}
-use Rattle.decision.specs.Decision.{choose-and-steal, settled, picked-as, schedule, switch-as, after-schedule}
+use Rattle.decision.specs.Decision.{choose-and-steal, settled, selected, select-next-context, picked-as, schedule, switch-as, after-schedule}
 use Rattle.decision.proofs.Cases.{pick}
 use Rattle.decision.proofs.Lists.{fold-keeps}
 use Rattle.decision.proofs.WakeupCases.{wakeup-cases}
@@ -47,7 +47,7 @@ charge-full n s h =
     (λ t. pick Full (is-runnable ((holder s) .status)) (λ r. h) (λ r. pick Full ((holder s) .«has_wake») (λ w. rw h) (λ w. h)))
 
 pub before-choice-full : (time : ℕ) (s : State) → Full s → Full (before-choice time s)
-unfolding before-choice
+unfolding before-choice before-selection
 before-choice-full time s h = charge-full _ (on-cpu (times time) (serve-wakeups time (on-cpu count-switch s))) (serve-wakeups-full time (on-cpu count-switch s) h)
 
 taken-out-full : (o : Option ℕ) (s : State) → Full s → Full (taken-out o s)
@@ -121,7 +121,7 @@ picked-full k time was cpus (some x) s h =
     pick Full (eqb ((hand-over time was x s) .cpu .block .«current_ctxt») x) (λ t. h) (λ t. switch-to-full k time x (hand-over time was x s) h)
 
 pub schedule-full : (k time : ℕ) (cpus : List Cpu) (s : State) → Full s → (after-schedule k time (schedule k time cpus s)) .no-room ≡ true
-unfolding schedule choose-and-steal
+unfolding schedule select-next-context selected choose-and-steal before-choice
 schedule-full k time cpus s h =
     picked-full k time _ _ _ _
     (settled-full k time _ _ _ (steal-full k _ _ cpus _ _ (chosen-full _ _ (before-choice time s) (before-choice-full time s h))))

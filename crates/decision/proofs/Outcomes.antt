@@ -13,40 +13,42 @@ use Rattle.machine.specs.Machine.{Machine, cpu-at}
 use Rattle.decision.specs.State.{is-some}
 use Rattle.decision.specs.Steal.{Stealing}
 use Rattle.decision.specs.Tidy.{Sound, Tidy, Present}
-use Rattle.decision.specs.Accepted.{ServesOwn}
 use Rattle.decision.specs.Demand3.{in-charge, own-advance, Stole, was-queued}
+use Rattle.decision.proofs.Turn.{Turn}
 use Rattle.decision.proofs.Cases.{by-test}
 use Rattle.decision.proofs.Lists.{In}
 use Rattle.decision.proofs.Queues.{on}
 use Rattle.decision.proofs.Before.{queues}
 use Rattle.decision.proofs.Robbed.{start, Robbed}
 use Rattle.decision.proofs.Settled.{successor, gain}
-use Rattle.decision.proofs.Ended.{Standing, standing}
-use Rattle.decision.proofs.TidyAfter.{Ending, here-stands, sched-here, tidy-after}
-use Rattle.decision.proofs.Assembled.{
-  scheduled-machine,
-  chose,
-  C,
-  chosen-after,
-  runs,
-  locked,
-  l,
-  in-range,
-  kept,
-  awake,
-  n,
-  s,
-  is-settled,
-  c,
-  ending,
-}
+use Rattle.decision.proofs.Ended.{Standing}
+use Rattle.decision.proofs.Assembled.{scheduled-machine, chose, C, chosen-after, runs, locked, l, kept, awake, n, is-settled}
 use Rattle.decision.proofs.Firsts.{some-some}
+use Rattle.decision.proofs.After.{in-charge-is, stands}
 
 advance-is : (won : Bool) (total m : ℕ) → if not won || eqb total 0 then 0 else m / total ≡ if won && not (eqb total 0) then m / total else 0
 advance-is true total m = by-test (eqb total 0) (λ t. rw t) (λ t. rw t)
 advance-is false total m = refl
 
-module _ (k time : ℕ) (M : Machine) (S : Sound M) (T : Tidy M) (P : Present M k) (own : ServesOwn k time M) where
+module _ (turn : Turn) where
+  abbrev k : ℕ
+  k = turn .k
+
+  abbrev time : ℕ
+  time = turn .time
+
+  abbrev M : Machine
+  M = turn .M
+
+  abbrev S : Sound M
+  S = turn .sound
+
+  abbrev T : Tidy M
+  T = turn .tidy
+
+  abbrev P : Present M k
+  P = turn .present
+
   abbrev pub M′ : Machine
   M′ = scheduled-machine k time M
 
@@ -54,50 +56,37 @@ module _ (k time : ℕ) (M : Machine) (S : Sound M) (T : Tidy M) (P : Present M 
   h = (cpu-at M k) .block .«sched_ctxt»
 
   abbrev steal-of : Stealing
-  steal-of = l k time M S T P own
+  steal-of = l turn
 
-  E : Ending k time M S T P (in-range k time M S T P own) (c k time M S T P own) (s k time M S T P own) (steal-of .cpus) M′
-  E = ending k time M S T P own
-
-  pub tidied : Tidy M′
-  tidied = tidy-after k time M S T P (in-range k time M S T P own) (c k time M S T P own) (s k time M S T P own) (steal-of .cpus) M′ E
-
-  -- the in-charge word
-  pub in-charge-is : in-charge k time M M′ ≡ c k time M S T P own
-  in-charge-is = sched-here k time M S T P (in-range k time M S T P own) (c k time M S T P own) (s k time M S T P own) (steal-of .cpus) M′ E
-
-  stands : standing (cpu-at M′ k) ≡ standing ((s k time M S T P own) .cpu)
-  stands = here-stands k time M S T P (in-range k time M S T P own) (c k time M S T P own) (s k time M S T P own) (steal-of .cpus) M′ E
-
-  idle-test : (b : Bool) (w : Option ℕ) → runs k time M S T P own ≡ b → steal-of .winner ≡ w
+  idle-test : (b : Bool) (w : Option ℕ) → runs turn ≡ b → steal-of .winner ≡ w
       → eqb (successor k M b w) ((cpu-at M k) .block .«idle_ctxt») ≡ not (is-some w || b)
-  idle-test b (some x) p q = ne-eqb x _ ((kept k time M S T P own .winner x q) .free .not-idle k P)
-  idle-test true none p q = ne-eqb _ _ (awake k time M S T P own p)
+  idle-test b (some x) p q = ne-eqb x _ ((kept turn .winner x q) .free .not-idle k P)
+  idle-test true none p q = ne-eqb _ _ (awake turn p)
   idle-test false none p q = eq-eqb ((cpu-at M k) .block .«idle_ctxt») _ refl
 
   -- the advance of V is the turn's own
-  pub v-after : (cpu-at M′ k) .block .v ≡ (chose k time M S T P own) .v + own-advance k time M M′
+  pub v-after : (cpu-at M′ k) .block .v ≡ (chose turn) .v + own-advance k time M M′
   v-after =
-      ap (λ (z : Standing). z .v) stands ∙ is-settled k time M S T P own .v
-      ∙ ap (λ y. y + gain k M (runs k time M S T P own) (steal-of .winner) (n k time M S T P own) (steal-of .state .cpu .block .«total_weight»)) (kept k time M S T P own .v ∙ chosen-after k time M S T P own .v)
-      ∙ ap (λ y. (chose k time M S T P own) .v + y) (sym is-gain)
+      ap (λ (z : Standing). z .v) (stands turn) ∙ is-settled turn .v
+      ∙ ap (λ y. y + gain k M (runs turn) (steal-of .winner) (n turn) (steal-of .state .cpu .block .«total_weight»)) (kept turn .v ∙ chosen-after turn .v)
+      ∙ ap (λ y. (chose turn) .v + y) (sym is-gain)
     where
       total-is : (cpu-at M′ k) .block .«total_weight» ≡ steal-of .state .cpu .block .«total_weight»
-      total-is = ap (λ (z : Standing). z .total-weight) stands ∙ is-settled k time M S T P own .total
+      total-is = ap (λ (z : Standing). z .total-weight) (stands turn) ∙ is-settled turn .total
 
-      test-is : eqb (in-charge k time M M′) ((cpu-at M k) .block .«idle_ctxt») ≡ not (is-some (steal-of .winner) || runs k time M S T P own)
-      test-is = ap (λ y. eqb y ((cpu-at M k) .block .«idle_ctxt»)) in-charge-is ∙ idle-test (runs k time M S T P own) (steal-of .winner) refl refl
+      test-is : eqb (in-charge k time M M′) ((cpu-at M k) .block .«idle_ctxt») ≡ not (is-some (steal-of .winner) || runs turn)
+      test-is = ap (λ y. eqb y ((cpu-at M k) .block .«idle_ctxt»)) (in-charge-is turn) ∙ idle-test (runs turn) (steal-of .winner) refl refl
 
-      is-gain : own-advance k time M M′ ≡ gain k M (runs k time M S T P own) (steal-of .winner) (n k time M S T P own) (steal-of .state .cpu .block .«total_weight»)
+      is-gain : own-advance k time M M′ ≡ gain k M (runs turn) (steal-of .winner) (n turn) (steal-of .state .cpu .block .«total_weight»)
       is-gain =
-          ap (λ t. if eqb (in-charge k time M M′) ((cpu-at M k) .block .«idle_ctxt») || eqb t 0 then 0 else n k time M S T P own / t) total-is
-          ∙ ap (λ b. if b || eqb (steal-of .state .cpu .block .«total_weight») 0 then 0 else n k time M S T P own / steal-of .state .cpu .block .«total_weight») test-is
-          ∙ advance-is (is-some (steal-of .winner) || runs k time M S T P own) (steal-of .state .cpu .block .«total_weight») (n k time M S T P own)
+          ap (λ t. if eqb (in-charge k time M M′) ((cpu-at M k) .block .«idle_ctxt») || eqb t 0 then 0 else n turn / t) total-is
+          ∙ ap (λ b. if b || eqb (steal-of .state .cpu .block .«total_weight») 0 then 0 else n turn / steal-of .state .cpu .block .«total_weight») test-is
+          ∙ advance-is (is-some (steal-of .winner) || runs turn) (steal-of .state .cpu .block .«total_weight») (n turn)
 
   -- what a stolen context's entry was
   module _ (x : ℕ) (y : Stole k time M M′ x) where
     -- it stood where it was until the stealing
-    there : In (y .entry) (on k ((C k time M S T P own) .cpu .queue) (queues M) (y .cpu))
+    there : In (y .entry) (on k ((C turn) .cpu .queue) (queues M) (y .cpu))
     there = rw (ne-eqb (y .cpu) k (y .elsewhere)) (y .was-queued .is-in)
 
     not-holder : x ≢ (cpu-at M k) .block .«sched_ctxt»
@@ -107,18 +96,18 @@ module _ (k time : ℕ) (M : Machine) (S : Sound M) (T : Tidy M) (P : Present M 
     not-idle m = T .idle-not-queued (y .entry) (y .cpu) k (y .was-queued) P (y .of ∙ m)
 
     -- it was not queued here
-    not-here : (d : Entry) → In d ((C k time M S T P own) .cpu .queue) → d .«context_ref» ≢ x
+    not-here : (d : Entry) → In d ((C turn) .cpu .queue) → d .«context_ref» ≢ x
     not-here d i m =
         y .elsewhere
-        (sym ((chosen-after k time M S T P own .inv .one d (y .entry) k (y .cpu) (rw (eq-eqb k k refl) i) there (m ∙ sym (y .of))) .1))
+        (sym ((chosen-after turn .inv .one d (y .entry) k (y .cpu) (rw (eq-eqb k k refl) i) there (m ∙ sym (y .of))) .1))
 
     -- and did not win before the stealing
-    not-won : chose k time M S T P own .winner ≢ some x
-    not-won z = (chosen-after k time M S T P own .winner x z) .out (y .entry) (y .cpu) there (y .of)
+    not-won : chose turn .winner ≢ some x
+    not-won z = (chosen-after turn .winner x z) .out (y .entry) (y .cpu) there (y .of)
 
     -- an entry here at the end was there after the stealing
     here-since : (d : Entry) → In d ((cpu-at M′ k) .queue) → d .«context_ref» ≡ x → In d (steal-of .state .cpu .queue)
-    here-since d i m = go (is-settled k time M S T P own .here d (subst (λ q. In d q) (ap (λ (z : Standing). z .queue) stands) i))
+    here-since d i m = go (is-settled turn .here d (subst (λ q. In d q) (ap (λ (z : Standing). z .queue) (stands turn)) i))
       where
         go : In d (steal-of .state .cpu .queue) ⊎ (d .«context_ref» ≡ (cpu-at M k) .block .«sched_ctxt») → In d (steal-of .state .cpu .queue)
         go (inl j) = j
@@ -131,16 +120,16 @@ module _ (k time : ℕ) (M : Machine) (S : Sound M) (T : Tidy M) (P : Present M 
     won-since false none q m = absurd (not-idle (sym m))
 
     -- an unbroken state stole nothing
-    pub nothing-stolen : steal-of ≡ start k M (runs k time M S T P own) (locked k time M S T P own) (chose k time M S T P own .winner) (C k time M S T P own) → ⊥
+    pub nothing-stolen : steal-of ≡ start k M (runs turn) (locked turn) (chose turn .winner) (C turn) → ⊥
     nothing-stolen p = go (y .is-here)
       where
         go : ((e : Entry) × In e ((cpu-at M′ k) .queue) × (e .«context_ref» ≡ x)) ⊎ (in-charge k time M M′ ≡ x) → ⊥
         go (inl (d, i, m)) = not-here d (subst (λ (q : Stealing). In d (q .state .cpu .queue)) p (here-since d i m)) m
-        go (inr m) = not-won (sym (ap (λ (q : Stealing). q .winner) p) ∙ won-since (runs k time M S T P own) (steal-of .winner) refl (sym in-charge-is ∙ m))
+        go (inr m) = not-won (sym (ap (λ (q : Stealing). q .winner) p) ∙ won-since (runs turn) (steal-of .winner) refl (sym (in-charge-is turn) ∙ m))
 
     -- it is one of the lot
     pub of-the-lot : (t : ℕ) (e : Entry) (es : List Entry)
-        → Robbed k M (runs k time M S T P own) (locked k time M S T P own) (chose k time M S T P own .winner) (C k time M S T P own) steal-of t e es
+        → Robbed k M (runs turn) (locked turn) (chose turn .winner) (C turn) steal-of t e es
         → steal-of .winner ≡ some (e .«context_ref») → In (y .entry) (e ∷ es) × (y .cpu ≡ t)
     of-the-lot t e es b w = go (y .is-here)
       where
@@ -152,7 +141,7 @@ module _ (k time : ℕ) (M : Machine) (S : Sound M) (T : Tidy M) (P : Present M 
         go : ((d : Entry) × In d ((cpu-at M′ k) .queue) × (d .«context_ref» ≡ x)) ⊎ (in-charge k time M M′ ≡ x) → In (y .entry) (e ∷ es) × (y .cpu ≡ t)
         go (inl (d, i, m)) = or (b .here d (here-since d i m))
           where
-            or : In d ((C k time M S T P own) .cpu .queue) ⊎ ((g : Entry) × In g (e ∷ es) × (g .«context_ref» ≡ d .«context_ref»)) → In (y .entry) (e ∷ es) × (y .cpu ≡ t)
+            or : In d ((C turn) .cpu .queue) ⊎ ((g : Entry) × In g (e ∷ es) × (g .«context_ref» ≡ d .«context_ref»)) → In (y .entry) (e ∷ es) × (y .cpu ≡ t)
             or (inl j) = absurd (not-here d j m)
             or (inr (g, j, z)) = same g j (z ∙ m)
-        go (inr m) = same e (inl refl) (some-some (sym w ∙ won-since (runs k time M S T P own) (steal-of .winner) refl (sym in-charge-is ∙ m)))
+        go (inr m) = same e (inl refl) (some-some (sym w ∙ won-since (runs turn) (steal-of .winner) refl (sym (in-charge-is turn) ∙ m)))

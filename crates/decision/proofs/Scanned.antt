@@ -1,4 +1,4 @@
--- What the scan-until-found too-many the queue finds. Assumes scan-start.
+-- What the scan-until-found too-many the queue finds. Assumes nothing.
 use mathlib.Core.Path.{_≡_, refl, sym, _∙_}
 use mathlib.Core.Bool.{Bool, true, false, not, _&&_}
 use mathlib.Core.List.{List, [], _∷_}

@@ -1,4 +1,4 @@
--- Sorted lists: inserting and removing. Assumes scan-start.
+-- Sorted lists: inserting and removing. Assumes nothing.
 use mathlib.Core.Path.{_≡_, refl}
 use mathlib.Core.Bool.{Bool, true, false}
 use mathlib.Core.List.{List, [], _∷_}

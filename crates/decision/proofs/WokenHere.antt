@@ -26,7 +26,7 @@ use Rattle.decision.specs.Wakeups.{
   woken-by,
   serve-wakeups,
 }
-use Rattle.decision.specs.Charging.{count-switch, times, holder-stopped, charge-holder, before-choice}
+use Rattle.decision.specs.Charging.{count-switch, times, holder-stopped, charge-holder, before-selection, before-choice}
 use Rattle.decision.specs.Tidy.{Sound, Tidy, Live, context}
 use Rattle.decision.specs.Accepted.{Served, ServesOwn}
 use Rattle.decision.specs.Demand3.{Wakes, by-name, by-timer, WakesHere, judged}
@@ -46,7 +46,7 @@ keeps-queue n s =
     (λ r. pick (λ (z : State). z .cpu .queue ≡ s .cpu .queue) ((holder s) .«has_wake») (λ w. refl) (λ w. refl)))
 
 before-queue : (time : ℕ) (s : State) → (before-choice time s) .cpu .queue ≡ (serve-wakeups time (on-cpu count-switch s)) .cpu .queue
-unfolding before-choice times
+unfolding before-choice before-selection times
 before-queue time s = keeps-queue _ _
 
 module _ (k time : ℕ) (M : Machine) (S : Sound M) (T : Tidy M) (own : ServesOwn k time M) where

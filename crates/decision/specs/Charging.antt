@@ -63,8 +63,10 @@ charge-holder elapsed s =
     then put-context (s .cpu .block .«sched_ctxt») (charged (s .cpu .block .v) elapsed (holder s)) s
     else holder-stopped s
 
--- the state when the choice begins: counted, wake-ups served, times kept, the holder charged
+-- the state in which `select_next_context` begins: the decision counted, wake-ups served, times kept
+unfoldable pub before-selection : ℕ → State → State
+before-selection time s = on-cpu (times time) (serve-wakeups time (on-cpu count-switch s))
+
+-- the state in which it chooses: the holder is charged too
 unfoldable pub before-choice : ℕ → State → State
-before-choice time s =
-    let s₁ = serve-wakeups time (on-cpu count-switch s) in
-    charge-holder (elapsed time (s₁ .cpu)) (on-cpu (times time) s₁)
+before-choice time s = charge-holder (elapsed time (s .cpu)) (before-selection time s)

@@ -15,7 +15,7 @@ use Rattle.percpu.specs.With.{cpu-pit-ticks, cpu-stats}
 use Rattle.machine.specs.Machine.{Machine}
 pub use Rattle.machine.specs.Outcome.{Outcome}
 use Rattle.decision.specs.State.{State, at, on-cpu, state-of, is-some, prev-runnable}
-use Rattle.decision.specs.Charging.{elapsed, was-idle, before-choice}
+use Rattle.decision.specs.Charging.{elapsed, was-idle, charge-holder, before-selection}
 use Rattle.decision.specs.Scan.{Scan, scan}
 use Rattle.decision.specs.Choice.{Choice, choice, chosen, ineligible-holder}
 use Rattle.decision.specs.Steal.{Stealing, steal, mark-stealable}
@@ -30,6 +30,12 @@ finish k cpus r s =
       interrupt = false;
       no-room = s .no-room;
     }
+
+-- what `select_next_context` gives: the state, every CPU (this one as it was), and who gets the slice; none: the holder keeps it
+pub record Selected : Type 0 where
+  pub state : State
+  pub cpus : List Cpu
+  pub next : Option ℕ
 
 -- what `schedule` gives: the state, every CPU (this one as it was), and who was picked; none: AllContextsIdle
 pub record Scheduled : Type 0 where
@@ -57,16 +63,24 @@ module _ (k time : ℕ) where
       let s = advance runs (l .winner) n (l .state) in
       on-cpu mark-stealable (if is-some (l .winner) && runs then requeue s else s)
 
+  -- after the holder is charged
+  unfoldable pub selected : ℕ → List Cpu → State → Selected
+  selected elapsed cpus s =
+      let l = choose-and-steal cpus s in
+      let s′ = settled (prev-runnable s) (ticks elapsed) l in
+      record { state = s′; cpus = l .cpus; next = next-context (prev-runnable s) (l .winner) s′ }
+
+  unfoldable pub select-next-context : ℕ → List Cpu → State → Selected
+  select-next-context elapsed cpus s = selected elapsed cpus (charge-holder elapsed s)
+
   unfoldable pub picked-as : (was-idle : Bool) → List Cpu → Option ℕ → State → Scheduled
   picked-as was-idle cpus none s = record { state = s; cpus = cpus; picked = none }
   picked-as was-idle cpus (some x) s = record { state = hand-over time was-idle x s; cpus = cpus; picked = some x }
 
   unfoldable pub schedule : List Cpu → State → Scheduled
-  schedule cpus s₀ =
-      let s = before-choice time s₀ in
-      let l = choose-and-steal cpus s in
-      let s′ = settled (prev-runnable s) (ticks (elapsed time (s₀ .cpu))) l in
-      picked-as (was-idle (s₀ .cpu)) (l .cpus) (next-context (prev-runnable s) (l .winner) s′) s′
+  schedule cpus s =
+      let d = select-next-context (elapsed time (s .cpu)) cpus (before-selection time s) in
+      picked-as (was-idle (s .cpu)) (d .cpus) (d .next) (d .state)
 
   -- the holder kept the slice: the CPU is marked Idle though the holder may run
   unfoldable pub switch-as : State → List Cpu → Option ℕ → Outcome

@@ -117,10 +117,11 @@ module _ (k time : ℕ) (M : Machine) where
     to-holder : HolderRunnable → b ≡ the-holder .vtime → LeastWaiting b → MovedTo b
     nowhere : NobodyWaits → b ≡ v-here → MovedTo b
 
-  -- queued anywhere, or in charge here
+  -- queued anywhere or in charge here; or woken here, as such a context is then an entry
   pub data QueuedOrInCharge (x : ℕ) : Type 0 where
     was-queued : (e : Entry) (i : ℕ) → Queued M e i → e .«context_ref» ≡ x → QueuedOrInCharge x
     was-in-charge : holder-number ≡ x → QueuedOrInCharge x
+    was-woken : WakesHere x → QueuedOrInCharge x
 
   module _ (M′ : Machine) where
     abbrev pub in-charge : ℕ
@@ -183,4 +184,6 @@ module _ (k time : ℕ) (M : Machine) where
       pub eligible : (f : Entry) → Ready f → Eligible f → (e : Entry) × Contest e
       pub holder-alone : HolderEligible → ((e : Entry) → Ready e → Eligible e → ⊥) → in-charge ≡ holder-number
       pub nobody-eligible : NobodyEligible → Rule
+      -- where somebody is eligible V gains the turn's own advance only
+      pub v-stays : (NobodyEligible → ⊥) → (cpu-at M′ k) .block .v ≡ v-here + own-advance
       pub idle-last : (in-charge ≡ here .block .«idle_ctxt») ↔ (NobodyWaits × StoleNothing)

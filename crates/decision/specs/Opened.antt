@@ -18,7 +18,7 @@ use Rattle.percpu.specs.Layout.{counts, columns, cpu-words, entry-at, timer-at,
 use Rattle.machine.specs.Machine.{no-context, no-cpu, cpu-at}
 use Rattle.machine.specs.Encode.{encode, decode}
 use Rattle.decision.specs.Wakeups.{wakeups, enter, wakeup-result, wake-as, serve-wakeup, serve-wakeups}
-use Rattle.decision.specs.Charging.{add-time, times, holder-stopped, charge-holder, before-choice}
+use Rattle.decision.specs.Charging.{add-time, times, holder-stopped, charge-holder, before-selection, before-choice}
 use Rattle.decision.specs.Scan.{judge, visit, visited, scan-step, scan}
 use Rattle.decision.specs.Choice.{cleaned-up, choice, chosen}
 use Rattle.decision.specs.Steal.{targets, can-steal-from, want, can-be-stolen, candidates, move-entry, steal-entries, steal-from, steal}
@@ -26,6 +26,8 @@ use Rattle.decision.specs.SwitchTo.{advance, requeue, next-context, hand
 use Rattle.decision.specs.Decision.{
   choose-and-steal,
   settled,
+  selected,
+  select-next-context,
   picked-as,
   schedule,
   switch-as,
@@ -39,5 +41,5 @@ use Rattle.decision.specs.Decision.{
 }
 
 unfoldable pub opened : Unit {0}
-unfolding tabulate part cat flat pad status-of context-words context-of state-of stats-words stats-of ticks weights weight whole-slice before sooner insert remove update-runnable charged block-words block-of counts columns cpu-words entry-at timer-at cpu-of no-context no-cpu cpu-at encode decode wakeups enter wakeup-result wake-as serve-wakeup serve-wakeups add-time times holder-stopped charge-holder before-choice judge visit visited scan-step scan cleaned-up choice chosen targets can-steal-from want can-be-stolen candidates move-entry steal-entries steal-from steal advance requeue next-context hand-over switch-to direct-switch-by try-direct-switch-back choose-and-steal settled picked-as schedule switch-as after-schedule switch-inner-by switch-inner tick switch direct-switch-or direct-switch-to
+unfolding tabulate part cat flat pad status-of context-words context-of state-of stats-words stats-of ticks weights weight whole-slice before sooner insert remove update-runnable charged block-words block-of counts columns cpu-words entry-at timer-at cpu-of no-context no-cpu cpu-at encode decode wakeups enter wakeup-result wake-as serve-wakeup serve-wakeups add-time times holder-stopped charge-holder before-selection before-choice judge visit visited scan-step scan cleaned-up choice chosen targets can-steal-from want can-be-stolen candidates move-entry steal-entries steal-from steal advance requeue next-context hand-over switch-to direct-switch-by try-direct-switch-back choose-and-steal settled selected select-next-context picked-as schedule switch-as after-schedule switch-inner-by switch-inner tick switch direct-switch-or direct-switch-to
 opened = tt

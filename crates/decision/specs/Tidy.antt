@@ -11,13 +11,8 @@ use Rattle.context.specs.Status.{is-runnable}
 use Rattle.run_queue.specs.declared.Entry.{Entry}
 use Rattle.run_queue.specs.declared.Timer.{Timer}
 use Rattle.run_queue.specs.Order.{entry-before}
+pub use Rattle.run_queue.specs.Sorted.{Sorted}
 use Rattle.machine.specs.Machine.{Machine, context-at, cpu-at}
-
--- strictly rising in an order
-module _ {A : Type 0} (lt : A → A → Bool) where
-  abbrev pub Sorted : List A → Type 0
-  Sorted [] = Unit {0}
-  Sorted (x ∷ xs) = All (λ y. lt x y ≡ true) xs × Sorted xs
 
 module _ (M : Machine) where
   abbrev pub context : ℕ → Context

@@ -9,7 +9,10 @@ use lib.ListN.{length, getD}
 use borrow.Author.Tests.{eq-eqb, ne-eqb, leb-true, ltb-true, ltb-false, eqb-true, not-false}
 use Rattle.columns.specs.Common.{every, if_then_else_, tabulate}
 use Rattle.columns.specs.Blocks.{part, length-part}
-use Rattle.columns.proofs.Tests.{every-at, and-both, past}
+use native.Mathlib.Numerals.{add-one}
+use Rattle.run_queue.specs.Order.{before, sooner}
+use Rattle.percpu.specs.Layout.{entry-at, timer-at}
+use Rattle.columns.proofs.Tests.{by-test, every-at, and-both, past}
 use Rattle.columns.proofs.Tabulate.{length-tabulate, getD-tabulate}
 use Rattle.context.specs.Words.{context-of}
 use Rattle.percpu.specs.Layout.{cpu-of}
@@ -18,9 +21,9 @@ use Rattle.machine.specs.Encode.{encode, decode, context-place, cpu-place}
 use Rattle.machine.specs.Shape.{ContextFits, CpuFits, Fits, Image}
 use Rattle.machine.proofs.Encoded.{WholeImage, encode-decode}
 use Rattle.image.specs.Ranges.{most, context-in-range, block-in-range, contexts-in-range, blocks-in-range}
-use Rattle.image.specs.Structure.{structure}
+use Rattle.image.specs.Structure.{structure, block-structure, ids-differ, names-live, entry-ids, keys-rise, timers-rise}
 use Rattle.image.specs.Refusal.{size-c, size-n, in-bounds, ranges, sized-refusal, image-refusal}
-use Rattle.image.proofs.InRange.{whole-context, context-fits, BlockInRange, in-range, whole-block, cpu-fits}
+use Rattle.image.proofs.InRange.{whole-context, context-fits, Rising, BlockInRange, in-range, whole-block, cpu-fits}
 
 pub bounded : (size greatest : ℕ) → in-bounds size greatest ≡ true → (1 ≤ size) × (size ≤ greatest)
 unfolding in-bounds
@@ -106,6 +109,29 @@ passed time m e =
       structured = p .structured;
     }
 
+-- the structure of a present block
+pub record BlockStructure (m b : List ℕ) : Type 0 where
+  pub names : names-live m b ≡ true
+  pub ids : entry-ids m b ≡ true
+  pub keys : keys-rise b ≡ true
+  pub timers : timers-rise b ≡ true
+
+block-structured : (m b : List ℕ) → eqb (getD b 0 0) 0 ≡ false → block-structure m b ≡ true → BlockStructure m b
+unfolding block-structure
+block-structured m b t e =
+    let p = and-both (names-live m b) (entry-ids m b && (keys-rise b && timers-rise b)) (rw t at e)
+    in let q = and-both (entry-ids m b) (keys-rise b && timers-rise b) (p .1)
+    in let r = and-both (keys-rise b) (timers-rise b) (q .1)
+    in record { names = p .0; ids = q .0; keys = r .0; timers = r .1 }
+
+rising : {m : List ℕ} (b : List ℕ) → BlockStructure m b → Rising b
+unfolding keys-rise timers-rise
+rising b s =
+    record {
+      keys = λ i h. rw (add-one i) at (every-at (λ (i : ℕ). before (entry-at b i .key) (entry-at b (i + 1) .key)) (getD b 21 0 - 1) i (s .keys) (omega arith));
+      timers = λ i h. rw (add-one i) at (every-at (λ (i : ℕ). sooner (timer-at b i) (timer-at b (i + 1))) (getD b 22 0 - 1) i (s .timers) (omega arith));
+    }
+
 module _ {time : ℕ} (m : List ℕ) (p : Passed time m) where
   abbrev record-at : ℕ → List ℕ
   record-at x = part m (context-place x) 26
@@ -123,6 +149,21 @@ module _ {time : ℕ} (m : List ℕ) (p : Passed time m) where
   a-block : (k : ℕ) → k < size-c m → BlockInRange (size-n m) (block-at k)
   unfolding blocks-in-range
   a-block k h = in-range _ _ (every-at (λ (k : ℕ). block-in-range (size-n m) (block-at k)) (size-c m) k (p .words .blocks) h)
+
+  pub block-structure-of : (k : ℕ) → k < size-c m → eqb (getD (block-at k) 0 0) 0 ≡ false → BlockStructure m (block-at k)
+  unfolding structure
+  block-structure-of k h t =
+      block-structured m (block-at k) t
+      (every-at (λ (k : ℕ). block-structure m (block-at k)) (size-c m) k (and-both (ids-differ m (size-n m)) _ (p .structured) .1) h)
+
+  -- an absent block has empty lists; a present one has its structure
+  a-rising : (k : ℕ) → k < size-c m → Rising (block-at k)
+  a-rising k h =
+      by-test (eqb (getD (block-at k) 0 0) 0)
+      (λ t.
+        let z = a-block k h .absent (eqb-true (getD (block-at k) 0 0) 0 t)
+        in record { keys = λ i b. absurd (omega (arith, z 21 (omega arith))); timers = λ i b. absurd (omega (arith, z 22 (omega arith))) })
+      (λ t. rising (block-at k) (block-structure-of k h t))
 
   whole : WholeImage m
   whole =
@@ -147,7 +188,7 @@ module _ {time : ℕ} (m : List ℕ) (p : Passed time m) where
             (context-fits (size-c m) _ (a-context x h));
         cpu = λ k h.
             subst (CpuFits (size-n m)) (sym (getD-tabulate (size-c m) k (λ (k : ℕ). cpu-of (block-at k)) no-cpu h))
-            (cpu-fits _ _ (p .names .0) (a-block k h));
+            (cpu-fits _ _ (p .names .0) (a-block k h) (a-rising k h));
       }
 
   pub admitted : Image (size-c m) (size-n m) m

@@ -7,7 +7,7 @@ use native.Mathlib.Nat.{add-zero}
 use mathlib.Core.List.{List, []}
 use lib.Dec.{ltb, leb, eqb}
 use lib.ListN.{length, getD}
-use borrow.Author.Tests.{le-leb, leb-true, ltb-true, ltb-false, eqb-true, not-false}
+use borrow.Author.Tests.{le-leb, leb-true, ltb-true, ltb-false, eqb-true, eqb-false, not-false}
 use Rattle.columns.specs.Common.{every, if_then_else_, tabulate}
 use Rattle.columns.specs.Blocks.{part}
 use Rattle.columns.proofs.Tests.{by-test, every-at, and-both}
@@ -15,6 +15,8 @@ use Rattle.columns.proofs.Tabulate.{part-get, length-tabulate, getD-tabulate}
 use Rattle.context.specs.Words.{context-of}
 use Rattle.run_queue.specs.declared.Entry.{Entry}
 use Rattle.run_queue.specs.declared.Timer.{Timer}
+use Rattle.run_queue.specs.Order.{entry-before, sooner}
+use Rattle.run_queue.proofs.Orders.{before-trans, sooner-trans}
 use Rattle.percpu.specs.Words.{block-of}
 use Rattle.percpu.specs.Layout.{cpu-of, entry-at, timer-at, counter, no-entry, no-timer}
 use Rattle.percpu.proofs.Whole.{Whole}
@@ -22,6 +24,7 @@ use Rattle.machine.specs.Shape.{ContextFits, EntryFits, CpuFits}
 use Rattle.machine.proofs.Encoded.{WholeContext}
 use Rattle.image.specs.Ranges.{within, zero-words, context-most, gone-most, context-in-range, block-most, array-least, array-most, used, unused, array-in-range, block-in-range}
 use Rattle.image.proofs.Checked.{within-at, counter-small}
+use Rattle.image.proofs.Risen.{sorted-tabulate}
 
 -- a gone record's table is below a live one's
 below : (c : ℕ) → every (λ (i : ℕ). leb (getD gone-most i 0) (getD (context-most c) i 0)) 26 ≡ true
@@ -68,6 +71,7 @@ pub record BlockInRange (n : ℕ) (b : List ℕ) : Type 0 where
   pub low : (j i : ℕ) → j < 10 → i < getD b (getD counter j 0) 0 → getD array-least j 0 ≤ getD b (25 + 64 * j + i) 0
   pub high : (j i : ℕ) → j < 10 → i < getD b (getD counter j 0) 0 → getD b (25 + 64 * j + i) 0 ≤ getD (array-most n) j 0
   pub rest : (j i : ℕ) → j < 10 → getD b (getD counter j 0) 0 ≤ i → i < 64 → getD b (25 + 64 * j + i) 0 ≡ 0
+  pub absent : getD b 0 0 ≡ 0 → (i : ℕ) → i < 25 → getD b i 0 ≡ 0
 
 tops : (n : ℕ) → every (λ (j : ℕ). eqb (getD (block-most n) (getD counter j 0) 0) 64) 10 ≡ true
 unfolding every counter block-most
@@ -83,6 +87,7 @@ absent n b e =
       low = λ j i h g. absurd (omega (arith, none j h));
       high = λ j i h g. absurd (omega (arith, none j h));
       rest = λ j i h g u. at (25 + 64 * j + i) (omega arith);
+      absent = λ z i h. at i (omega arith);
     }
 
 module _ (n : ℕ) (b : List ℕ) (e : within (block-most n) b 25 ≡ true) (a : every (array-in-range n b) 10 ≡ true) where
@@ -109,9 +114,9 @@ module _ (n : ℕ) (b : List ℕ) (e : within (block-most n) b 25 ≡ true) (a :
       in let v : getD a i 0 ≤ getD (array-most n) j 0 = leb-true _ _ (t .1)
       in (rw q at u, rw q at v)
 
-  present : BlockInRange n b
+  present : (getD b 0 0 ≡ 0 → ⊥) → BlockInRange n b
   unfolding unused
-  present =
+  present not-absent =
       record {
         scalar = λ i h. within-at (block-most n) b 25 i e h;
         low = λ j i h g. both j i h g .0;
@@ -121,13 +126,14 @@ module _ (n : ℕ) (b : List ℕ) (e : within (block-most n) b 25 ≡ true) (a :
             in let t = every-at (λ (x : ℕ). eqb (getD (part b (25 + 64 * j) 64) (k + x) 0) 0) (64 - k) (i - k) (array j h .1) (omega arith)
             in let q : k + (i - k) ≡ i = omega arith
             in sym (part-get b (25 + 64 * j) 64 i u) ∙ ap (λ (y : ℕ). getD (part b (25 + 64 * j) 64) y 0) (sym q) ∙ eqb-true _ 0 t;
+        absent = λ z. absurd (not-absent z);
       }
 
 pub in-range : (n : ℕ) (b : List ℕ) → block-in-range n b ≡ true → BlockInRange n b
 unfolding block-in-range
 in-range n b e =
     by-test (eqb (getD b 0 0) 0) (λ t. absent n b (rw t at e))
-    (λ t. let p = and-both (within (block-most n) b 25) _ (rw t at e) in present n b (p .0) (p .1))
+    (λ t. let p = and-both (within (block-most n) b 25) _ (rw t at e) in present n b (p .0) (p .1) (eqb-false (getD b 0 0) 0 t))
 
 pub whole-block : (n : ℕ) (b : List ℕ) → length b ≡ 665 → BlockInRange n b → Whole b
 unfolding block-most
@@ -152,9 +158,14 @@ whole-block n b l k =
 found : {A : Type 0} (P : A → Type 0) (k i : ℕ) (f : ℕ → A) (d : A) → ((i < k) → P (f i)) → i < length (tabulate k f) → P (getD (tabulate k f) i d)
 found P k i f d p h = let g : i < k = rw (length-tabulate k f) at h in subst P (sym (getD-tabulate k i f d g)) (p g)
 
-pub cpu-fits : (n : ℕ) (b : List ℕ) → 1 ≤ n → BlockInRange n b → CpuFits n (cpu-of b)
+-- rising, item by item
+pub record Rising (b : List ℕ) : Type 0 where
+  pub keys : (i : ℕ) → suc i < getD b 21 0 → entry-before (entry-at b i) (entry-at b (suc i)) ≡ true
+  pub timers : (i : ℕ) → suc i < getD b 22 0 → sooner (timer-at b i) (timer-at b (suc i)) ≡ true
+
+pub cpu-fits : (n : ℕ) (b : List ℕ) → 1 ≤ n → BlockInRange n b → Rising b → CpuFits n (cpu-of b)
 unfolding cpu-of block-of block-most counter array-least array-most entry-at timer-at
-cpu-fits n b p k =
+cpu-fits n b p k r =
     let at = k .scalar
     in record {
       current = omega (arith, at 1 (omega arith));
@@ -169,6 +180,8 @@ cpu-fits n b p k =
       timer = λ i. found (λ (t : Timer). t .«context_ref» < n) (getD b 22 0) i (timer-at b) no-timer (λ g. omega (arith, k .high 7 i (omega arith) g));
       local-name = λ i. found (λ (x : ℕ). x < n) (getD b 23 0) i (λ (i : ℕ). getD b (537 + i) 0) 0 (λ g. omega (arith, k .high 8 i (omega arith) g));
       ipi-name = λ i. found (λ (x : ℕ). x < n) (getD b 24 0) i (λ (i : ℕ). getD b (601 + i) 0) 0 (λ g. omega (arith, k .high 9 i (omega arith) g));
+      keys-rise = sorted-tabulate entry-before (λ x y z. before-trans (x .key) (y .key) (z .key)) (getD b 21 0) (entry-at b) (r .keys);
+      timers-rise = sorted-tabulate sooner sooner-trans (getD b 22 0) (timer-at b) (r .timers);
     }
 
 -- names in a block are below n

@@ -1,4 +1,5 @@
 pub mod Checked
+pub mod Risen
 pub mod InRange
 pub mod Structured
 pub mod Admitted

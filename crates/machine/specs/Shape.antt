@@ -6,12 +6,14 @@ use lib.ListN.{length, getD}
 use Rattle.context.specs.declared.Context.{Context}
 use Rattle.run_queue.specs.declared.Entry.{Entry}
 use Rattle.run_queue.specs.declared.Timer.{Timer}
+use Rattle.run_queue.specs.Order.{entry-before, sooner}
+use Rattle.run_queue.specs.Sorted.{Sorted}
 use Rattle.percpu.specs.Cpu.{Cpu}
 use Rattle.percpu.specs.Layout.{no-entry, no-timer}
 use Rattle.machine.specs.Machine.{Machine, context-at, cpu-at}
 use Rattle.machine.specs.Encode.{encode}
 
--- The ranges that no accepted call leaves: names, weights, priorities and slices. What grows (times, vtime, vd, V) is not here.
+-- The ranges that no accepted call leaves: names, weights, priorities and slices; and the order of keys and timers. What grows (times, vtime, vd, V) is not here.
 
 -- of a context, where there are c CPUs
 pub record ContextFits (c : ℕ) (x : Context) : Type 0 where
@@ -38,6 +40,8 @@ pub record CpuFits (n : ℕ) (p : Cpu) : Type 0 where
   pub timer : (i : ℕ) → i < length (p .timers) → (getD (p .timers) i no-timer) .«context_ref» < n
   pub local-name : (i : ℕ) → i < length (p .«local_wakeup_list») → getD (p .«local_wakeup_list») i 0 < n
   pub ipi-name : (i : ℕ) → i < length (p .«ipi_context_wakeup_list») → getD (p .«ipi_context_wakeup_list») i 0 < n
+  pub keys-rise : Sorted entry-before (p .queue)
+  pub timers-rise : Sorted sooner (p .timers)
 
 -- M has c CPUs and n contexts, within their bounds, and all of it fits
 pub record Fits (c n : ℕ) (M : Machine) : Type 0 where

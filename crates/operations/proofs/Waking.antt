@@ -61,6 +61,8 @@ fits-local n x p h g o =
       timer = o .timer;
       local-name = names-more n (p .«local_wakeup_list») x h (o .local-name);
       ipi-name = o .ipi-name;
+      keys-rise = o .keys-rise;
+      timers-rise = o .timers-rise;
     }
 
 pub fits-ipi : (n x : ℕ) (p : Cpu) → x < n → length (p .«ipi_context_wakeup_list») < 64 → CpuFits n p → CpuFits n (cpu-ipi-context-wakeup-list (p .«ipi_context_wakeup_list» ++ (x ∷ [])) p)
@@ -77,6 +79,8 @@ fits-ipi n x p h g o =
       timer = o .timer;
       local-name = o .local-name;
       ipi-name = names-more n (p .«ipi_context_wakeup_list») x h (o .ipi-name);
+      keys-rise = o .keys-rise;
+      timers-rise = o .timers-rise;
     }
 
 -- the counts in the image
