@@ -13,7 +13,7 @@ use Rattle.columns.specs.Common.{if_then_else_}
 use Rattle.decision.specs.Scan.{Visit, pass, gone, no-addr-space, ready, by-update, judge}
 
 -- the other arm of a choice
-other : {A : Type 0} (b : Bool) (x : A) {y : A} → b ≡ false → y ≡ if b then x else y
+pub other : {A : Type 0} (b : Bool) (x : A) {y : A} → b ≡ false → y ≡ if b then x else y
 other b x h = rw h
 
 pub in-use : (q a : Context) → eqb (q .«addr_space») 2 ≡ true → no-addr-space a ≡ by-update q (CanSwitch a)

@@ -1,2 +1,6 @@
 pub mod Judging
 pub mod Choosing
+pub mod Keys
+pub mod Visiting
+pub mod Visited
+pub mod Walking

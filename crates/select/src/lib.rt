@@ -2,6 +2,8 @@
 // In every function m is the image of a machine of c CPUs and n contexts.
 mod choice;
 mod judge;
+mod scan;
+mod stub;
 
 use context::Context;
 use run_queue::Entry;
