@@ -1,1 +1,116 @@
-// What the stages of a decision are made of: the scalars of a CPU's block, and the insertions and removals, in place on the image.
+// What the stages of a decision are made of, in place on the image: the scalars of a CPU's block, a context's record, and
+// the insertions and removals. In every function m is the image of a machine of c CPUs and n contexts, and k is the CPU.
+mod block;
+
+use context::Context;
+use percpu::PercpuBlock;
+use run_queue::Entry;
+use run_queue::Key;
+use run_queue::Timer;
+ghost use mathlib.Core.Path.{_≡_};
+ghost use mathlib.Core.Bool.{Bool, true, false};
+ghost use Prim.Native.Nat.{ℕ, _+_, _*_, _<_, _≤_};
+ghost use lib.ListN.{length, getD};
+ghost use Rattle.percpu.specs.Cpu.{Cpu};
+ghost use Rattle.percpu.specs.With.{cpu-block};
+ghost use Rattle.percpu.specs.Layout.{no-entry};
+ghost use Rattle.machine.specs.Machine.{Machine, cpu-at};
+ghost use Rattle.machine.specs.Encode.{encode, cpu-place};
+ghost use Rattle.machine.specs.Shape.{ContextFits, EntryFits, Image, Fits};
+ghost use Rattle.decision.specs.State.{State, put-context, on-cpu, insert-entry, insert-timer, push-local, remove-key};
+ghost use Rattle.stages.specs.Stage.{Staged};
+ghost use Rattle.stages.specs.Read.{BlockFits, EntryRead};
+
+pub fn load_block(m: &[u64], c: usize, n: usize, k: usize) -> PercpuBlock
+    requires { ⌜ Image c n (now m) ⌝ }
+    requires { ⌜ k < c ⌝ }
+    ensures { λ r. ⌜ ((M : Machine) → now (m .entry) ≡ encode M → Fits c n M → r ≡ cpu-at M k .block) ⌝ }
+{
+    let at = 2 + 26 * n + 665 * k;
+    let end = at + 665;
+    block::load(&m[at..end])
+}
+
+pub fn store_block(m: &mut [u64], c: usize, n: usize, k: usize, b: PercpuBlock)
+    requires { ⌜ Image c n (now m) ⌝ }
+    requires { ⌜ k < c ⌝ }
+    requires { ⌜ BlockFits n b ⌝ }
+    ensures { λ r. ⌜ Staged c n k (now (m .entry)) (now (m .exit)) false (λ (s : State). on-cpu (λ (p : Cpu). cpu-block b p) s) ⌝ }
+{
+    let at = 2 + 26 * n + 665 * k;
+    let end = at + 665;
+    block::store(&mut m[at..end], b);
+}
+
+pub fn store_context(m: &mut [u64], c: usize, n: usize, k: usize, x: usize, q: Context)
+    requires { ⌜ Image c n (now m) ⌝ }
+    requires { ⌜ (k < c) × (x < n) ⌝ }
+    requires { ⌜ ContextFits c q ⌝ }
+    ensures { λ r. ⌜ Staged c n k (now (m .entry)) (now (m .exit)) false (λ (s : State). put-context x q s) ⌝ }
+{
+    machine::store(m, c, n, x, q);
+}
+
+// True if there is no room.
+pub fn insert_entry(m: &mut [u64], c: usize, n: usize, k: usize, e: Entry) -> bool
+    requires { ⌜ Image c n (now m) ⌝ }
+    requires { ⌜ k < c ⌝ }
+    requires { ⌜ EntryFits n e ⌝ }
+    ensures { λ r. ⌜ Staged c n k (now (m .entry)) (now (m .exit)) r (λ (s : State). insert-entry e s) ⌝ }
+{
+    let at = 2 + 26 * n + 665 * k;
+    let end = at + 665;
+    block::insert_entry(&mut m[at..end], e)
+}
+
+pub fn remove_key(m: &mut [u64], c: usize, n: usize, k: usize, key: Key)
+    requires { ⌜ Image c n (now m) ⌝ }
+    requires { ⌜ k < c ⌝ }
+    ensures { λ r. ⌜ Staged c n k (now (m .entry)) (now (m .exit)) false (λ (s : State). remove-key key s) ⌝ }
+{
+    let at = 2 + 26 * n + 665 * k;
+    let end = at + 665;
+    block::remove_key(&mut m[at..end], key);
+}
+
+// True if there is no room.
+pub fn insert_timer(m: &mut [u64], c: usize, n: usize, k: usize, t: Timer) -> bool
+    requires { ⌜ Image c n (now m) ⌝ }
+    requires { ⌜ (k < c) × (t .«context_ref» < n) ⌝ }
+    ensures { λ r. ⌜ Staged c n k (now (m .entry)) (now (m .exit)) r (λ (s : State). insert-timer t s) ⌝ }
+{
+    let at = 2 + 26 * n + 665 * k;
+    let end = at + 665;
+    timers::insert(&mut m[at..end], t)
+}
+
+// True if there is no room.
+pub fn push_local(m: &mut [u64], c: usize, n: usize, k: usize, x: usize) -> bool
+    requires { ⌜ Image c n (now m) ⌝ }
+    requires { ⌜ (k < c) × (x < n) ⌝ }
+    ensures { λ r. ⌜ Staged c n k (now (m .entry)) (now (m .exit)) r (λ (s : State). push-local x s) ⌝ }
+{
+    let at = 2 + 26 * n + 665 * k;
+    let end = at + 665;
+    let name = machine::word(x);
+    block::push_local(&mut m[at..end], name)
+}
+
+pub fn queue_len(m: &[u64], c: usize, n: usize, k: usize) -> usize
+    requires { ⌜ Image c n (now m) ⌝ }
+    requires { ⌜ k < c ⌝ }
+    ensures { λ r. ⌜ (r ≡ getD (now (m .entry)) (cpu-place n k + 21) 0) × (r ≤ 64) × ((M : Machine) → now (m .entry) ≡ encode M → Fits c n M → r ≡ length (cpu-at M k .queue)) ⌝ }
+{
+    let at = 2 + 26 * n + 665 * k + 21;
+    machine::index(m[at])
+}
+
+pub fn entry(m: &[u64], c: usize, n: usize, k: usize, i: usize) -> Entry
+    requires { ⌜ Image c n (now m) ⌝ }
+    requires { ⌜ (k < c) × (i < getD (now m) (cpu-place n k + 21) 0) ⌝ }
+    ensures { λ r. ⌜ EntryRead c n k i (now (m .entry)) r ⌝ }
+{
+    let at = 2 + 26 * n + 665 * k;
+    let end = at + 665;
+    queue::entry(&m[at..end], i)
+}

@@ -1,0 +1,4 @@
+pub mod Compose
+pub mod Blocks
+pub mod Fitting
+pub mod Lent
