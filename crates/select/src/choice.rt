@@ -162,13 +162,3 @@ pub fn without_entry(h: Holder, late: Best) -> Selected
         Best::Found(e) => least(h, e),
     }
 }
-
-// What is left of a weight.
-pub fn reduced(total: u64, change: u64) -> u64
-    ensures { λ r. ⌜ r ≡ total - change ⌝ }
-{
-    if change < total {
-        return total - change;
-    }
-    0
-}

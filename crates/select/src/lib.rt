@@ -1,9 +1,9 @@
 // The scan of a CPU's queue, the clean-up after it, and the choice of who runs next (`select_next_context` of context/switch.rs).
 // In every function m is the image of a machine of c CPUs and n contexts.
 mod choice;
+mod clean_up;
 mod judge;
 mod scan;
-mod stub;
 
 use context::Context;
 use run_queue::Entry;

@@ -14,7 +14,6 @@ use machine::Lookup;
 use run_queue::Entry;
 use run_queue::Key;
 use crate::judge;
-use crate::stub;
 use crate::Best;
 use crate::Scanned;
 use crate::Scanner;
@@ -131,7 +130,7 @@ pub fn scan_queue(m: &mut [u64], d: &mut [u64], c: usize, n: usize, k: usize, t:
     ensures { λ r. ⌜ Scans c n (now (m .entry)) (now (m .exit)) (now (d .exit)) r (λ (M : Machine). scan-by t (M .contexts) (cpu-at M k .queue)) ⌝ }
     ensures { λ r. ⌜ (r .«contexts_to_remove» ≤ 64) × (best-below n (r .«eligible_best»)) × (best-below n (r .«ineligible_best»)) ⌝ }
 {
-    let len = stub::queue_len(m, c, n, k);
+    let len = stages::queue_len(m, c, n, k);
     let nobody = Best::Nobody;
     let mut w = Scanned {
         eligible_best: nobody,
@@ -141,7 +140,7 @@ pub fn scan_queue(m: &mut [u64], d: &mut [u64], c: usize, n: usize, k: usize, t:
     };
     let mut i = 0;
     while i < len {
-        let e = stub::entry(m, c, n, k, i);
+        let e = stages::entry(m, c, n, k, i);
         w = scan_step(m, d, c, n, t, w, e);
         let best = w.eligible_best;
         if judge::is_found(best) {
