@@ -1,5 +1,5 @@
 -- The choice, from what the code's tests said. Assumes nothing.
-use mathlib.Core.Path.{_≡_, refl, sym, ap, _∙_}
+use mathlib.Core.Path.{_≡_, refl, sym, ap, _∙_, subst}
 use mathlib.Core.Bool.{Bool, true, false, not, _&&_, _||_}
 use mathlib.Core.List.{List, [], _∷_}
 use mathlib.Core.Option.{Option, none, some}
@@ -13,9 +13,13 @@ use Rattle.percpu.specs.declared.PercpuBlock.{PercpuBlock}
 use Rattle.machine.specs.Machine.{context-at}
 use Rattle.decision.specs.State.{State, holder, prev-runnable}
 use Rattle.decision.specs.Scan.{Scan}
-use Rattle.decision.specs.Choice.{Choice, named, goes-before, prev-is-eligible, ineligible-holder, against, nobody, without-entry}
+use Rattle.decision.specs.Choice.{Choice, named, goes-before, prev-is-eligible, ineligible-holder, against, nobody, without-entry, choice-by, choice}
 use Rattle.select.specs.declared.Holder.{Holder}
-use Rattle.select.specs.Holding.{Holding}
+use Rattle.select.specs.declared.Best.{Best}
+use Rattle.select.specs.declared.Best.the-variants.{Nobody, Found}
+use Rattle.select.specs.declared.Scanned.{Scanned}
+use Rattle.select.specs.Values.{best-of, best-below}
+use Rattle.select.specs.Holding.{Holding, Chosen}
 
 -- the holder as the code has it: b and q are the block and the record
 pub holding : (b : PercpuBlock) (q : Context) (runs runnable eligible : Bool) → runs ≡ is-runnable (q .status) → runnable ≡ (not (eqb (b .«sched_ctxt») (b .«idle_ctxt»)) && runs)
@@ -86,3 +90,20 @@ module _ (h : Holder) (s : State) (o : Holding h s) where
 
       pub against-wins : {x : ℕ} → x ≡ e .«context_ref» → r ≡ false → record { winner = some x; v = h .v; locked = k } ≡ against s f e
       against-wins hx t = rw (wins false t) (λ j. record { winner = some (hx j); v = o .v j; locked = (n ∙ ap named hl) j })
+
+pub best-at : (n : ℕ) {b b' : Best} → b ≡ b' → best-below n b → best-below n b'
+best-at n e h = subst (best-below n) e h
+
+-- the choice, by what was found
+module _ {cs : List Context} {w : Scanned} (s : State) (f : Scan) (o : Chosen cs w f) where
+  pub choice-none : {c : Choice} → w .«eligible_best» ≡ Nobody → c ≡ without-entry s f → c ≡ choice s f
+  unfolding choice
+  choice-none e z = z ∙ ap (choice-by s f) (sym (ap best-of e) ∙ o .best)
+
+  pub choice-some : {c : Choice} {e : Entry} → w .«eligible_best» ≡ Found e → c ≡ against s f e → c ≡ choice s f
+  unfolding choice
+  choice-some e z = z ∙ ap (choice-by s f) (sym (ap best-of e) ∙ o .best)
+
+  -- the record that was loaded
+  pub record-of : {x y : ℕ} {q : Context} → x ≡ y → q ≡ context-at cs x → q ≡ context-at (f .contexts) y
+  record-of h e = e ∙ (λ j. context-at (o .contexts j) (h j))

@@ -4,3 +4,5 @@ pub mod Keys
 pub mod Visiting
 pub mod Visited
 pub mod Walking
+pub mod Cleaning
+pub mod Selecting

@@ -30,7 +30,7 @@ use Rattle.select.specs.Scanning.{visit-by, visited-by, step-by, scan-by
 use Rattle.select.proofs.Visited.{scans, at-as, scans-as}
 
 module _ {A B : Type 0} where
-  fold-append : (f : B → A → B) (b : B) (xs ys : List A) → fold f b (xs ++ ys) ≡ fold f (fold f b xs) ys
+  pub fold-append : (f : B → A → B) (b : B) (xs ys : List A) → fold f b (xs ++ ys) ≡ fold f (fold f b xs) ys
   fold-append f b [] ys = refl
   fold-append f b (x ∷ xs) ys = fold-append f (f b x) xs ys
 

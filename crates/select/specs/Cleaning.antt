@@ -8,6 +8,8 @@ use Rattle.percpu.specs.declared.PercpuBlock.{PercpuBlock}
 use Rattle.percpu.specs.Cpu.{Cpu}
 use Rattle.percpu.specs.With.{block-total-weight, block-published-weight, block-queue-len, block-v, cpu-block}
 use Rattle.decision.specs.State.{State, on-cpu, remove-key}
+use Rattle.decision.specs.Scan.{Scan}
+use Rattle.decision.specs.Choice.{choice, taken-out}
 
 -- less weight, a queue's length published, and V
 abbrev pub lightened : PercpuBlock → (change len v : ℕ) → PercpuBlock
@@ -20,3 +22,7 @@ remove-keys ks s = fold (λ (a : State) (k : Key). remove-key k a) s ks
 unfoldable pub cleaned : ℕ → List Key → ℕ → State → State
 cleaned change ks v s =
     remove-keys ks (on-cpu (λ (p : Cpu). cpu-block (lightened (p .block) change (length (p .queue)) v) p) s)
+
+-- the choice for the holder of s, after the scan f, in the state a
+unfoldable pub settled : State → Scan → State → State
+settled s f a = taken-out ((choice s f) .winner) (cleaned (f .weight-change) (f .contexts-to-remove) ((choice s f) .v) a)

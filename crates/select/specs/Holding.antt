@@ -5,7 +5,11 @@ use Rattle.decision.specs.State.{State, holder, prev-runnable}
 use Rattle.decision.specs.Choice.{prev-is-eligible, ineligible-holder}
 use Rattle.select.specs.declared.Holder.{Holder}
 use Rattle.select.specs.declared.Scanner.{Scanner}
-use Rattle.select.specs.Values.{vtime-of}
+use mathlib.Core.List.{List}
+use Rattle.context.specs.declared.Context.{Context}
+use Rattle.decision.specs.Scan.{Scan}
+use Rattle.select.specs.declared.Scanned.{Scanned}
+use Rattle.select.specs.Values.{vtime-of, best-of}
 
 pub record Holding (h : Holder) (s : State) : Type 0 where
   pub runnable : h .runnable ≡ prev-runnable s
@@ -24,3 +28,9 @@ pub record Scanning (k time : ℕ) (t : Scanner) (s : State) : Type 0 where
   pub current : t .«current_ctxt» ≡ s .cpu .block .«current_ctxt»
   pub v : t .v ≡ s .cpu .block .v
   pub ineligible : vtime-of (t .«ineligible_holder») ≡ ineligible-holder s
+
+-- what the code found of the scan f, over contexts cs
+pub record Chosen (cs : List Context) (w : Scanned) (f : Scan) : Type 0 where
+  pub contexts : cs ≡ f .contexts
+  pub best : best-of (w .«eligible_best») ≡ f .eligible-best
+  pub late : best-of (w .«ineligible_best») ≡ f .ineligible-best

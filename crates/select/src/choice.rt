@@ -4,19 +4,20 @@ ghost use mathlib.Core.Bool.{Bool, _&&_, _||_, not};
 ghost use Prim.Native.Nat.{ℕ, _-_, _<_, _≤_};
 ghost use mathlib.Core.Option.{none, some};
 ghost use lib.Dec.{ltb, leb, eqb};
-ghost use Rattle.machine.specs.Machine.{context-at};
-ghost use Rattle.decision.specs.State.{State, holder};
+ghost use Rattle.machine.specs.Machine.{Machine, context-at};
+ghost use Rattle.machine.specs.Encode.{encode};
+ghost use Rattle.machine.specs.Shape.{Fits, Image};
+ghost use Rattle.decision.specs.State.{State};
 ghost use Rattle.decision.specs.Scan.{Scan};
-ghost use Rattle.decision.specs.Choice.{named, against, nobody, without-entry, ineligible-holder};
-ghost use Rattle.select.specs.Values.{vtime-of, best-of, locked-of, choice-of, best-below, winner-below};
-ghost use Rattle.select.specs.Holding.{Holding};
+ghost use Rattle.decision.specs.Choice.{named, against, nobody, without-entry, choice};
+ghost use Rattle.select.specs.Values.{best-of, locked-of, choice-of, best-below, winner-below};
+ghost use Rattle.select.specs.Holding.{Holding, Chosen};
 use context::Context;
-use percpu::PercpuBlock;
 use run_queue::Entry;
 use crate::judge::both;
 use crate::Best;
 use crate::Holder;
-use crate::MinVtime;
+use crate::Scanned;
 use crate::Selected;
 use crate::Winner;
 
@@ -27,36 +28,6 @@ fn either(a: bool, b: bool) -> bool
         return true;
     }
     b
-}
-
-// The holder, whose record is q, of a CPU whose block is b.
-pub fn holder_of(b: PercpuBlock, q: Context) -> Holder
-    ensures { λ r. ⌜ ((s : State) → b ≡ s .cpu .block → q ≡ holder s → Holding r s) ⌝ }
-{
-    let status = q.status;
-    let idle = b.sched_ctxt == b.idle_ctxt;
-    let runs = status.is_runnable();
-    let runnable = both(!idle, runs);
-    let on_time = q.vtime <= b.v;
-    let eligible = both(runnable, on_time);
-    Holder {
-        runnable,
-        eligible,
-        vtime: q.vtime,
-        vd: q.vd,
-        rem_slice: q.rem_slice,
-        v: b.v,
-    }
-}
-
-// The vtime of a runnable holder that is not eligible.
-pub fn ineligible_holder(h: Holder) -> MinVtime
-    ensures { λ r. ⌜ ((s : State) → Holding h s → vtime-of r ≡ ineligible-holder s) ⌝ }
-{
-    if both(h.runnable, !h.eligible) {
-        return MinVtime::At(h.vtime);
-    }
-    MinVtime::Nobody
 }
 
 // The context of an entry that keeps its lock.
@@ -82,6 +53,7 @@ fn goes_before(h: Holder, q: Context) -> bool
 // An eligible entry e was found, whose record is q.
 pub fn against(h: Holder, late: Best, e: Entry, q: Context) -> Selected
     ensures { λ r. ⌜ ((s : State) (f : Scan) → Holding h s → q ≡ context-at (f .contexts) (e .«context_ref») → best-of late ≡ f .ineligible-best → choice-of r ≡ against s f e) ⌝ }
+    ensures { λ r. ⌜ ((n : ℕ) → e .«context_ref» < n → winner-below n (r .winner)) ⌝ }
 {
     let before = goes_before(h, q);
     let kept = locked(late);
@@ -112,6 +84,7 @@ fn goes_on(h: Holder, e: Entry) -> bool
 // Nobody is eligible, and the queue gives nobody.
 fn alone(h: Holder) -> Selected
     ensures { λ r. ⌜ ((s : State) → Holding h s → choice-of r ≡ nobody s none) ⌝ }
+    ensures { λ r. ⌜ ((n : ℕ) → winner-below n (r .winner)) ⌝ }
 {
     if h.runnable {
         return Selected {
@@ -130,6 +103,7 @@ fn alone(h: Holder) -> Selected
 // Nobody is eligible: V becomes the vtime of the entry of least vtime.
 fn least(h: Holder, e: Entry) -> Selected
     ensures { λ r. ⌜ ((s : State) → Holding h s → choice-of r ≡ nobody s (some e)) ⌝ }
+    ensures { λ r. ⌜ ((n : ℕ) → e .«context_ref» < n → winner-below n (r .winner)) ⌝ }
 {
     let x = machine::index(e.context_ref);
     if goes_on(h, e) {
@@ -149,6 +123,7 @@ fn least(h: Holder, e: Entry) -> Selected
 // No eligible entry was found.
 pub fn without_entry(h: Holder, late: Best) -> Selected
     ensures { λ r. ⌜ ((s : State) (f : Scan) → Holding h s → best-of late ≡ f .ineligible-best → choice-of r ≡ without-entry s f) ⌝ }
+    ensures { λ r. ⌜ ((n : ℕ) → best-below n late → winner-below n (r .winner)) ⌝ }
 {
     if h.eligible {
         return Selected {
@@ -160,5 +135,24 @@ pub fn without_entry(h: Holder, late: Best) -> Selected
     match late {
         Best::Nobody => alone(h),
         Best::Found(e) => least(h, e),
+    }
+}
+
+// What the choice needs of the scan: the record of the eligible entry, where there is one.
+pub fn choose(m: &[u64], c: usize, n: usize, h: Holder, w: Scanned) -> Selected
+    requires { ⌜ Image c n (now m) ⌝ }
+    requires { ⌜ (best-below n (w .«eligible_best»)) × (best-below n (w .«ineligible_best»)) ⌝ }
+    ensures { λ r. ⌜ ((M : Machine) → now (m .entry) ≡ encode M → Fits c n M → (s : State) (f : Scan) → Holding h s → Chosen (M .contexts) w f → choice-of r ≡ choice s f) ⌝ }
+    ensures { λ r. ⌜ winner-below n (r .winner) ⌝ }
+{
+    let best = w.eligible_best;
+    let late = w.ineligible_best;
+    match best {
+        Best::Nobody => without_entry(h, late),
+        Best::Found(e) => {
+            let x = machine::index(e.context_ref);
+            let q = machine::load(m, c, n, x);
+            against(h, late, e, q)
+        }
     }
 }

@@ -3,10 +3,25 @@
 mod choice;
 mod clean_up;
 mod judge;
+mod read;
 mod scan;
 
 use context::Context;
 use run_queue::Entry;
+ghost use mathlib.Core.Path.{_≡_};
+ghost use mathlib.Core.Bool.{Bool, false};
+ghost use mathlib.Core.List.{List};
+ghost use Prim.Native.Nat.{ℕ, _<_, _≤_};
+ghost use lib.ListN.{length};
+ghost use Rattle.machine.specs.Shape.{Image};
+ghost use Rattle.decision.specs.State.{State};
+ghost use Rattle.decision.specs.Choice.{choice, chosen};
+ghost use Rattle.decision.specs.Decision.{scanned};
+ghost use Rattle.stages.specs.Stage.{Stage};
+ghost use Rattle.select.specs.Values.{choice-of, best-below};
+ghost use Rattle.select.specs.Scanning.{found};
+ghost use Rattle.select.specs.Holding.{Holding};
+ghost use Rattle.select.specs.Cleaning.{settled};
 
 // A least vtime, if there is one.
 pub enum MinVtime {
@@ -70,4 +85,31 @@ pub struct Selected {
     pub winner: Winner,
     pub v: u64,
     pub locked: Winner,
+}
+
+// After the scan of CPU k's queue, which found w: the choice, the clean-up, and the winner's key out of the queue.
+fn settle(m: &mut [u64], d: &[u64], c: usize, n: usize, k: usize, h: Holder, w: Scanned) -> Selected
+    requires { ⌜ Image c n (now m) ⌝ }
+    requires { ⌜ (k < c) × (w .«contexts_to_remove» ≤ 64) × (length (now d) ≡ 192) ⌝ }
+    requires { ⌜ (best-below n (w .«eligible_best»)) × (best-below n (w .«ineligible_best»)) ⌝ }
+    ensures { λ r. ⌜ ((s : State) → Holding h s → Stage c n k (now (m .entry)) (now (m .exit)) false (choice-of r) (λ (a : State). settled s (found (a .contexts) w (now (d .entry))) a) (λ (a : State). choice s (found (a .contexts) w (now (d .entry))))) ⌝ }
+{
+    let r = choice::choose(m, c, n, h, w);
+    clean_up::clean_up(m, d, c, n, k, w.weight_change, w.contexts_to_remove, r.v);
+    let winner = r.winner;
+    clean_up::take_out(m, c, n, k, winner);
+    r
+}
+
+// The scan of CPU k's queue at a time, the clean-up and the choice; d is scratch.
+pub fn select(m: &mut [u64], d: &mut [u64], c: usize, n: usize, k: usize, time: u64) -> Selected
+    requires { ⌜ Image c n (now m) ⌝ }
+    requires { ⌜ (k < c) × (length (now d) ≡ 192) ⌝ }
+    ensures { λ r. ⌜ Stage c n k (now (m .entry)) (now (m .exit)) false (choice-of r) (λ (s : State). chosen (choice s (scanned k time s)) (scanned k time s) s) (λ (s : State). choice s (scanned k time s)) ⌝ }
+{
+    let b = stages::load_block(m, c, n, k);
+    let h = read::holder(m, c, n, k, b);
+    let t = read::scanner(k, time, b, h);
+    let w = scan::scan_queue(m, d, c, n, k, t);
+    settle(m, d, c, n, k, h, w)
 }

@@ -24,7 +24,7 @@ both-requires c κs = search needs
 
 -- src/choice.rt:89:9
 returns : tie.Need-returns
-returns c = λ s f o hq hl. against-kept _ s o f hl (c .before .before .before .before .args .e) _ hq (c .before .before .locked .ensures) (c .before .before .before .goes-before .ensures) (c .before .both .ensures) (c .if1 .taken)
+returns c = (λ s f o hq hl. against-kept _ s o f hl (c .before .before .before .before .args .e) _ hq (c .before .before .locked .ensures) (c .before .before .before .goes-before .ensures) (c .before .both .ensures) (c .if1 .taken), λ n l. tt)
 
 -- src/choice.rt:96:28
 index-requires : tie.Need-index-requires
@@ -32,7 +32,7 @@ index-requires c κs = search needs
 
 -- src/choice.rt:83:1
 returns-2 : tie.Need-returns-2
-returns-2 c = λ s f o hq hl. against-wins _ s o f hl (c .before .before .before .before .before .args .e) _ hq (c .before .before .before .locked .ensures) (c .before .before .before .before .goes-before .ensures) (c .before .before .both .ensures) (c .index .ensures) (c .before .if1 .left)
+returns-2 c = (λ s f o hq hl. against-wins _ s o f hl (c .before .before .before .before .before .args .e) _ hq (c .before .before .before .locked .ensures) (c .before .before .before .before .goes-before .ensures) (c .before .before .both .ensures) (c .index .ensures) (c .before .if1 .left), λ n l. omega (arith, c .index .ensures))
 
 pub against-spec : {M : Type 1} → statement M
 against-spec =

@@ -8,11 +8,11 @@ use Rattle.select.proofs.choice.alone.Lts as lts
 
 -- src/choice.rt:117:9
 returns : tie.Need-returns
-returns c = λ s o. alone-runs _ s o (c .if1 .taken)
+returns c = (λ s o. alone-runs _ s o (c .if1 .taken), λ n. tt)
 
 -- src/choice.rt:113:1
 returns-2 : tie.Need-returns-2
-returns-2 c = λ s o. alone-stopped _ s o (c .if1 .left)
+returns-2 c = (λ s o. alone-stopped _ s o (c .if1 .left), λ n. tt)
 
 pub alone-spec : {M : Type 1} → statement M
 alone-spec = tie.close (tie.spec returns returns-2)

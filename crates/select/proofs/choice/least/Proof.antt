@@ -18,11 +18,11 @@ goes-on-requires c κs = search needs
 
 -- src/choice.rt:136:9
 returns : tie.Need-returns
-returns c = λ s o. least-kept _ s o (c .before .before .before .args .e) _ (c .before .before .index .ensures) _ (c .before .goes-on .ensures) (c .if1 .taken)
+returns c = (λ s o. least-kept _ s o (c .before .before .before .args .e) _ (c .before .before .index .ensures) _ (c .before .goes-on .ensures) (c .if1 .taken), λ n l. tt)
 
 -- src/choice.rt:131:1
 returns-2 : tie.Need-returns-2
-returns-2 c = λ s o. least-wins _ s o (c .before .before .before .args .e) _ (c .before .before .index .ensures) _ (c .before .goes-on .ensures) (c .if1 .left)
+returns-2 c = (λ s o. least-wins _ s o (c .before .before .before .args .e) _ (c .before .before .index .ensures) _ (c .before .goes-on .ensures) (c .if1 .left), λ n l. omega (arith, c .before .before .index .ensures))
 
 pub least-spec : {M : Type 1} → statement M
 least-spec = tie.close (tie.spec index-requires goes-on-requires returns returns-2)
