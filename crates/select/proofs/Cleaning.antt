@@ -1,16 +1,14 @@
 -- The clean-up, and the winner's key out of the queue, from what the calls ensure. Assumes nothing.
 use mathlib.Core.Path.{_≡_, refl, sym, ap, _∙_, subst}
 use mathlib.Core.Bool.{Bool, true, false}
-use mathlib.Core.List.{List, [], _∷_, _++_}
-use mathlib.Core.Option.{Option, none, some}
+use mathlib.Core.List.{List, [], _∷_}
+use mathlib.Core.Option.{Option}
 use Prim.Native.Nat.{ℕ, zero, suc, _+_, _-_, _<_, _≤_}
-use native.Mathlib.Omega.{arith}
 use native.Mathlib.Numerals.{add-one}
 use lib.ListN.{length, getD, set}
-use Rattle.columns.specs.Common.{if_then_else_, fold}
+use Rattle.columns.specs.Common.{if_then_else_}
 use Rattle.context.specs.declared.Context.{Context}
 use Rattle.run_queue.specs.declared.Key.{Key}
-use Rattle.run_queue.specs.declared.Entry.{Entry}
 use Rattle.run_queue.specs.Queue.{queue-remove}
 use Rattle.percpu.specs.declared.PercpuBlock.{PercpuBlock}
 use Rattle.percpu.specs.Cpu.{Cpu}
@@ -21,7 +19,7 @@ use Rattle.machine.specs.Shape.{ContextFits, Fits, Image}
 use Rattle.decision.specs.State.{State, on-cpu, put-context, remove-key, state-of, queue-key, without-key}
 use Rattle.decision.specs.Scan.{Scan}
 use Rattle.decision.specs.Choice.{without-keys, cleaned-up, dequeued, taken-out}
-use Rattle.stages.specs.Stage.{put-state, Stage, Staged}
+use Rattle.stages.specs.Stage.{put-state, Staged}
 use Rattle.stages.specs.Read.{BlockFits}
 use Rattle.stages.proofs.Compose.{staged, stage-then, stage-as}
 use Rattle.select.specs.declared.Winner.{Winner}

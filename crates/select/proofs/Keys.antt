@@ -1,10 +1,10 @@
 -- The scratch of keys to remove. Assumes nothing.
-use mathlib.Core.Path.{_≡_, refl, sym, ap, _∙_}
+use mathlib.Core.Path.{_≡_, refl, _∙_}
 use mathlib.Core.List.{List, [], _∷_, _++_}
 use Prim.Native.Nat.{ℕ, zero, suc, _+_, _*_, _<_, _≤_}
 use native.Mathlib.Omega.{arith}
 use native.Mathlib.Numerals.{add-one}
-use lib.ListN.{length, getD, set, length-append, length-set}
+use lib.ListN.{length, set, length-append, length-set}
 use lib.Seq.{getD-set-same, getD-set-other}
 use Rattle.run_queue.specs.declared.Key.{Key}
 use Rattle.select.specs.Scanning.{key-at, keys-in}

@@ -1,28 +1,27 @@
 -- The scan, the clean-up and the choice as one stage. Assumes nothing.
 use mathlib.Core.Path.{_≡_, refl, sym, ap, _∙_, subst}
-use mathlib.Core.Bool.{Bool, true, false}
-use mathlib.Core.List.{List, [], _∷_}
+use mathlib.Core.Bool.{false}
+use mathlib.Core.List.{List}
 use mathlib.Core.Option.{Option}
-use Prim.Native.Nat.{ℕ, _<_, _≤_}
-use native.Mathlib.Omega.{arith}
+use Prim.Native.Nat.{ℕ, _<_}
 use Rattle.context.specs.declared.Context.{Context}
 use Rattle.run_queue.specs.declared.Entry.{Entry}
 use Rattle.percpu.specs.declared.PercpuBlock.{PercpuBlock}
 use Rattle.percpu.specs.Cpu.{Cpu}
-use Rattle.machine.specs.Machine.{Machine, context-at, cpu-at, with-contexts}
+use Rattle.machine.specs.Machine.{Machine, context-at, cpu-at}
 use Rattle.machine.specs.Encode.{encode}
 use Rattle.machine.specs.Shape.{Fits, Image}
 use Rattle.decision.specs.State.{State, state-of, holder}
 use Rattle.decision.specs.Scan.{Scan, judge, visit, visited, scan-step, scan}
 use Rattle.decision.specs.Choice.{Choice, ineligible-holder, choice, taken-out, chosen}
 use Rattle.decision.specs.Decision.{scanned}
-use Rattle.stages.specs.Stage.{put-state, StageAt, Stage, Staged}
+use Rattle.stages.specs.Stage.{put-state, Stage, Staged}
 use Rattle.stages.proofs.Compose.{staged, stage-then, stage-as}
 use Rattle.select.specs.declared.MinVtime.{MinVtime}
 use Rattle.select.specs.declared.Holder.{Holder}
 use Rattle.select.specs.declared.Scanner.{Scanner}
 use Rattle.select.specs.declared.Scanned.{Scanned}
-use Rattle.select.specs.Values.{vtime-of, cpu-with, scanner-cpu}
+use Rattle.select.specs.Values.{vtime-of, cpu-with}
 use Rattle.select.specs.Holding.{Holding, Scanning, Chosen}
 use Rattle.select.specs.Scanning.{scan-by, keys-in, found, Scans}
 use Rattle.select.specs.Cleaning.{cleaned, settled}

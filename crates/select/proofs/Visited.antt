@@ -2,19 +2,17 @@
 use mathlib.Core.Path.{_≡_, refl, sym, ap, _∙_, subst}
 use mathlib.Core.Bool.{Bool, true, false}
 use mathlib.Core.List.{List, [], _∷_, _++_}
-use mathlib.Core.Option.{Option, none, some}
-use Prim.Native.Nat.{ℕ, _+_, _*_, _<_, _≤_}
+use mathlib.Core.Option.{some}
+use Prim.Native.Nat.{ℕ, _+_, _<_, _≤_}
 use native.Mathlib.Omega.{arith}
-use lib.ListN.{length, set}
-use lib.Dec.{leb}
+use lib.ListN.{set}
 use Rattle.columns.specs.Common.{if_then_else_}
-use Rattle.columns.proofs.Tests.{by-test}
 use Rattle.context.specs.declared.Context.{Context}
 use Rattle.run_queue.specs.declared.Key.{Key}
 use Rattle.run_queue.specs.declared.Entry.{Entry}
-use Rattle.machine.specs.Machine.{Machine, context-at, with-contexts, set-context}
+use Rattle.machine.specs.Machine.{Machine, context-at, set-context}
 use Rattle.machine.specs.Encode.{encode}
-use Rattle.machine.specs.Shape.{ContextFits, EntryFits, Fits, Image, Went}
+use Rattle.machine.specs.Shape.{Fits, Image, Went}
 use Rattle.decision.specs.Scan.{Scan, below, ineligible-min-vtime, is-eligible, pass, gone, blocked, no-addr-space, ready, visited}
 use Rattle.decision.specs.Scan as scan
 use Rattle.select.specs.declared.Best.{Best}

@@ -1,32 +1,30 @@
 -- The loop over the queue. Assumes nothing.
 use mathlib.Core.Path.{_≡_, refl, sym, ap, _∙_, subst}
-use mathlib.Core.Bool.{Bool, true, false}
+use mathlib.Core.Bool.{true, false}
 use mathlib.Core.List.{List, [], _∷_, _++_}
-use mathlib.Core.Option.{Option, none, some}
-use Prim.Native.Nat.{ℕ, zero, suc, _+_, _*_, _<_, _≤_}
+use Prim.Native.Nat.{ℕ, suc, _+_, _*_, _<_, _≤_}
 use native.Mathlib.Omega.{arith}
 use native.Mathlib.Numerals.{add-one}
 use lib.ListN.{length, getD, take, drop, take-append-drop}
 use lib.Seq.{take-suc, take-all}
-use Rattle.columns.specs.Common.{if_then_else_, fold}
+use Rattle.columns.specs.Common.{fold}
 use Rattle.context.specs.declared.Context.{Context}
 use Rattle.run_queue.specs.declared.Entry.{Entry}
 use Rattle.cpu_stats.specs.Words.{stats-words}
-use Rattle.percpu.specs.Cpu.{Cpu}
 use Rattle.percpu.specs.Words.{block-words}
 use Rattle.percpu.specs.Layout.{no-entry, cpu-words, counts}
 use Rattle.machine.specs.Machine.{Machine, cpu-at, with-contexts}
 use Rattle.machine.specs.Encode.{encode, cpu-place}
-use Rattle.machine.specs.Shape.{EntryFits, Fits, Image}
+use Rattle.machine.specs.Shape.{Fits, Image}
 use Rattle.machine.proofs.LookUps.{block-word}
 use Rattle.decision.specs.State.{is-some}
-use Rattle.decision.specs.Scan.{Scan, Visit, visit, visited, scan-step, scan-start, scan}
+use Rattle.decision.specs.Scan.{Scan, Visit, visit, scan-step, scan-start, scan}
 use Rattle.select.specs.declared.Best.{Best}
 use Rattle.select.specs.declared.Best.the-variants.{Nobody, Found}
 use Rattle.select.specs.declared.Scanner.{Scanner}
 use Rattle.select.specs.declared.Scanned.{Scanned}
 use Rattle.select.specs.Values.{vtime-of, best-of, best-below, scanner-cpu}
-use Rattle.select.specs.Scanning.{visit-by, visited-by, step-by, scan-by, seen, keys-in, found, ScansAt, Scans, Room, Grown}
+use Rattle.select.specs.Scanning.{visit-by, visited-by, step-by, scan-by, seen, keys-in, found, Scans, Room, Grown}
 use Rattle.select.proofs.Visited.{scans, at-as, scans-as}
 
 module _ {A B : Type 0} where

@@ -1,5 +1,5 @@
 -- What the code's values stand for in the definitions. Assumes nothing.
-use mathlib.Core.Bool.{Bool, true, false}
+use mathlib.Core.Bool.{false}
 use mathlib.Core.List.{List, [], _∷_}
 use mathlib.Core.Option.{Option, none, some}
 use Prim.Native.Nat.{ℕ, _<_}

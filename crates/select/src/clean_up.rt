@@ -1,11 +1,10 @@
 // The clean-up after the scan, V stored with it, and the winner's key out of the queue.
 ghost use mathlib.Core.Path.{_≡_};
-ghost use mathlib.Core.Bool.{Bool, false};
-ghost use mathlib.Core.List.{List};
-ghost use Prim.Native.Nat.{ℕ, _+_, _*_, _-_, _<_, _≤_};
+ghost use mathlib.Core.Bool.{false};
+ghost use Prim.Native.Nat.{_+_, _*_, _-_, _<_, _≤_};
 ghost use lib.ListN.{length};
 ghost use Rattle.run_queue.specs.declared.Key.{Key};
-ghost use Rattle.machine.specs.Shape.{ContextFits, Image};
+ghost use Rattle.machine.specs.Shape.{Image};
 ghost use Rattle.decision.specs.State.{State, queue-key};
 ghost use Rattle.decision.specs.Choice.{dequeued, taken-out};
 ghost use Rattle.stages.specs.Stage.{Staged};

@@ -1,7 +1,7 @@
 // An entry judged, by value.
 ghost use mathlib.Core.Path.{_≡_};
 ghost use mathlib.Core.Bool.{false, _&&_, not};
-ghost use Prim.Native.Nat.{ℕ, _<_, _≤_};
+ghost use Prim.Native.Nat.{_<_, _≤_};
 ghost use Rattle.columns.specs.Common.{if_then_else_};
 ghost use Rattle.decision.specs.State.{is-some, without-key};
 ghost use Rattle.decision.specs.Scan.{above, below, is-of, ineligible-min-vtime, is-eligible, judge};

@@ -9,16 +9,15 @@ mod scan;
 use context::Context;
 use run_queue::Entry;
 ghost use mathlib.Core.Path.{_≡_};
-ghost use mathlib.Core.Bool.{Bool, false};
-ghost use mathlib.Core.List.{List};
-ghost use Prim.Native.Nat.{ℕ, _<_, _≤_};
+ghost use mathlib.Core.Bool.{false};
+ghost use Prim.Native.Nat.{_<_, _≤_};
 ghost use lib.ListN.{length};
 ghost use Rattle.machine.specs.Shape.{Image};
 ghost use Rattle.decision.specs.State.{State};
 ghost use Rattle.decision.specs.Choice.{choice, chosen};
 ghost use Rattle.decision.specs.Decision.{scanned};
 ghost use Rattle.stages.specs.Stage.{Stage};
-ghost use Rattle.select.specs.Values.{choice-of, best-below};
+ghost use Rattle.select.specs.Values.{choice-of, best-below, winner-below};
 ghost use Rattle.select.specs.Scanning.{found};
 ghost use Rattle.select.specs.Holding.{Holding};
 ghost use Rattle.select.specs.Cleaning.{settled};
@@ -93,6 +92,7 @@ fn settle(m: &mut [u64], d: &[u64], c: usize, n: usize, k: usize, h: Holder, w: 
     requires { ⌜ (k < c) × (w .«contexts_to_remove» ≤ 64) × (length (now d) ≡ 192) ⌝ }
     requires { ⌜ (best-below n (w .«eligible_best»)) × (best-below n (w .«ineligible_best»)) ⌝ }
     ensures { λ r. ⌜ ((s : State) → Holding h s → Stage c n k (now (m .entry)) (now (m .exit)) false (choice-of r) (λ (a : State). settled s (found (a .contexts) w (now (d .entry))) a) (λ (a : State). choice s (found (a .contexts) w (now (d .entry))))) ⌝ }
+    ensures { λ r. ⌜ winner-below n (r .winner) ⌝ }
 {
     let r = choice::choose(m, c, n, h, w);
     clean_up::clean_up(m, d, c, n, k, w.weight_change, w.contexts_to_remove, r.v);
@@ -101,11 +101,12 @@ fn settle(m: &mut [u64], d: &[u64], c: usize, n: usize, k: usize, h: Holder, w: 
     r
 }
 
-// The scan of CPU k's queue at a time, the clean-up and the choice; d is scratch.
+// The scan of CPU k's queue at a time, the clean-up and the choice; d is scratch, three words for each of 64 keys.
 pub fn select(m: &mut [u64], d: &mut [u64], c: usize, n: usize, k: usize, time: u64) -> Selected
     requires { ⌜ Image c n (now m) ⌝ }
     requires { ⌜ (k < c) × (length (now d) ≡ 192) ⌝ }
     ensures { λ r. ⌜ Stage c n k (now (m .entry)) (now (m .exit)) false (choice-of r) (λ (s : State). chosen (choice s (scanned k time s)) (scanned k time s) s) (λ (s : State). choice s (scanned k time s)) ⌝ }
+    ensures { λ r. ⌜ winner-below n (r .winner) ⌝ }
 {
     let b = stages::load_block(m, c, n, k);
     let h = read::holder(m, c, n, k, b);

@@ -1,8 +1,8 @@
 // The scan of the queue, in place on the image.
 ghost use mathlib.Core.Path.{_≡_};
-ghost use mathlib.Core.List.{List, [], _∷_, _++_};
-ghost use Prim.Native.Nat.{ℕ, _+_, _*_, _<_, _≤_};
-ghost use lib.ListN.{length, getD};
+ghost use mathlib.Core.List.{[], _∷_, _++_};
+ghost use Prim.Native.Nat.{_+_, _*_, _<_, _≤_};
+ghost use lib.ListN.{length};
 ghost use Rattle.machine.specs.Machine.{Machine, cpu-at};
 ghost use Rattle.machine.specs.Encode.{encode};
 ghost use Rattle.machine.specs.Shape.{ContextFits, EntryFits, Fits, Image};

@@ -1,16 +1,10 @@
 use Rattle.select.proofs.Choosing.{alone-runs, alone-stopped}
-use borrow.Author.Needs.{needs}
-use native.Mathlib.Omega.{arith}
 use Rattle.select.proofs.choice.alone.Statement.{statement}
 use Rattle.select.proofs.choice.alone.Tie as tie
-use Rattle.select.proofs.choice.alone.Reads as reads
-use Rattle.select.proofs.choice.alone.Lts as lts
 
--- src/choice.rt:117:9
 returns : tie.Need-returns
 returns c = (λ s o. alone-runs _ s o (c .if1 .taken), λ n. tt)
 
--- src/choice.rt:113:1
 returns-2 : tie.Need-returns-2
 returns-2 c = (λ s o. alone-stopped _ s o (c .if1 .left), λ n. tt)
 

@@ -3,24 +3,16 @@ use native.Mathlib.Omega.{arith}
 use borrow.Author.Needs.{needs}
 use Rattle.select.proofs.choice.least.Statement.{statement}
 use Rattle.select.proofs.choice.least.Tie as tie
-use Rattle.select.proofs.choice.least.Reads as reads
-use Rattle.select.proofs.choice.least.Lts as lts
-use Rattle.machine.proofs.index.Reads as index-reads
-use Rattle.select.proofs.choice.goes_on.Reads as goes-on-reads
 
--- src/choice.rt:134:9
 index-requires : tie.Need-index-requires
 index-requires c κs = search needs
 
--- src/choice.rt:135:8
 goes-on-requires : tie.Need-goes-on-requires
 goes-on-requires c κs = search needs
 
--- src/choice.rt:136:9
 returns : tie.Need-returns
 returns c = (λ s o. least-kept _ s o (c .before .before .before .args .e) _ (c .before .before .index .ensures) _ (c .before .goes-on .ensures) (c .if1 .taken), λ n l. tt)
 
--- src/choice.rt:131:1
 returns-2 : tie.Need-returns-2
 returns-2 c = (λ s o. least-wins _ s o (c .before .before .before .args .e) _ (c .before .before .index .ensures) _ (c .before .goes-on .ensures) (c .if1 .left), λ n l. omega (arith, c .before .before .index .ensures))
 

@@ -1,45 +1,31 @@
 use Rattle.select.specs.Values.{best-of}
 use mathlib.Core.Path.{ap}
 use Rattle.select.proofs.Choosing.{without-kept, without-late, best-at}
-use native.Mathlib.Omega.{arith}
 use borrow.Author.Needs.{needs}
 use Rattle.select.proofs.choice.without_entry.Statement.{statement}
 use Rattle.select.proofs.choice.without_entry.Tie as tie
-use Rattle.select.proofs.choice.without_entry.Reads as reads
-use Rattle.select.proofs.choice.without_entry.Lts as lts
-use Rattle.select.proofs.choice.alone.Reads as alone-reads
-use Rattle.select.proofs.choice.least.Reads as least-reads
-use Rattle.select.proofs.choice.locked.Reads as locked-reads
 
--- src/choice.rt:157:21
 locked-requires : tie.Need-locked-requires
 locked-requires c κs = search needs
 
--- src/choice.rt:154:9
 returns : tie.Need-returns
 returns c = (λ s f o hl. without-kept _ s o f hl (c .locked .ensures) (c .before .if1 .taken), λ n l. tt)
 
--- src/choice.rt:161:25
 enum-told : tie.Need-enum-told
 enum-told c = search needs
 
--- src/choice.rt:161:25
 alone-requires : tie.Need-alone-requires
 alone-requires c κs = search needs
 
--- src/choice.rt:162:21
 enum-known-late : tie.Need-enum-known-late
 enum-known-late c = search needs
 
--- src/choice.rt:162:27
 least-requires : tie.Need-least-requires
 least-requires c κs = search needs
 
--- src/choice.rt:150:1
 returns-2 : tie.Need-returns-2
 returns-2 c = (λ s f o hl. without-late _ s o f hl (ap best-of (c .before .enum-told .given .1)) (c .before .before .before .if1 .left) (c .alone .ensures .0 s o), λ n l. c .alone .ensures .1 n)
 
--- src/choice.rt:150:1
 returns-3 : tie.Need-returns-3
 returns-3 c = (λ s f o hl. without-late _ s o f hl (ap best-of (c .before .before .late .given .1)) (c .before .before .before .before .if1 .left) (c .least .ensures .0 s o), λ n l. c .least .ensures .1 n (best-at n (c .before .before .late .given .1) l))
 

@@ -1,14 +1,10 @@
-use mathlib.Core.Path.{_≡_, refl, sym, ap, _∙_}
-use Prim.Native.Nat.{ℕ, _-_}
+use mathlib.Core.Path.{refl}
+use Prim.Native.Nat.{_-_}
 use Rattle.select.proofs.Cleaning.{Removing, remove-none, remove-next, remove-all}
 use borrow.Author.Needs.{needs}
 use native.Mathlib.Omega.{arith}
 use Rattle.select.proofs.clean_up.remove_keys.Statement.{statement}
 use Rattle.select.proofs.clean_up.remove_keys.Tie as tie
-use Rattle.select.proofs.clean_up.remove_keys.Reads as reads
-use Rattle.select.proofs.clean_up.remove_keys.Lts as lts
-use Rattle.select.proofs.clean_up.key_of.Reads as key-of-reads
-use Rattle.stages.proofs.remove_key.Reads as remove-key-reads
 
 abbrev Inv-loop : tie.InvT-loop
 Inv-loop m₀ d c n k number j₀ m j = Removing c n k number m₀ m d j
@@ -16,35 +12,27 @@ Inv-loop m₀ d c n k number j₀ m j = Removing c n k number m₀ m d j
 abbrev μ-loop : tie.MeasureT-loop
 μ-loop m₀ d c n k number j₀ m j = number - j
 
--- src/clean_up.rt:63:5
 loop-holds : tie.Need-loop-holds Inv-loop μ-loop
 loop-holds c = record { here = omega arith; same = refl; stage = remove-none _ (c .before .before .pre .0) }
 
--- src/clean_up.rt:64:13
 key-of-requires : tie.Need-key-of-requires Inv-loop μ-loop
 key-of-requires c κs = (c .before .before .before .before .pre .1 .2, omega (arith, c .loop-test .taken, c .before .before .before .before .pre .1 .1))
 
--- src/clean_up.rt:65:9
 remove-key-requires : tie.Need-remove-key-requires Inv-loop μ-loop
 remove-key-requires c κs = (c .before .before .before .loop .inv .stage .image refl, c .before .before .before .before .before .before .pre .1 .0)
 
--- src/clean_up.rt:66:9
 add-j : tie.Need-add-j Inv-loop μ-loop
 add-j c = search needs
 
--- src/clean_up.rt:63:5
 loop-less : tie.Need-loop-less Inv-loop μ-loop
 loop-less c = search needs
 
--- src/clean_up.rt:63:5
 loop-again : tie.Need-loop-again Inv-loop μ-loop
 loop-again c = record { here = omega arith; same = omega (arith, c .before .before .before .before .before .before .loop .inv .same); stage = remove-next _ _ (c .before .before .before .before .before .before .before .before .before .pre .1 .0) (c .before .before .before .before .key-of .ensures) (c .before .before .before .before .before .before .loop .inv .stage) (c .before .before .remove-key .ensures) }
 
--- src/clean_up.rt:57:1
 same-length : tie.Need-same-length Inv-loop μ-loop
 same-length c = search needs
 
--- src/clean_up.rt:57:1
 returns : tie.Need-returns Inv-loop μ-loop
 returns c = remove-all _ (omega (arith, c .before .loop .inv .here, c .loop-test .left)) (c .before .loop .inv .stage)
 

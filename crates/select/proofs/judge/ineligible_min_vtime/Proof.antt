@@ -1,23 +1,16 @@
-use native.Mathlib.Omega.{arith}
 use borrow.Author.Needs.{needs}
 use Rattle.select.proofs.judge.ineligible_min_vtime.Statement.{statement}
 use Rattle.select.proofs.judge.ineligible_min_vtime.Tie as tie
-use Rattle.select.proofs.judge.ineligible_min_vtime.Reads as reads
-use Rattle.select.proofs.judge.ineligible_min_vtime.Lts as lts
 
--- src/judge.rt:68:25
 enum-told : tie.Need-enum-told
 enum-told c = search needs
 
--- src/judge.rt:69:21
 enum-known-p : tie.Need-enum-known-p
 enum-known-p c = search needs
 
--- src/judge.rt:64:1
 returns : tie.Need-returns
 returns c = search needs
 
--- src/judge.rt:64:1
 returns-2 : tie.Need-returns-2
 returns-2 c = rw (c .before .p .given .1)
 

@@ -1,23 +1,16 @@
-use native.Mathlib.Omega.{arith}
 use borrow.Author.Needs.{needs}
 use Rattle.select.proofs.judge.is_of.Statement.{statement}
 use Rattle.select.proofs.judge.is_of.Tie as tie
-use Rattle.select.proofs.judge.is_of.Reads as reads
-use Rattle.select.proofs.judge.is_of.Lts as lts
 
--- src/judge.rt:50:25
 enum-told : tie.Need-enum-told
 enum-told c = search needs
 
--- src/judge.rt:51:21
 enum-known-p : tie.Need-enum-known-p
 enum-known-p c = search needs
 
--- src/judge.rt:46:1
 returns : tie.Need-returns
 returns c = search needs
 
--- src/judge.rt:46:1
 returns-2 : tie.Need-returns-2
 returns-2 c = rw (c .before .before .p .given .1)
 

@@ -1,34 +1,24 @@
 use mathlib.Core.Path.{sym, _∙_}
 use borrow.Author.Tests.{le-leb, lt-leb}
 use Rattle.select.specs.Values.{picked}
-use native.Mathlib.Omega.{arith}
 use borrow.Author.Needs.{needs}
 use Rattle.select.proofs.judge.pick.Statement.{statement}
 use Rattle.select.proofs.judge.pick.Tie as tie
-use Rattle.select.proofs.judge.pick.Reads as reads
-use Rattle.select.proofs.judge.pick.Lts as lts
-use Rattle.select.proofs.judge.below.Reads as below-reads
-use Rattle.select.proofs.judge.ineligible_min_vtime.Reads as ineligible-min-vtime-reads
 
--- src/judge.rt:149:9
 returns : tie.Need-returns
 unfolding picked
 returns c = rw (le-leb _ _ (c .if1 .taken))
 
--- src/judge.rt:157:9
 ineligible-min-vtime-requires : tie.Need-ineligible-min-vtime-requires
 ineligible-min-vtime-requires c κs = search needs
 
--- src/judge.rt:158:8
 below-requires : tie.Need-below-requires
 below-requires c κs = search needs
 
--- src/judge.rt:159:9
 returns-2 : tie.Need-returns-2
 unfolding picked
 returns-2 c = rw (lt-leb _ _ (c .before .before .before .if1 .left), ← c .before .before .ineligible-min-vtime .ensures, sym (c .before .below .ensures) ∙ c .if2 .taken)
 
--- src/judge.rt:143:1
 returns-3 : tie.Need-returns-3
 unfolding picked
 returns-3 c = rw (lt-leb _ _ (c .before .before .before .if1 .left), ← c .before .before .ineligible-min-vtime .ensures, sym (c .before .below .ensures) ∙ c .if2 .left)

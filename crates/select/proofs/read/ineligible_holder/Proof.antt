@@ -1,21 +1,14 @@
 use Rattle.select.proofs.Choosing.{holder-late, holder-not-late}
-use native.Mathlib.Omega.{arith}
 use borrow.Author.Needs.{needs}
 use Rattle.select.proofs.read.ineligible_holder.Statement.{statement}
 use Rattle.select.proofs.read.ineligible_holder.Tie as tie
-use Rattle.select.proofs.read.ineligible_holder.Reads as reads
-use Rattle.select.proofs.read.ineligible_holder.Lts as lts
-use Rattle.select.proofs.judge.both.Reads as both-reads
 
--- src/read.rt:56:8
 both-requires : tie.Need-both-requires
 both-requires c κs = search needs
 
--- src/read.rt:57:9
 returns : tie.Need-returns
 returns c = λ s o. holder-late _ s o _ (c .before .both .ensures) (c .if1 .taken)
 
--- src/read.rt:53:1
 returns-2 : tie.Need-returns-2
 returns-2 c = λ s o. holder-not-late _ s o _ (c .before .both .ensures) (c .if1 .left)
 

@@ -4,43 +4,28 @@ use native.Mathlib.Omega.{arith}
 use borrow.Author.Needs.{needs}
 use Rattle.select.proofs.scan.give_up_blocked.Statement.{statement}
 use Rattle.select.proofs.scan.give_up_blocked.Tie as tie
-use Rattle.select.proofs.scan.give_up_blocked.Reads as reads
-use Rattle.select.proofs.scan.give_up_blocked.Lts as lts
-use Rattle.machine.proofs.index.Reads as index-reads
-use Rattle.machine.proofs.load.Reads as load-reads
-use Rattle.machine.proofs.store.Reads as store-reads
-use Rattle.select.proofs.judge.active_weight.Reads as active-weight-reads
-use Rattle.select.proofs.scan.give_up.Reads as give-up-reads
 
--- src/scan.rt:73:9
 index-requires : tie.Need-index-requires
 index-requires c κs = search needs
 
--- src/scan.rt:74:9
 load-requires : tie.Need-load-requires
 load-requires c κs = search needs
 
--- src/scan.rt:75:9
 active-weight-requires : tie.Need-active-weight-requires
 active-weight-requires c κs = search needs
 
--- src/scan.rt:76:5
 store-requires : tie.Need-store-requires
 store-requires c κs = search needs
 
--- src/scan.rt:78:5
 give-up-requires : tie.Need-give-up-requires
 give-up-requires c κs = ((c .before .before .before .before .before .before .before .before .before .before .before .before .pre .1 .1 .0 .keys, c .before .before .before .before .before .before .before .before .before .before .before .before .pre .1 .1 .0 .sum, c .before .before .before .before .before .before .before .before .before .before .before .before .pre .1 .1 .0 .size), omega (arith, c .before .before .before .before .before .before .active-weight .ensures .1, c .before .before .before .before .before .before .before .before .before .before .before .before .pre .1 .0 .light))
 
--- src/scan.rt:65:1
 same-length : tie.Need-same-length
 same-length c = search needs
 
--- src/scan.rt:65:1
 same-length-2 : tie.Need-same-length-2
 same-length-2 c = search needs
 
--- src/scan.rt:65:1
 returns : tie.Need-returns
 returns c = (visited-blocked _ (c .before .before .before .before .before .before .before .before .before .before .before .before .before .before .before .args .t) (c .before .before .before .before .before .before .before .before .before .before .before .before .before .before .before .args .w) (c .before .before .before .before .before .before .before .before .before .before .before .before .before .before .before .args .e) _ (c .before .before .before .before .before .before .before .before .before .before .before .before .before .before .before .pre .0) _ (c .before .before .before .before .before .before .before .before .before .before .before .before .index .ensures) (c .before .before .before .before .before .before .before .store .ensures) refl (c .before .before .before .before .before .before .before .before .before .before .load .ensures) (c .before .before .before .before .before .before .before .before .before .active-weight .ensures .0) (c .before .before .give-up .ensures .0) (c .before .before .give-up .ensures .1), grown-given-up (c .before .before .before .before .before .before .before .before .before .before .before .before .before .before .before .pre .1 .1 .0) _ (c .before .before .give-up .ensures .0) (omega (arith, c .before .before .before .before .before .before .before .before .before .active-weight .ensures .1, c .before .before .before .before .before .before .before .before .before .before .before .before .before .before .before .pre .1 .0 .light)))
 

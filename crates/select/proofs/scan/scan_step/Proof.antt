@@ -1,32 +1,22 @@
 use Rattle.select.proofs.Walking.{step-is}
 use Rattle.select.proofs.Visited.{scans-as}
 use Rattle.select.proofs.Visiting.{verdict-fits}
-use native.Mathlib.Omega.{arith}
 use borrow.Author.Needs.{needs}
 use Rattle.select.proofs.scan.scan_step.Statement.{statement}
 use Rattle.select.proofs.scan.scan_step.Tie as tie
-use Rattle.select.proofs.scan.scan_step.Reads as reads
-use Rattle.select.proofs.scan.scan_step.Lts as lts
-use Rattle.select.proofs.scan.verdict.Reads as verdict-reads
-use Rattle.select.proofs.scan.visited.Reads as visited-reads
 
--- src/scan.rt:123:9
 verdict-requires : tie.Need-verdict-requires
 verdict-requires c κs = (c .before .before .before .pre .0, (c .before .before .before .pre .1 .1 .1, c .before .before .before .pre .1 .0 .name))
 
--- src/scan.rt:124:5
 visited-requires : tie.Need-visited-requires
 visited-requires c κs = (c .before .before .before .before .before .before .pre .0, (c .before .before .before .before .before .before .pre .1 .0, (c .before .before .before .before .before .before .pre .1 .1 .0, verdict-fits (c .before .before .before .before .before .before .pre .0) (c .before .before .before .before .before .before .args .t) (c .before .before .before .before .before .before .args .w .«ineligible_best») (c .before .before .before .before .before .before .args .e) (c .before .before .before .before .before .before .pre .1 .0 .name) (c .before .before .verdict .ensures))))
 
--- src/scan.rt:114:1
 same-length : tie.Need-same-length
 same-length c = search needs
 
--- src/scan.rt:114:1
 same-length-2 : tie.Need-same-length-2
 same-length-2 c = search needs
 
--- src/scan.rt:114:1
 returns : tie.Need-returns
 returns c = (scans-as (c .before .before .before .before .visited .ensures .0) (λ M e o. step-is (c .before .before .before .before .before .before .before .before .before .before .before .args .t) (M .contexts) (c .before .before .before .before .before .before .before .before .before .before .before .args .w) (c .before .before .before .before .before .before .before .before .before .before .before .args .d .now) (c .before .before .before .before .before .before .before .before .before .before .before .args .e) (c .before .before .before .before .before .before .before .before .before .before .before .pre .1 .1 .0 .nobody) (c .before .before .before .before .before .before .before .verdict .ensures M e o)), c .before .before .before .before .visited .ensures .1)
 

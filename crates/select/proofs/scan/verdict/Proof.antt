@@ -1,58 +1,39 @@
-use mathlib.Core.Path.{_≡_, refl, sym, ap, _∙_}
+use mathlib.Core.Path.{sym, _∙_}
 use Rattle.select.proofs.Visiting.{visit-late, visit-gone, visit-held, visit-live, gone-at, live-at, live-below, live-gone, live-record}
-use native.Mathlib.Omega.{arith}
 use borrow.Author.Needs.{needs}
 use Rattle.select.proofs.scan.verdict.Statement.{statement}
 use Rattle.select.proofs.scan.verdict.Tie as tie
-use Rattle.select.proofs.scan.verdict.Reads as reads
-use Rattle.select.proofs.scan.verdict.Lts as lts
-use Rattle.machine.proofs.load.Reads as load-reads
-use Rattle.machine.proofs.look_up.Reads as look-up-reads
-use Rattle.select.proofs.judge.is_of.Reads as is-of-reads
-use Rattle.select.proofs.judge.judged.Reads as judged-reads
-use Rattle.select.proofs.judge.too_late.Reads as too-late-reads
 
--- src/scan.rt:29:8
 too-late-requires : tie.Need-too-late-requires
 too-late-requires c κs = search needs
 
--- src/scan.rt:30:9
 returns : tie.Need-returns
 returns c = λ M e o. visit-late _ _ _ _ _ _ (sym (c .before .too-late .ensures) ∙ c .if1 .taken)
 
--- src/scan.rt:32:9
 look-up-requires : tie.Need-look-up-requires
 look-up-requires c κs = search needs
 
--- src/scan.rt:33:22
 enum-known-l : tie.Need-enum-known-l
 enum-known-l c = search needs
 
--- src/scan.rt:34:9
 enum-told : tie.Need-enum-told
 enum-told c = search needs
 
--- src/scan.rt:34:9
 returns-2 : tie.Need-returns-2
 returns-2 c = λ M e o. visit-gone _ _ _ _ _ _ (sym (c .before .before .before .before .too-late .ensures) ∙ c .before .before .before .if1 .left) (gone-at (c .before .before .before .before .before .before .pre .0) _ (c .before .before .before .before .before .before .pre .1 .1) (c .before .before .look-up .ensures) (c .enum-told .given .1) M e o)
 
--- src/scan.rt:36:8
 is-of-requires : tie.Need-is-of-requires
 is-of-requires c κs = search needs
 
--- src/scan.rt:37:9
 returns-3 : tie.Need-returns-3
 returns-3 c = λ M e o. visit-held _ _ _ _ _ _ (sym (c .before .before .before .before .before .before .before .too-late .ensures) ∙ c .before .before .before .before .before .before .if1 .left) (sym (c .before .is-of .ensures) ∙ c .if2 .taken) (live-at (c .before .before .before .before .before .before .before .before .before .pre .0) _ (c .before .before .before .before .before .before .before .before .before .pre .1 .1) (c .before .before .before .before .before .look-up .ensures) (c .before .before .before .l .given .1) M e o .alive)
 
--- src/scan.rt:39:9
 load-requires : tie.Need-load-requires
 load-requires c κs = (c .before .before .before .before .before .before .before .before .before .pre .0, live-below (c .before .before .before .before .before .before .before .before .before .pre .0) _ (c .before .before .before .before .before .before .before .before .before .pre .1 .1) (c .before .before .before .before .before .look-up .ensures) (c .before .before .before .l .given .1))
 
--- src/scan.rt:40:5
 judged-requires : tie.Need-judged-requires
 judged-requires c κs = (c .before .before .before .before .before .before .before .before .before .before .pre .1 .0, live-gone (c .before .before .before .before .before .before .before .before .before .before .pre .0) _ (c .before .before .before .before .before .before .before .before .before .before .pre .1 .1) (c .before .before .before .before .before .before .look-up .ensures) (c .before .before .before .before .l .given .1) (c .load .ensures))
 
--- src/scan.rt:24:1
 returns-4 : tie.Need-returns-4
 returns-4 c = λ M e o. c .judged .ensures ∙ visit-live _ _ _ _ _ _ (sym (c .before .before .before .before .before .before .before .before .before .too-late .ensures) ∙ c .before .before .before .before .before .before .before .before .if1 .left) (sym (c .before .before .before .is-of .ensures) ∙ c .before .before .if2 .left) (live-record (c .before .before .before .before .before .before .before .before .before .before .before .pre .0) _ (c .before .before .before .before .before .before .before .before .before .before .before .pre .1 .1) (c .before .before .before .before .before .before .before .look-up .ensures) (c .before .before .before .before .before .l .given .1) (c .before .load .ensures) M e o)
 
