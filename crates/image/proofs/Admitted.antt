@@ -161,8 +161,8 @@ module _ {time : ℕ} (m : List ℕ) (p : Passed time m) where
   a-rising k h =
       by-test (eqb (getD (block-at k) 0 0) 0)
       (λ t.
-        let z = a-block k h .absent (eqb-true (getD (block-at k) 0 0) 0 t)
-        in record { keys = λ i b. absurd (omega (arith, z 21 (omega arith))); timers = λ i b. absurd (omega (arith, z 22 (omega arith))) })
+      let z = a-block k h .absent (eqb-true (getD (block-at k) 0 0) 0 t)
+      in record { keys = λ i b. absurd (omega (arith, z 21 (omega arith))); timers = λ i b. absurd (omega (arith, z 22 (omega arith))) })
       (λ t. rising (block-at k) (block-structure-of k h t))
 
   whole : WholeImage m
