@@ -44,8 +44,8 @@ pub stage-none : {c n k : ℕ} {m : List ℕ} → Image c n m → Staged c n k m
 stage-none {k = k} i =
     staged i
     (λ M e o.
-      let z = put-contexts k (M .contexts) M
-      in record { room = refl; after = λ y. e ∙ ap encode z; fits = λ y. subst (Fits _ _) z o; answer = λ y. refl })
+    let z = put-contexts k (M .contexts) M
+    in record { room = refl; after = λ y. e ∙ ap encode z; fits = λ y. subst (Fits _ _) z o; answer = λ y. refl })
 
 -- the keys, one by one
 pub remove-none : {c n k : ℕ} {m : List ℕ} (d : List ℕ) → Image c n m → Staged c n k m m false (λ (s : State). remove-keys (keys-in d 0) s)
@@ -128,9 +128,9 @@ module _ {c n : ℕ} {m : List ℕ} (k x : ℕ) {q : Context} (h : k < c) (i : I
   dequeued-key {q' = q'} {key = key} t e f a u =
       stage-as (stage-then h a u)
       (λ M z o.
-        let w : q' ≡ without-key (context-at (M .contexts) x) = e ∙ ap without-key (hq M z o)
-        in let y : key ≡ queue-key (context-at (M .contexts) x) = f ∙ ap queue-key (hq M z o)
-        in ((λ j. remove-key (y j) (put-context x (w j) (state-of k M))) ∙ first-arm _ _ (state-of k M) (has true t M z o), λ r g. refl))
+      let w : q' ≡ without-key (context-at (M .contexts) x) = e ∙ ap without-key (hq M z o)
+      in let y : key ≡ queue-key (context-at (M .contexts) x) = f ∙ ap queue-key (hq M z o)
+      in ((λ j. remove-key (y j) (put-context x (w j) (state-of k M))) ∙ first-arm _ _ (state-of k M) (has true t M z o), λ r g. refl))
 
   pub dequeued-none : q .«has_queue_key» ≡ false → Staged c n k m m false (λ (s : State). dequeued x s)
   dequeued-none t = stage-as (stage-none i) (λ M z o. (other _ _ (has false t M z o), λ r g. refl))

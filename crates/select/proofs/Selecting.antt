@@ -24,7 +24,7 @@ use Rattle.select.specs.declared.Scanned.{Scanned}
 use Rattle.select.specs.Values.{vtime-of, cpu-with}
 use Rattle.select.specs.Holding.{Holding, Scanning, Chosen}
 use Rattle.select.specs.Scanning.{scan-by, keys-in, found, Scans}
-use Rattle.select.specs.Cleaning.{cleaned, settled}
+use Rattle.select.specs.Cleaning.{cleaned, chosen-after}
 use Rattle.select.proofs.Cleaning.{put-contexts, cleaned-is}
 
 -- the holder of CPU k, from its block b
@@ -67,44 +67,44 @@ scan-stage : {c n k : ℕ} {m m' d : List ℕ} {w : Scanned} (t : Scanner) → I
 scan-stage {k = k} t i a =
     staged i
     (λ M e o.
-      let z = a .scans M e o
-      in let p = put-contexts k (scan-by t (M .contexts) (cpu-at M k .queue) .contexts) M
-      in record { room = refl; after = λ y. z .after ∙ ap encode p; fits = λ y. subst (Fits _ _) p (z .fits); answer = λ y. refl })
+    let z = a .scans M e o
+    in let p = put-contexts k (scan-by t (M .contexts) (cpu-at M k .queue) .contexts) M
+    in record { room = refl; after = λ y. z .after ∙ ap encode p; fits = λ y. subst (Fits _ _) p (z .fits); answer = λ y. refl })
 
 -- the choice and its effect, after the scan
-pub settle-then : {c n k : ℕ} {m m' m'' : List ℕ} (s : State) (w : Scanned) (d : List ℕ) {r : Choice} {h : Holder} → k < c
+pub apply-then : {c n k : ℕ} {m m' m'' : List ℕ} (s : State) (w : Scanned) (d : List ℕ) {r : Choice} {h : Holder} → k < c
     → ((M : Machine) → m ≡ encode M → Fits c n M → (s : State) (f : Scan) → Holding h s → Chosen (M .contexts) w f → r ≡ choice s f) → Holding h s
     → Staged c n k m m' false (λ (a : State). cleaned (w .«weight_change») (keys-in d (w .«contexts_to_remove»)) (r .v) a) → Staged c n k m' m'' false (λ (a : State). taken-out (r .winner) a)
-    → Stage c n k m m'' false r (λ (a : State). settled s (found (a .contexts) w d) a) (λ (a : State). choice s (found (a .contexts) w d))
-unfolding settled found
-settle-then {k = k} s w d {r} h g o t u =
+    → Stage c n k m m'' false r (λ (a : State). chosen-after s (found (a .contexts) w d) a) (λ (a : State). choice s (found (a .contexts) w d))
+unfolding chosen-after found
+apply-then {k = k} s w d {r} h g o t u =
     stage-as (stage-then h t u)
     (λ M e b.
-      let z : r ≡ choice s (found (M .contexts) w d) = g M e b s (found (M .contexts) w d) o (record { contexts = refl; best = refl; late = refl })
-      in ((λ j. taken-out ((z j) .winner) (cleaned (w .«weight_change») (keys-in d (w .«contexts_to_remove»)) ((z j) .v) (state-of k M))), λ f y. z))
+    let z : r ≡ choice s (found (M .contexts) w d) = g M e b s (found (M .contexts) w d) o (record { contexts = refl; best = refl; late = refl })
+    in ((λ j. taken-out ((z j) .winner) (cleaned (w .«weight_change») (keys-in d (w .«contexts_to_remove»)) ((z j) .v) (state-of k M))), λ f y. z))
 
-settled-is : (s : State) (f : Scan) → settled s f (with-scan f s) ≡ chosen (choice s f) f s
-unfolding settled chosen
-settled-is s f = ap (taken-out ((choice s f) .winner)) (cleaned-is f ((choice s f) .v) s)
+chosen-after-is : (s : State) (f : Scan) → chosen-after s f (with-scan f s) ≡ chosen (choice s f) f s
+unfolding chosen-after chosen
+chosen-after-is s f = ap (taken-out ((choice s f) .winner)) (cleaned-is f ((choice s f) .v) s)
 
 -- the whole stage
 pub select-then : {c n : ℕ} {m m' m'' : List ℕ} (k time : ℕ) (d : List ℕ) (w : Scanned) (t : Scanner) {h : Holder} {r : Choice} (i : Image c n m) → k < c
     → ((M : Machine) → m ≡ encode M → Fits c n M → Holding h (state-of k M)) → ((M : Machine) → m ≡ encode M → Fits c n M → Scanning k time t (state-of k M))
     → Scans c n m m' d w (λ (M : Machine). scan-by t (M .contexts) (cpu-at M k .queue))
-    → ((s : State) → Holding h s → Stage c n k m' m'' false r (λ (a : State). settled s (found (a .contexts) w d) a) (λ (a : State). choice s (found (a .contexts) w d)))
+    → ((s : State) → Holding h s → Stage c n k m' m'' false r (λ (a : State). chosen-after s (found (a .contexts) w d) a) (λ (a : State). choice s (found (a .contexts) w d)))
     → Stage c n k m m'' false r (λ (s : State). chosen (choice s (scanned k time s)) (scanned k time s) s) (λ (s : State). choice s (scanned k time s))
 select-then {c} {n} k time d w t i b ho hs a u =
     staged i
     (λ M e o.
-      let s = state-of k M
-      in let z = stage-then b (scan-stage t i a) (u s (ho M e o)) .stage M e o
-      in let f = scan-by t (M .contexts) (cpu-at M k .queue)
-      in let q : found (f .contexts) w d ≡ scanned k time s = a .scans M e o .same ∙ scan-is k time t s (hs M e o)
-      in let p : settled s (found (f .contexts) w d) (with-scan f s) ≡ chosen (choice s (scanned k time s)) (scanned k time s) s =
-      (λ j. settled s (q j) (with-scan (scan-is k time t s (hs M e o) j) s)) ∙ settled-is s (scanned k time s)
-      in record {
-        room = z .room ∙ ap (λ (x : State). x .no-room) p;
-        after = λ y. z .after y ∙ ap (λ (x : State). encode (put-state k x M)) p;
-        fits = λ y. subst (λ (x : State). Fits c n (put-state k x M)) p (z .fits y);
-        answer = λ y. z .answer y ∙ ap (choice s) q;
-      })
+    let s = state-of k M
+    in let z = stage-then b (scan-stage t i a) (u s (ho M e o)) .stage M e o
+    in let f = scan-by t (M .contexts) (cpu-at M k .queue)
+    in let q : found (f .contexts) w d ≡ scanned k time s = a .scans M e o .same ∙ scan-is k time t s (hs M e o)
+    in let p : chosen-after s (found (f .contexts) w d) (with-scan f s) ≡ chosen (choice s (scanned k time s)) (scanned k time s) s =
+    (λ j. chosen-after s (q j) (with-scan (scan-is k time t s (hs M e o) j) s)) ∙ chosen-after-is s (scanned k time s)
+    in record {
+      room = z .room ∙ ap (λ (x : State). x .no-room) p;
+      after = λ y. z .after y ∙ ap (λ (x : State). encode (put-state k x M)) p;
+      fits = λ y. subst (λ (x : State). Fits c n (put-state k x M)) p (z .fits y);
+      answer = λ y. z .answer y ∙ ap (choice s) q;
+    })

@@ -18,6 +18,7 @@ use Rattle.machine.specs.Encode.{encode, cpu-place}
 use Rattle.machine.specs.Shape.{Fits, Image}
 use Rattle.machine.proofs.LookUps.{block-word}
 use Rattle.decision.specs.State.{is-some}
+use Rattle.decision.proofs.EarlyExit.{fold-still}
 use Rattle.decision.specs.Scan.{Scan, Visit, visit, scan-step, scan-start, scan}
 use Rattle.select.specs.declared.Best.{Best}
 use Rattle.select.specs.declared.Best.the-variants.{Nobody, Found}
@@ -36,14 +37,9 @@ module _ {A B : Type 0} where
   fold-take : (f : B → A → B) (b : B) (l : List A) (i : ℕ) (d : A) → i < length l → fold f b (take (suc i) l) ≡ f (fold f b (take i l)) (getD l i d)
   fold-take f b l i d h = rw (take-suc l i d h, fold-append f b (take i l) (getD l i d ∷ []))
 
-  -- a state that stays
-  fold-stays : (f : B → A → B) (b : B) → ((x : A) → f b x ≡ b) → (l : List A) → fold f b l ≡ b
-  fold-stays f b h [] = refl
-  fold-stays f b h (x ∷ xs) = ap (λ (y : B). fold f y xs) (h x) ∙ fold-stays f b h xs
-
   fold-early : (f : B → A → B) (b : B) (l : List A) (i : ℕ) → ((x : A) → f (fold f b (take i l)) x ≡ fold f b (take i l)) → fold f b (take i l) ≡ fold f b l
   fold-early f b l i h =
-      sym (ap (λ (y : List A). fold f b y) (sym (take-append-drop i l)) ∙ fold-append f b (take i l) (drop i l) ∙ fold-stays f (fold f b (take i l)) h (drop i l))
+      sym (ap (λ (y : List A). fold f b y) (sym (take-append-drop i l)) ∙ fold-append f b (take i l) (drop i l) ∙ fold-still f (fold f b (take i l)) (drop i l) h)
 
 nobody-none : {b : Best} → b ≡ Nobody → is-some (best-of b) ≡ false
 nobody-none e = ap (λ (y : Best). is-some (best-of y)) e

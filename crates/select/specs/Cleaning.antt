@@ -24,5 +24,5 @@ cleaned change ks v s =
     remove-keys ks (on-cpu (λ (p : Cpu). cpu-block (lightened (p .block) change (length (p .queue)) v) p) s)
 
 -- the choice for the holder of s, after the scan f, in the state a
-unfoldable pub settled : State → Scan → State → State
-settled s f a = taken-out ((choice s f) .winner) (cleaned (f .weight-change) (f .contexts-to-remove) ((choice s f) .v) a)
+unfoldable pub chosen-after : State → Scan → State → State
+chosen-after s f a = taken-out ((choice s f) .winner) (cleaned (f .weight-change) (f .contexts-to-remove) ((choice s f) .v) a)

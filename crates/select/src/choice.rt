@@ -12,14 +12,14 @@ ghost use Rattle.decision.specs.Scan.{Scan};
 ghost use Rattle.decision.specs.Choice.{named, against, nobody, without-entry, choice};
 ghost use Rattle.select.specs.Values.{best-of, locked-of, choice-of, best-below, winner-below};
 ghost use Rattle.select.specs.Holding.{Holding, Chosen};
-use context::Context;
-use run_queue::Entry;
-use crate::judge::both;
 use crate::Best;
 use crate::Holder;
 use crate::Scanned;
 use crate::Selected;
 use crate::Winner;
+use crate::judge::both;
+use context::Context;
+use run_queue::Entry;
 
 fn either(a: bool, b: bool) -> bool
     ensures { λ r. ⌜ r ≡ (a || b) ⌝ }

@@ -11,11 +11,11 @@ ghost use Rattle.stages.specs.Stage.{Staged};
 ghost use Rattle.select.specs.Values.{winner-of, winner-below};
 ghost use Rattle.select.specs.Scanning.{key-at, keys-in};
 ghost use Rattle.select.specs.Cleaning.{lightened, remove-keys, cleaned};
+use crate::Winner;
+use crate::judge;
 use context::Context;
 use percpu::PercpuBlock;
 use run_queue::Key;
-use crate::judge;
-use crate::Winner;
 
 // What is left of a weight.
 fn reduced(total: u64, change: u64) -> u64
@@ -67,7 +67,16 @@ fn remove_keys(m: &mut [u64], d: &[u64], c: usize, n: usize, k: usize, number: u
 }
 
 // The weight and the keys that the scan gave up leave, and V becomes v.
-pub fn clean_up(m: &mut [u64], d: &[u64], c: usize, n: usize, k: usize, weight_change: u64, number: usize, v: u64)
+pub fn clean_up(
+    m: &mut [u64],
+    d: &[u64],
+    c: usize,
+    n: usize,
+    k: usize,
+    weight_change: u64,
+    number: usize,
+    v: u64,
+)
     requires { ⌜ Image c n (now m) ⌝ }
     requires { ⌜ (k < c) × (number ≤ 64) × (length (now d) ≡ 192) ⌝ }
     ensures { λ r. ⌜ Staged c n k (now (m .entry)) (now (m .exit)) false (λ (s : State). cleaned «weight_change» (keys-in (now (d .entry)) number) v s) ⌝ }

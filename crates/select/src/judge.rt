@@ -6,14 +6,14 @@ ghost use Rattle.columns.specs.Common.{if_then_else_};
 ghost use Rattle.decision.specs.State.{is-some, without-key};
 ghost use Rattle.decision.specs.Scan.{above, below, is-of, ineligible-min-vtime, is-eligible, judge};
 ghost use Rattle.select.specs.Values.{vtime-of, best-of, visit-of, scanner-cpu, deactivated, picked};
-use context::Context;
-use run_queue::Entry;
-use runnable::UpdateResult;
 use crate::Best;
 use crate::MinVtime;
 use crate::Scanned;
 use crate::Scanner;
 use crate::Visit;
+use context::Context;
+use run_queue::Entry;
+use runnable::UpdateResult;
 
 // Both, as a value: one test to branch on.
 pub fn both(a: bool, b: bool) -> bool

@@ -20,7 +20,7 @@ ghost use Rattle.stages.specs.Stage.{Stage};
 ghost use Rattle.select.specs.Values.{choice-of, best-below, winner-below};
 ghost use Rattle.select.specs.Scanning.{found};
 ghost use Rattle.select.specs.Holding.{Holding};
-ghost use Rattle.select.specs.Cleaning.{settled};
+ghost use Rattle.select.specs.Cleaning.{chosen-after};
 
 // A least vtime, if there is one.
 pub enum MinVtime {
@@ -87,11 +87,19 @@ pub struct Selected {
 }
 
 // After the scan of CPU k's queue, which found w: the choice, the clean-up, and the winner's key out of the queue.
-fn settle(m: &mut [u64], d: &[u64], c: usize, n: usize, k: usize, h: Holder, w: Scanned) -> Selected
+fn apply_choice(
+    m: &mut [u64],
+    d: &[u64],
+    c: usize,
+    n: usize,
+    k: usize,
+    h: Holder,
+    w: Scanned,
+) -> Selected
     requires { ⌜ Image c n (now m) ⌝ }
     requires { ⌜ (k < c) × (w .«contexts_to_remove» ≤ 64) × (length (now d) ≡ 192) ⌝ }
     requires { ⌜ (best-below n (w .«eligible_best»)) × (best-below n (w .«ineligible_best»)) ⌝ }
-    ensures { λ r. ⌜ ((s : State) → Holding h s → Stage c n k (now (m .entry)) (now (m .exit)) false (choice-of r) (λ (a : State). settled s (found (a .contexts) w (now (d .entry))) a) (λ (a : State). choice s (found (a .contexts) w (now (d .entry))))) ⌝ }
+    ensures { λ r. ⌜ ((s : State) → Holding h s → Stage c n k (now (m .entry)) (now (m .exit)) false (choice-of r) (λ (a : State). chosen-after s (found (a .contexts) w (now (d .entry))) a) (λ (a : State). choice s (found (a .contexts) w (now (d .entry))))) ⌝ }
     ensures { λ r. ⌜ winner-below n (r .winner) ⌝ }
 {
     let r = choice::choose(m, c, n, h, w);
@@ -101,16 +109,23 @@ fn settle(m: &mut [u64], d: &[u64], c: usize, n: usize, k: usize, h: Holder, w: 
     r
 }
 
-// The scan of CPU k's queue at a time, the clean-up and the choice; d is scratch, three words for each of 64 keys.
-pub fn select(m: &mut [u64], d: &mut [u64], c: usize, n: usize, k: usize, time: u64) -> Selected
+// The scan of CPU k's queue at a time, the clean-up and the choice. The scratch is for the keys to remove, three words each of 64.
+pub fn select(
+    m: &mut [u64],
+    c: usize,
+    n: usize,
+    k: usize,
+    time: u64,
+    scratch: &mut [u64],
+) -> Selected
     requires { ⌜ Image c n (now m) ⌝ }
-    requires { ⌜ (k < c) × (length (now d) ≡ 192) ⌝ }
+    requires { ⌜ (k < c) × (length (now scratch) ≡ 192) ⌝ }
     ensures { λ r. ⌜ Stage c n k (now (m .entry)) (now (m .exit)) false (choice-of r) (λ (s : State). chosen (choice s (scanned k time s)) (scanned k time s) s) (λ (s : State). choice s (scanned k time s)) ⌝ }
     ensures { λ r. ⌜ winner-below n (r .winner) ⌝ }
 {
     let b = stages::load_block(m, c, n, k);
     let h = read::holder(m, c, n, k, b);
     let t = read::scanner(k, time, b, h);
-    let w = scan::scan_queue(m, d, c, n, k, t);
-    settle(m, d, c, n, k, h, w)
+    let w = scan::scan_queue(m, scratch, c, n, k, t);
+    apply_choice(m, scratch, c, n, k, h, w)
 }

@@ -8,12 +8,12 @@ ghost use Rattle.decision.specs.State.{State, state-of, holder};
 ghost use Rattle.decision.specs.Choice.{ineligible-holder};
 ghost use Rattle.select.specs.Values.{vtime-of};
 ghost use Rattle.select.specs.Holding.{Holding, Scanning};
-use context::Context;
-use percpu::PercpuBlock;
-use crate::judge::both;
 use crate::Holder;
 use crate::MinVtime;
 use crate::Scanner;
+use crate::judge::both;
+use context::Context;
+use percpu::PercpuBlock;
 
 // The holder, whose record is q, of a CPU whose block is b.
 pub fn holder_of(b: PercpuBlock, q: Context) -> Holder

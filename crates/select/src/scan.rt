@@ -9,15 +9,15 @@ ghost use Rattle.machine.specs.Shape.{ContextFits, EntryFits, Fits, Image};
 ghost use Rattle.decision.specs.Scan.{blocked};
 ghost use Rattle.select.specs.Values.{best-below, visit-of};
 ghost use Rattle.select.specs.Scanning.{visit-by, visited-by, step-by, scan-by, seen, visit-fits, keys-in, found, Scans, given-up, Room, Grown};
-use context::Context;
-use machine::Lookup;
-use run_queue::Entry;
-use run_queue::Key;
-use crate::judge;
 use crate::Best;
 use crate::Scanned;
 use crate::Scanner;
 use crate::Visit;
+use crate::judge;
+use context::Context;
+use machine::Lookup;
+use run_queue::Entry;
+use run_queue::Key;
 
 // An entry as the scan meets it.
 fn verdict(m: &[u64], c: usize, n: usize, t: Scanner, late: Best, e: Entry) -> Visit
@@ -61,7 +61,16 @@ fn give_up(d: &mut [u64], w: Scanned, key: Key, weight: u64) -> Scanned
 }
 
 // A blocked context: its record is stored, and its weight leaves if it was active.
-fn give_up_blocked(m: &mut [u64], d: &mut [u64], c: usize, n: usize, t: Scanner, w: Scanned, e: Entry, q: Context) -> Scanned
+fn give_up_blocked(
+    m: &mut [u64],
+    d: &mut [u64],
+    c: usize,
+    n: usize,
+    t: Scanner,
+    w: Scanned,
+    e: Entry,
+    q: Context,
+) -> Scanned
     requires { ⌜ Image c n (now m) ⌝ }
     requires { ⌜ EntryFits n e ⌝ }
     requires { ⌜ Room n w (now d) ⌝ }
@@ -78,7 +87,16 @@ fn give_up_blocked(m: &mut [u64], d: &mut [u64], c: usize, n: usize, t: Scanner,
 }
 
 // What the scan makes of a visit.
-fn visited(m: &mut [u64], d: &mut [u64], c: usize, n: usize, t: Scanner, w: Scanned, e: Entry, v: Visit) -> Scanned
+fn visited(
+    m: &mut [u64],
+    d: &mut [u64],
+    c: usize,
+    n: usize,
+    t: Scanner,
+    w: Scanned,
+    e: Entry,
+    v: Visit,
+) -> Scanned
     requires { ⌜ Image c n (now m) ⌝ }
     requires { ⌜ EntryFits n e ⌝ }
     requires { ⌜ Room n w (now d) ⌝ }
@@ -110,7 +128,15 @@ fn visited(m: &mut [u64], d: &mut [u64], c: usize, n: usize, t: Scanner, w: Scan
 }
 
 // One entry of the queue.
-fn scan_step(m: &mut [u64], d: &mut [u64], c: usize, n: usize, t: Scanner, w: Scanned, e: Entry) -> Scanned
+fn scan_step(
+    m: &mut [u64],
+    d: &mut [u64],
+    c: usize,
+    n: usize,
+    t: Scanner,
+    w: Scanned,
+    e: Entry,
+) -> Scanned
     requires { ⌜ Image c n (now m) ⌝ }
     requires { ⌜ EntryFits n e ⌝ }
     requires { ⌜ Room n w (now d) ⌝ }
