@@ -120,10 +120,10 @@ pub fn next_counter(counter: u64) -> u64
 pub fn can_steal_from(
     present: bool,
     stealable: bool,
-    published: u64,
+    published: usize,
     locked: bool,
-    len: u64,
-    load: u64,
+    len: usize,
+    load: usize,
 ) -> bool
     requires { ⌜ (len ≤ 64) × (load ≤ 65) ⌝ }
     ensures { λ r. ⌜ r ≡ has-enough present stealable published locked len load ⌝ }
@@ -143,11 +143,13 @@ pub fn can_steal_from(
     load + 2 <= len + 1
 }
 
-pub fn want(there: u64, here: u64) -> usize
+pub fn want(there: usize, here: usize) -> usize
     ensures { λ r. ⌜ (r ≡ max 1 (min 2 ((there - here) / 2))) × (1 ≤ r) × (r ≤ 2) ⌝ }
 {
-    let half = ticks::saturating_sub(there, here) / 2;
-    if half < 2 {
+    if there < here {
+        return 1;
+    }
+    if (there - here) / 2 < 2 {
         return 1;
     }
     2
