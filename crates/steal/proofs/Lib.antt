@@ -1,2 +1,5 @@
 pub mod Searching
 pub mod Round
+pub mod Blocks
+pub mod Victims
+pub mod Moved

@@ -8,9 +8,14 @@ use lib.ListN.{set}
 use Rattle.machine.specs.Machine.{Machine, cpu-at, context-at}
 use Rattle.machine.specs.Encode.{encode}
 use Rattle.machine.specs.Shape.{Fits, Image}
-use Rattle.decision.specs.State.{State, state-of}
-use Rattle.decision.specs.Steal.{Stealing, Moving}
+use Rattle.columns.specs.Common.{if_then_else_}
+use Rattle.context.specs.declared.Context.{Context}
+use Rattle.run_queue.specs.declared.Entry.{Entry}
+use Rattle.decision.specs.State.{State, state-of, on-cpu, put-context, insert-entry, with-new-key}
+use Rattle.decision.specs.Wakeups.{entry-of}
+use Rattle.decision.specs.Steal.{Stealing, Moving, first-wins, published, mark-stealable}
 use Rattle.steal_judge.specs.declared.Winner.{Winner}
+use Rattle.steal_judge.specs.declared.Winner.the-variants.{None, One}
 use Rattle.steal_judge.specs.Names.{winner-of}
 
 abbrev pub moving-of : (k t : ℕ) → Winner → Machine → Moving
@@ -38,6 +43,19 @@ pub record Movable (c n k : ℕ) (m : List ℕ) : Type 0 where
   pub v : cpu-at M k .block .v ≤ 4899916395652841471
   pub total-weight : cpu-at M k .block .«total_weight» ≤ 9799832791305682942
   pub vtime : (x : ℕ) → x < n → (context-at (M .contexts) x) .vtime ≤ 9799832791305682942
+
+-- a stolen record taken in by this CPU, and who has won then
+unfoldable pub taken-in : Bool → Winner → Entry → Context → State → State
+taken-in runs w e q s =
+    if first-wins runs (winner-of w) then put-context (e .«context_ref») q s else
+    insert-entry (entry-of (e .«context_ref») (e .weight) q) (put-context (e .«context_ref») (with-new-key q) s)
+
+abbrev pub winner-in : Bool → Winner → Entry → Winner
+winner-in runs w e = if first-wins runs (winner-of w) then One (e .«context_ref») else w
+
+-- what other CPUs read, on both
+abbrev pub finished : Moving → Moving
+finished v = record { state = on-cpu published (v .state); victim = mark-stealable (published (v .victim)); winner = v .winner }
 
 -- the machine that a state of the stealing stands for
 abbrev pub machine-of : ℕ → Stealing → Machine
