@@ -1,7 +1,7 @@
 -- What stealing changes in a block, as words and as a stage. Assumes nothing.
 use mathlib.Core.Path.{_≡_, refl, sym, ap, _∙_, subst}
 use mathlib.Core.Bool.{Bool, true, false, not}
-use Prim.Native.Nat.{ℕ, zero, suc, _+_, _-_, _<_, _≤_}
+use Prim.Native.Nat.{ℕ, zero, suc, _+_, _-_, _%_, _<_, _≤_}
 use native.Mathlib.Omega.{arith}
 use mathlib.Core.List.{List, [], _∷_, _++_}
 use lib.Dec.{eqb}
@@ -20,7 +20,7 @@ use Rattle.machine.specs.Encode.{encode, cpu-place}
 use Rattle.machine.specs.Shape.{CpuFits, Fits}
 use Rattle.machine.proofs.LookUps.{block-word}
 use Rattle.stages.proofs.Fitting.{fits-removed}
-use Rattle.decision.specs.Steal.{give-up, published, mark-stealable}
+use Rattle.decision.specs.Steal.{give-up, published, mark-stealable, count-steal}
 
 gave : (e : Entry) (p : Cpu) → set (cpu-words (cpu-queue (queue-remove (e .key) (p .queue)) p)) 20 (p .block .«total_weight» - e .weight) ≡ cpu-words (give-up e p)
 unfolding cpu-words block-words stats-words counts columns
@@ -100,3 +100,13 @@ fits-given-up n e p o = same-fits n _ (give-up e p) refl refl refl refl (fits-re
 pub weight-of : {c n : ℕ} (m : List ℕ) (k : ℕ) → k < c → (M : Machine) → m ≡ encode M → Fits c n M → getD m (cpu-place n k + 20) 0 ≡ cpu-at M k .block .«total_weight»
 unfolding cpu-words block-words stats-words counts
 weight-of m k h M e o = block-word m k M e o 20 h (omega arith)
+
+counted : (p : Cpu) → set (cpu-words p) 11 ((getD (cpu-words p) 11 0 + 1) % 18446744073709551616) ≡ cpu-words (count-steal p)
+unfolding cpu-words block-words stats-words counts columns
+counted p = refl
+
+pub counted-is : (b : List ℕ) (p : Cpu) {w : ℕ} → b ≡ cpu-words p → w ≡ (getD b 11 0 + 1) % 18446744073709551616 → set b 11 w ≡ cpu-words (count-steal p)
+counted-is b p z h = rw (h, z) (counted p)
+
+pub fits-counted : (n : ℕ) (p : Cpu) → CpuFits n p → CpuFits n (count-steal p)
+fits-counted n p o = same-fits n p (count-steal p) refl refl refl refl o

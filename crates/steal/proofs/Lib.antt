@@ -3,3 +3,4 @@ pub mod Round
 pub mod Blocks
 pub mod Victims
 pub mod Moved
+pub mod Stolen

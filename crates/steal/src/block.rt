@@ -11,7 +11,7 @@ ghost use Rattle.run_queue.specs.Sorted.{Sorted};
 ghost use Rattle.percpu.specs.Cpu.{Cpu};
 ghost use Rattle.percpu.specs.With.{cpu-total-weight};
 ghost use Rattle.percpu.specs.Layout.{cpu-words};
-ghost use Rattle.decision.specs.Steal.{give-up, published, mark-stealable};
+ghost use Rattle.decision.specs.Steal.{give-up, published, mark-stealable, count-steal};
 
 pub fn give_up(b: &mut [u64], e: Entry)
     requires { ⌜ (length (now b) ≡ 665) × (getD (now b) 21 0 ≤ 64) ⌝ }
@@ -53,4 +53,11 @@ pub fn publish_victim(b: &mut [u64])
 {
     publish(b);
     b[8] = some(b[21]);
+}
+
+pub fn count_steal(b: &mut [u64])
+    requires { ⌜ length (now b) ≡ 665 ⌝ }
+    ensures { λ r. ⌜ ((p : Cpu) → now (b .entry) ≡ cpu-words p → now (b .exit) ≡ cpu-words (count-steal p)) ⌝ }
+{
+    b[11] = steal_judge::next_counter(b[11]);
 }
