@@ -64,7 +64,7 @@ impl CpuStats {
     }
 
     pub fn add_time(mut self, ms: u64) -> Accounted
-        requires { ⌜ CountersBelow 4611686018427387904 self ⌝ }
+        requires { ⌜ CountersBelow 9223372036854775808 self ⌝ }
         requires { ⌜ ms < 4611686018427387904 ⌝ }
         ensures { λ r. ⌜ (r .stats ≡ time-added ms self) × (r .state ≡ self .state) ⌝ }
     {

@@ -1,0 +1,5 @@
+pub mod Advanced
+pub mod Requeued
+pub mod Handed
+pub mod Bounded
+pub mod Settled

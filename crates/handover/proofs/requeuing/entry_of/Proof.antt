@@ -1,0 +1,17 @@
+-- `handover::requeuing::entry_of` meets its contract. Assumes nothing.
+use borrow.Author.Needs.{needs}
+use Rattle.handover.proofs.Requeued.{entry-as}
+use Rattle.handover.proofs.requeuing.entry_of.Statement.{statement}
+use Rattle.handover.proofs.requeuing.entry_of.Tie as tie
+
+weight-of-requires : tie.Need-weight-of-requires
+weight-of-requires c κs = search needs
+
+word-requires : tie.Need-word-requires
+word-requires c κs = search needs
+
+returns : tie.Need-returns
+returns c = entry-as (c .before .before .args .q) _ _ _ (c .before .weight-of .ensures .0) (c .word .ensures)
+
+pub entry-of-spec : {M : Type 1} → statement M
+entry-of-spec = tie.close (tie.spec weight-of-requires word-requires returns)

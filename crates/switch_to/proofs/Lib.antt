@@ -1,0 +1,4 @@
+pub mod Recorded
+pub mod Switching
+pub mod Directly
+pub mod Bounded

@@ -1,0 +1,71 @@
+// The records that a switch changes, by value.
+use context::Context;
+use cpu_stats::CpuState;
+use percpu::PercpuBlock;
+ghost use mathlib.Core.Path.{_≡_};
+ghost use mathlib.Core.Bool.{Bool};
+ghost use Prim.Native.Nat.{ℕ, _<_, _≤_};
+ghost use Rattle.columns.specs.Common.{if_then_else_};
+ghost use Rattle.cpu_stats.specs.declared.CpuState.the-variants.{Kernel, User};
+ghost use Rattle.decision.specs.SwitchTo.{comes};
+ghost use Rattle.switch_to.specs.Switched.{is-lost, left-by, current-by};
+
+// Runnable, left, without the slice and without a key: no list has it.
+pub fn would_be_lost(b: PercpuBlock, q: Context) -> bool
+    ensures { λ r. ⌜ r ≡ is-lost b q ⌝ }
+{
+    if b.sched_ctxt == b.current_ctxt {
+        return false;
+    }
+    if q.has_queue_key {
+        return false;
+    }
+    let status = q.status;
+    status.is_runnable()
+}
+
+pub fn leave(mut q: Context, b: PercpuBlock, time: u64) -> Context
+    requires { ⌜ (q .«active_cpu_time» ≤ 9223372045444710400) × (time ≤ 4611686018427387903) ⌝ }
+    ensures { λ r. ⌜ r ≡ left-by time b q ⌝ }
+{
+    q.running = false;
+    q.inside_syscall = b.inside_syscall;
+    if b.current_ctxt == b.idle_ctxt {
+        return q;
+    }
+    let elapsed = ticks::saturating_sub(time, q.switch_time);
+    q.active_cpu_time = q.active_cpu_time + elapsed;
+    q
+}
+
+pub fn come(mut q: Context, k: usize, time: u64) -> Context
+    requires { ⌜ k < 4 ⌝ }
+    ensures { λ r. ⌜ r ≡ comes k time q ⌝ }
+{
+    q.running = true;
+    q.cpu_id = machine::word(k) + 1;
+    q.switch_time = time;
+    q
+}
+
+fn state_in(userspace: bool) -> CpuState
+    ensures { λ r. ⌜ r ≡ (if userspace then User else Kernel) ⌝ }
+{
+    if userspace {
+        return CpuState::User;
+    }
+    CpuState::Kernel
+}
+
+pub fn become_current(b: PercpuBlock, x: usize, q: Context) -> PercpuBlock
+    ensures { λ r. ⌜ r ≡ current-by x q b ⌝ }
+{
+    let state = state_in(q.userspace);
+    let s = b.stats;
+    let stats = s.set_state(state);
+    let mut r = turn::with_stats(b, stats);
+    r.current_ctxt = machine::word(x);
+    r.inside_syscall = q.inside_syscall;
+    r.being_sigkilled = q.being_sigkilled;
+    r
+}
