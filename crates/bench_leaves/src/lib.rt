@@ -46,3 +46,20 @@ pub extern "C" fn bench_remove(b: &mut [u64], vd: u64, rem_slice: u64, ctxt_id: 
         },
     )
 }
+
+#[no_mangle]
+pub extern "C" fn bench_refusal(m: &[u64], time: u64) -> u64 {
+    image::refusal(m, time)
+}
+
+// A record loaded, blocked and stored.
+#[no_mangle]
+pub extern "C" fn bench_block(w: &mut [u64]) -> bool
+    requires { ⌜ length (now w) ≡ 26 ⌝ }
+{
+    let q = context::load_context(w);
+    let b = q.block();
+    let changed = b.context;
+    context::store_context(w, changed);
+    b.done
+}

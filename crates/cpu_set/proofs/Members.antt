@@ -22,7 +22,7 @@ digits i zero n = []
 digits i (suc k) n = if eqb (n % 2) 1 then i ∷ digits (suc i) k (n / 2) else digits (suc i) k (n / 2)
 
 -- by the lowest digit
-by-digit {ℓ} : {C : Type ℓ} (n : ℕ) → (n % 2 ≡ 1 → C) → (n % 2 ≡ 0 → C) → C
+pub by-digit {ℓ} : {C : Type ℓ} (n : ℕ) → (n % 2 ≡ 1 → C) → (n % 2 ≡ 0 → C) → C
 by-digit n f g = by-test (eqb (n % 2) 1) (λ t. f (eqb-true (n % 2) 1 t)) (λ t. g (omega (arith, eqb-false (n % 2) 1 t)))
 
 module _ (i k n : ℕ) where
@@ -86,10 +86,10 @@ counts i (suc k) n h =
     by-digit n (λ t. rw (ones-step n, t, odd i k n t) (add-comm 1 _ ∙ add-one _ ∙ ap suc r)) (λ t. rw (ones-step n, t, even i k n t) (zero-add _ ∙ r))
 
 -- the definition by its tests, digit by digit
-first-test : (n : ℕ) → contains n 0 ≡ eqb (n % 2) 1
+pub first-test : (n : ℕ) → contains n 0 ≡ eqb (n % 2) 1
 first-test n = ap (λ (x : ℕ). eqb (x % 2) 1) (div-one n)
 
-next-test : (n j : ℕ) → contains n (suc j) ≡ contains (n / 2) j
+pub next-test : (n j : ℕ) → contains n (suc j) ≡ contains (n / 2) j
 next-test n j = ap (λ (x : ℕ). eqb (x % 2) 1) (ap (λ (x : ℕ). n / x) (pow-suc 2 j ∙ mul-comm (2 ^ j) 2) ∙ sym (div-div-eq-div-mul n 2 (2 ^ j)))
 
 kept : (i k n : ℕ) (g : ℕ → Bool) (f : ℕ → ℕ) → ((j : ℕ) → f j ≡ i + j) → ((j : ℕ) → g (i + j) ≡ contains n j) → keep g (tabulate k f) ≡ digits i k n

@@ -142,11 +142,11 @@ module _ {time : ℕ} (m : List ℕ) (p : Passed time m) where
   block-length : (k : ℕ) → k < size-c m → length (block-at k) ≡ 665
   block-length k h = length-part m (cpu-place (size-n m) k) 665 (omega (arith, p .size))
 
-  a-context : (x : ℕ) → x < size-n m → context-in-range (size-c m) (record-at x) ≡ true
+  pub a-context : (x : ℕ) → x < size-n m → context-in-range (size-c m) (record-at x) ≡ true
   unfolding contexts-in-range
   a-context x h = every-at (λ (x : ℕ). context-in-range (size-c m) (record-at x)) (size-n m) x (p .words .contexts) h
 
-  a-block : (k : ℕ) → k < size-c m → BlockInRange (size-n m) (block-at k)
+  pub a-block : (k : ℕ) → k < size-c m → BlockInRange (size-n m) (block-at k)
   unfolding blocks-in-range
   a-block k h = in-range _ _ (every-at (λ (k : ℕ). block-in-range (size-n m) (block-at k)) (size-c m) k (p .words .blocks) h)
 
@@ -161,8 +161,8 @@ module _ {time : ℕ} (m : List ℕ) (p : Passed time m) where
   a-rising k h =
       by-test (eqb (getD (block-at k) 0 0) 0)
       (λ t.
-        let z = a-block k h .absent (eqb-true (getD (block-at k) 0 0) 0 t)
-        in record { keys = λ i b. absurd (omega (arith, z 21 (omega arith))); timers = λ i b. absurd (omega (arith, z 22 (omega arith))) })
+      let z = a-block k h .absent (eqb-true (getD (block-at k) 0 0) 0 t)
+      in record { keys = λ i b. absurd (omega (arith, z 21 (omega arith))); timers = λ i b. absurd (omega (arith, z 22 (omega arith))) })
       (λ t. rising (block-at k) (block-structure-of k h t))
 
   whole : WholeImage m

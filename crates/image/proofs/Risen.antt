@@ -18,6 +18,7 @@ module _ {A : Type 0} (lt : A → A → Bool) (trans : (a b c : A) → lt a b �
   pub sorted-tabulate : (n : ℕ) (f : ℕ → A) → ((i : ℕ) → suc i < n → lt (f i) (f (suc i)) ≡ true) → Sorted lt (tabulate n f)
   unfolding tabulate
   sorted-tabulate zero f h = tt
-  sorted-tabulate (suc n) f h =
-      (above n (λ (i : ℕ). f (suc i)) (f 0) (λ i b. h (suc i) (omega arith)) (λ b. h 0 (omega arith)),
-      sorted-tabulate n (λ (i : ℕ). f (suc i)) (λ i b. h (suc i) (omega arith)))
+  sorted-tabulate (suc n) f h = (
+    above n (λ (i : ℕ). f (suc i)) (f 0) (λ i b. h (suc i) (omega arith)) (λ b. h 0 (omega arith)),
+    sorted-tabulate n (λ (i : ℕ). f (suc i)) (λ i b. h (suc i) (omega arith)),
+  )

@@ -13,8 +13,12 @@ use Rattle.columns.specs.Common.{every}
 use Rattle.columns.proofs.Tests.{by-test, every-at}
 use Rattle.columns.specs.Blocks.{part, part-is}
 use Rattle.machine.specs.Encode.{cpu-place}
+use Rattle.percpu.specs.Layout.{entry-at, timer-at}
+use Rattle.table.specs.Keys.{key-at}
+use Rattle.timers.proofs.Table.{same-order}
+use Rattle.image.specs.Rises.{rises}
 use Rattle.image.specs.Ranges.{block-in-range, blocks-in-range}
-use Rattle.image.specs.Structure.{id-of, is-new, block-structure}
+use Rattle.image.specs.Structure.{id-of, is-new, keys-rise, timers-rise, block-structure}
 
 -- neighbours in an order, as the code has them: a is item i and z the next
 pub neighbours : {A : Type 0} (t : A → A → Bool) (f : ℕ → A) (i : ℕ) (a z : A) {r v : Bool} → a ≡ f i → z ≡ f (i + 1) → r ≡ t a z → r ≡ v → t (f i) (f (i + 1)) ≡ v
@@ -59,3 +63,13 @@ module _ (c n k names : ℕ) (m : List ℕ) (q : names ≡ n) where
 
   pub lent-structure : {r : Bool} → r ≡ block-structure m lent → r ≡ block-structure m (part m (cpu-place n k) 665)
   lent-structure e = e ∙ rw (lent-is)
+
+-- keys and timers that rise, from the columns
+pub keys-are : (b : List ℕ) (k : ℕ) {r : Bool} → k ≡ getD b 21 0 → r ≡ rises b 25 89 153 k → r ≡ keys-rise b
+unfolding rises keys-rise key-at entry-at
+keys-are b k h e = e ∙ rw h
+
+pub timers-are : (b : List ℕ) (k : ℕ) {r : Bool} → k ≡ getD b 22 0 → r ≡ rises b 409 409 473 k → r ≡ timers-rise b
+unfolding rises timers-rise key-at timer-at
+timers-are b k h e =
+    e ∙ rw h (ap (λ (f : ℕ → Bool). every f (getD b 22 0 - 1)) (λ j i. same-order (timer-at b i) (timer-at b (i + 1)) j))

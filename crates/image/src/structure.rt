@@ -1,13 +1,11 @@
 // The structure of an image whose words are in their ranges.
-use run_queue::Key;
-use run_queue::Timer;
 ghost use mathlib.Core.Path.{_≡_};
 ghost use mathlib.Core.Bool.{Bool, true, false};
 ghost use Prim.Native.Nat.{ℕ, _+_, _-_, _*_, _<_, _≤_};
 ghost use lib.ListN.{length, getD};
-ghost use Rattle.percpu.specs.Layout.{entry-at, timer-at};
+ghost use Rattle.image.specs.Rises.{rises};
 ghost use Rattle.image.specs.Ranges.{block-in-range, blocks-in-range};
-ghost use Rattle.image.specs.Structure.{id-of, is-live, is-new, ids-differ, names-live, entry-ids, keys-rise, timers-rise, block-structure, structure};
+ghost use Rattle.image.specs.Structure.{id-of, is-live, is-new, ids-differ, names-live, entry-ids, block-structure, structure};
 
 fn id_of(m: &[u64], x: usize) -> u64
     requires { ⌜ (26 * x + 28 ≤ length (now m)) × (x < 64) ⌝ }
@@ -73,55 +71,16 @@ fn ids_differ(m: &[u64], n: usize) -> bool
     true
 }
 
-fn key_at(b: &[u64], i: usize) -> Key
-    requires { ⌜ (length (now b) ≡ 665) × (i < 64) ⌝ }
-    ensures { λ r. ⌜ r ≡ entry-at (now (b .entry)) i .key ⌝ }
+// Of k rows whose keys lie in the columns at s, t and u each stands before the next.
+fn rises(b: &[u64], s: usize, t: usize, u: usize, k: usize) -> bool
+    requires { ⌜ (s + 64 ≤ length (now b)) × (t + 64 ≤ length (now b)) × (u + 64 ≤ length (now b)) × (k ≤ 64) ⌝ }
+    ensures { λ r. ⌜ r ≡ rises (now (b .entry)) s t u k ⌝ }
 {
-    Key {
-        vd: b[25 + i],
-        rem_slice: b[89 + i],
-        ctxt_id: b[153 + i],
-    }
-}
-
-fn timer_at(b: &[u64], i: usize) -> Timer
-    requires { ⌜ (length (now b) ≡ 665) × (i < 64) ⌝ }
-    ensures { λ r. ⌜ r ≡ timer-at (now (b .entry)) i ⌝ }
-{
-    Timer {
-        wake: b[409 + i],
-        context_ref: b[473 + i],
-    }
-}
-
-fn keys_rise(b: &[u64]) -> bool
-    requires { ⌜ (length (now b) ≡ 665) × (getD (now b) 21 0 ≤ 64) ⌝ }
-    ensures { λ r. ⌜ r ≡ keys-rise (now (b .entry)) ⌝ }
-{
-    let k = machine::index(b[21]);
-    let mut last = key_at(b, 0);
+    let mut last = table::key(b, s, t, u, 0);
     let mut i = 0;
     while i + 1 < k {
-        let next = key_at(b, i + 1);
+        let next = table::key(b, s, t, u, i + 1);
         if !last.before(next) {
-            return false;
-        }
-        last = next;
-        i += 1;
-    }
-    true
-}
-
-fn timers_rise(b: &[u64]) -> bool
-    requires { ⌜ (length (now b) ≡ 665) × (getD (now b) 22 0 ≤ 64) ⌝ }
-    ensures { λ r. ⌜ r ≡ timers-rise (now (b .entry)) ⌝ }
-{
-    let k = machine::index(b[22]);
-    let mut last = timer_at(b, 0);
-    let mut i = 0;
-    while i + 1 < k {
-        let next = timer_at(b, i + 1);
-        if !last.sooner(next) {
             return false;
         }
         last = next;
@@ -175,10 +134,13 @@ fn block_structure(m: &[u64], b: &[u64], n: u64) -> bool
     if !entry_ids(m, b, n) {
         return false;
     }
-    if !keys_rise(b) {
+    let entries = machine::index(b[21]);
+    if !rises(b, 25, 89, 153, entries) {
         return false;
     }
-    timers_rise(b)
+    // a timer's key is its wake, twice, and its context
+    let timers = machine::index(b[22]);
+    rises(b, 409, 409, 473, timers)
 }
 
 pub fn structure(m: &[u64], c: usize, n: usize) -> bool

@@ -128,8 +128,8 @@ module _ {c n : ℕ} {m : List ℕ} (i : Image c n m) (k x name : ℕ) (l : List
   pushed-local g f =
       stepped i
       (λ M e o.
-        let r : length (cpu-at M k .«local_wakeup_list») < 64 = rw (local-count m k h M e o) at g
-        in (back-is m k h M e o _ l (rw q at (f (cpu-at M k) (lent-is m k h M e o))), fits-cpu M k _ o (fits-local n x (cpu-at M k) b r (o .cpu k h)), refl))
+      let r : length (cpu-at M k .«local_wakeup_list») < 64 = rw (local-count m k h M e o) at g
+      in (back-is m k h M e o _ l (rw q at (f (cpu-at M k) (lent-is m k h M e o))), fits-cpu M k _ o (fits-local n x (cpu-at M k) b r (o .cpu k h)), refl))
 
   pub pushed-ipi : getD m (cpu-place n k + 24) 0 < 64
       → ((p : Cpu) → lent ≡ cpu-words p → l ≡ cpu-words (cpu-ipi-context-wakeup-list (p .«ipi_context_wakeup_list» ++ (name ∷ [])) p))
@@ -138,8 +138,8 @@ module _ {c n : ℕ} {m : List ℕ} (i : Image c n m) (k x name : ℕ) (l : List
   pushed-ipi g f =
       stepped i
       (λ M e o.
-        let r : length (cpu-at M k .«ipi_context_wakeup_list») < 64 = rw (ipi-count m k h M e o) at g
-        in (back-is m k h M e o _ l (rw q at (f (cpu-at M k) (lent-is m k h M e o))), fits-cpu M k _ o (fits-ipi n x (cpu-at M k) b r (o .cpu k h)), refl))
+      let r : length (cpu-at M k .«ipi_context_wakeup_list») < 64 = rw (ipi-count m k h M e o) at g
+      in (back-is m k h M e o _ l (rw q at (f (cpu-at M k) (lent-is m k h M e o))), fits-cpu M k _ o (fits-ipi n x (cpu-at M k) b r (o .cpu k h)), refl))
 
 -- the other CPU, as the code finds it; i is its number
 module _ (k w : ℕ) (M : Machine) where
@@ -162,6 +162,7 @@ other-below-by {c} i k w t e =
   where
     never : Present t ≡ Absent → t < c
     never z = let y : _≡_ {A = ℕ} 0 1 = cc in absurd (omega arith)
+
     below : Present t ≡ get-percpu-block (i .M) (w - 1) → t < c
     below z = let p = present (i .M) (w - 1) t z in omega (arith, p .is, p .below, i .fits .cpus)
 

@@ -41,7 +41,15 @@ pub fn refused(number: u64) -> Answer
 }
 
 // The record q of context x stored, and its name on the list of its last CPU or of this one, k.
-fn wakeup_context(m: &mut [u64], c: usize, n: usize, k: usize, x: usize, q: Context, result: u64) -> Answer
+fn wakeup_context(
+    m: &mut [u64],
+    c: usize,
+    n: usize,
+    k: usize,
+    x: usize,
+    q: Context,
+    result: u64,
+) -> Answer
     requires { ⌜ Image c n (now m) ⌝ }
     requires { ⌜ (k < c) × (x < n) ⌝ }
     requires { ⌜ ContextFits c q ⌝ }

@@ -1,7 +1,7 @@
 // Waking a context: its name goes on a wake-up list.
+use crate::Answer;
 use context::Context;
 use machine::CpuLookup;
-use crate::Answer;
 ghost use mathlib.Core.Path.{_≡_};
 ghost use mathlib.Core.List.{List, [], _∷_, _++_};
 ghost use Prim.Native.Nat.{ℕ, _+_, _*_, _<_, _≤_};
@@ -51,7 +51,15 @@ fn push_ipi(m: &mut [u64], c: usize, n: usize, k: usize, x: usize)
 }
 
 // The record q of context x stored, and its name on CPU k's local list.
-pub fn wake_local(m: &mut [u64], c: usize, n: usize, k: usize, x: usize, q: Context, result: u64) -> Answer
+pub fn wake_local(
+    m: &mut [u64],
+    c: usize,
+    n: usize,
+    k: usize,
+    x: usize,
+    q: Context,
+    result: u64,
+) -> Answer
     requires { ⌜ Image c n (now m) ⌝ }
     requires { ⌜ (k < c) × (x < n) ⌝ }
     requires { ⌜ ContextFits c q ⌝ }
@@ -71,7 +79,16 @@ pub fn wake_local(m: &mut [u64], c: usize, n: usize, k: usize, x: usize, q: Cont
 }
 
 // The same on the interrupt list of another CPU, t.
-pub fn wake_ipi(m: &mut [u64], c: usize, n: usize, k: usize, t: usize, x: usize, q: Context, result: u64) -> Answer
+pub fn wake_ipi(
+    m: &mut [u64],
+    c: usize,
+    n: usize,
+    k: usize,
+    t: usize,
+    x: usize,
+    q: Context,
+    result: u64,
+) -> Answer
     requires { ⌜ Image c n (now m) ⌝ }
     requires { ⌜ (t < c) × (x < n) ⌝ }
     requires { ⌜ ContextFits c q ⌝ }

@@ -46,6 +46,7 @@ is-passed m time c n e =
   where
     yes : image-refusal time m ≡ 0 → Passed c n ≡ Passed (size-c m) (size-n m) → IsPassed m time c n
     yes z q = record { none = z; cpus = cc; names = cc }
+
     no : Passed c n ≡ Refused (image-refusal time m) → IsPassed m time c n
     no q = let w : _≡_ {A = ℕ} 0 1 = cc in absurd (omega arith)
 

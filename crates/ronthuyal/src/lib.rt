@@ -22,7 +22,12 @@ pub fn check(image: &[u64], time: u64) -> Checked
 
 // Operation 4. The result is 1 if the context was soft-blocked.
 #[no_mangle]
-pub extern "C" fn ronthuyal_unblock_context(image: &mut [u64], cpu: u64, time: u64, context: u64) -> Answer
+pub extern "C" fn ronthuyal_unblock_context(
+    image: &mut [u64],
+    cpu: u64,
+    time: u64,
+    context: u64,
+) -> Answer
     ensures { λ r. ⌜ reply r (now (image .exit)) ≡ unblock-context-call (now (image .entry)) cpu time context ⌝ }
 {
     let checked = check(image, time);
@@ -34,7 +39,11 @@ pub extern "C" fn ronthuyal_unblock_context(image: &mut [u64], cpu: u64, time: u
 
 // Operation 5. The result is 0.
 #[no_mangle]
-pub extern "C" fn ronthuyal_drain_ipi_context_wakeups(image: &mut [u64], cpu: u64, time: u64) -> Answer
+pub extern "C" fn ronthuyal_drain_ipi_context_wakeups(
+    image: &mut [u64],
+    cpu: u64,
+    time: u64,
+) -> Answer
     ensures { λ r. ⌜ reply r (now (image .exit)) ≡ drain-ipi-context-wakeups-call (now (image .entry)) cpu time ⌝ }
 {
     let checked = check(image, time);
@@ -58,7 +67,12 @@ pub extern "C" fn ronthuyal_block(image: &mut [u64], cpu: u64, time: u64, contex
 
 // Operation 7, as Stopped. The result is 1 if the context was runnable.
 #[no_mangle]
-pub extern "C" fn ronthuyal_hard_block(image: &mut [u64], cpu: u64, time: u64, context: u64) -> Answer
+pub extern "C" fn ronthuyal_hard_block(
+    image: &mut [u64],
+    cpu: u64,
+    time: u64,
+    context: u64,
+) -> Answer
     ensures { λ r. ⌜ reply r (now (image .exit)) ≡ hard-block-call (now (image .entry)) cpu time context ⌝ }
 {
     let checked = check(image, time);

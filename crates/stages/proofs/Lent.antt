@@ -73,12 +73,12 @@ module _ {c n : ℕ} {m : List ℕ} (i : Image c n m) (k : ℕ) (h : k < c) (l :
   staged-cpu F f g =
       staged i
       (λ M e o.
-        record {
-          room = refl;
-          after = λ y. back-is m k h M e o (F (cpu-at M k)) l (f (cpu-at M k) (o .cpu k h) (lent-is m k h M e o));
-          fits = λ y. fits-cpu M k (F (cpu-at M k)) o (g (cpu-at M k) (o .cpu k h));
-          answer = λ y. refl;
-        })
+      record {
+        room = refl;
+        after = λ y. back-is m k h M e o (F (cpu-at M k)) l (f (cpu-at M k) (o .cpu k h) (lent-is m k h M e o));
+        fits = λ y. fits-cpu M k (F (cpu-at M k)) o (g (cpu-at M k) (o .cpu k h));
+        answer = λ y. refl;
+      })
 
   -- an insertion: T says that there is no room
   pub staged-insert : (r : Bool) (F : Cpu → Cpu) (T : Cpu → Bool)
@@ -87,13 +87,13 @@ module _ {c n : ℕ} {m : List ℕ} (i : Image c n m) (k : ℕ) (h : k < c) (l :
   staged-insert r F T f g =
       staged i
       (λ M e o.
-        let a = f (cpu-at M k) (o .cpu k h) (lent-is m k h M e o)
-        in record {
-          room = a .0;
-          after = λ y. back-is m k h M e o (F (cpu-at M k)) l (a .1 y);
-          fits = λ y. fits-cpu M k (F (cpu-at M k)) o (g (cpu-at M k) (o .cpu k h) (sym (a .0) ∙ y));
-          answer = λ y. refl;
-        })
+      let a = f (cpu-at M k) (o .cpu k h) (lent-is m k h M e o)
+      in record {
+        room = a .0;
+        after = λ y. back-is m k h M e o (F (cpu-at M k)) l (a .1 y);
+        fits = λ y. fits-cpu M k (F (cpu-at M k)) o (g (cpu-at M k) (o .cpu k h) (sym (a .0) ∙ y));
+        answer = λ y. refl;
+      })
 
   pub staged-block : (b : PercpuBlock) → BlockFits n b → ((p : Cpu) → lent ≡ cpu-words p → l ≡ cpu-words (cpu-block b p)) → Staged c n k m back false (λ (s : State). on-cpu (λ (p : Cpu). cpu-block b p) s)
   staged-block b q f = staged-cpu (λ (p : Cpu). cpu-block b p) (λ p o z. f p z) (λ p o. fits-block n b p q o)
@@ -120,8 +120,8 @@ module _ {c n : ℕ} {m : List ℕ} (i : Image c n m) (k : ℕ) (h : k < c) (l :
   staged-timer r t q f =
       staged-insert r (λ (p : Cpu). cpu-timers (timer-insert t (p .timers)) p) (λ (p : Cpu). no-timer-room t p)
       (λ p o z.
-        let a = f p z (o .timers) (o .timers-rise)
-        in (a .0, λ y. let w : no-timer-room t p ≡ false = sym (a .0) ∙ y in a .1 ∙ rw w))
+      let a = f p z (o .timers) (o .timers-rise)
+      in (a .0, λ y. let w : no-timer-room t p ≡ false = sym (a .0) ∙ y in a .1 ∙ rw w))
       (λ p o w. fits-timer-inserted n t p q o w)
 
   pub staged-name : (r : Bool) (x name : ℕ) → x < n → name ≡ x
@@ -152,14 +152,14 @@ pub staged-context : {c n : ℕ} {m m' : List ℕ} (k x : ℕ) (q : Context) →
 staged-context k x q h w i =
     staged i
     (λ M e o.
-      let a = w .step M e o
-      in let z : set-context x q M ≡ put-state k (put-context x q (state-of k M)) M = same k x q M
-      in record {
-        room = refl;
-        after = λ y. a .0 ∙ ap encode z;
-        fits = λ y. subst (Fits _ _) z (a .1);
-        answer = λ y. refl;
-      })
+    let a = w .step M e o
+    in let z : set-context x q M ≡ put-state k (put-context x q (state-of k M)) M = same k x q M
+    in record {
+      room = refl;
+      after = λ y. a .0 ∙ ap encode z;
+      fits = λ y. subst (Fits _ _) z (a .1);
+      answer = λ y. refl;
+    })
 
 pub entry-read : {c n : ℕ} {m : List ℕ} (i : Image c n m) (k j : ℕ) (h : k < c) → j < getD m (cpu-place n k + 21) 0 → (r : Entry)
     → r ≡ entry-at (take (cpu-place n k + 665 - cpu-place n k) (drop (cpu-place n k) m)) j → EntryRead c n k j m r

@@ -1,15 +1,17 @@
 -- The timers as a table of their CPU's block. Assumes nothing.
-use mathlib.Core.Path.{_≡_, refl, ap, _∙_}
-use mathlib.Core.Bool.{not}
+use mathlib.Core.Path.{subst, _≡_, refl, ap, _∙_}
+use mathlib.Core.Bool.{Bool, _&&_, not}
 use mathlib.Core.List.{List, [], _∷_}
 use Prim.Native.Nat.{ℕ, _+_, _≤_}
 use native.Mathlib.Omega.{arith}
 use native.Mathlib.Nat.{zero-add}
 use lib.ListN.{length, getD, take, drop}
-use borrow.Author.Tests.{le-leb, leb-true}
+use lib.Dec.{eqb, ltb}
+use borrow.Author.Tests.{eqb-true, le-ltb, le-leb, leb-true}
 use Rattle.columns.specs.Common.{keep}
+use Rattle.run_queue.specs.declared.Key.{Key}
 use Rattle.run_queue.specs.declared.Timer.{Timer}
-use Rattle.run_queue.specs.Order.{sooner}
+use Rattle.run_queue.specs.Order.{before, sooner}
 use Rattle.run_queue.specs.Sorted.{Sorted}
 use Rattle.run_queue.proofs.Orders.{sooner-asym, sooner-trans, sooner-wake}
 use Rattle.cpu_stats.specs.Words.{stats-words}
@@ -18,13 +20,15 @@ use Rattle.percpu.specs.Words.{block-words}
 use Rattle.percpu.specs.With.{cpu-timers}
 use Rattle.percpu.specs.Layout.{counts, columns, cpu-words, timer-at, no-timer}
 use Rattle.percpu.proofs.Read.{timer-is}
-use Rattle.table.specs.First.{first-not, lead}
+use Rattle.table.specs.Keys.{key-at, is-before, has-key-at}
+use Rattle.columns.proofs.Tests.{by-test}
+use Rattle.table.specs.First.{Falls, first-not, lead}
 use Rattle.table.proofs.Tables.{fields}
 use Rattle.table.proofs.Search.{first-is}
 use Rattle.table.proofs.Sorted.{IsOrder}
 use Rattle.table.proofs.Rising.{lead-keeps}
 use Rattle.table.proofs.InBlock.{Table, Lies, entry-fields, count-is}
-use Rattle.timers.specs.Put.{is-due}
+use Rattle.timers.specs.Put.{is-due, timer-key}
 
 -- the six columns of the queue come before
 abbrev pub timer-table : Table Timer
@@ -66,3 +70,24 @@ due-is time b r h c hb g =
 -- of sorted timers, those at the front that are due are all that are due
 pub due-kept : (time : ℕ) (q : List Timer) → Sorted sooner q → (keep (is-due time) q ≡ take (lead (is-due time) q) q) × (keep (λ (t : Timer). not (is-due time t)) q ≡ drop (lead (is-due time) q) q)
 due-kept time = lead-keeps sooner (is-due time) (λ x y h t. le-leb (x .wake) (time + 1) (omega (arith, sooner-wake x y h, leb-true (y .wake) (time + 1) t)))
+
+-- the order of the keys is that of the timers
+pub same-order : (a b : Timer) → before (timer-key a) (timer-key b) ≡ sooner a b
+unfolding before sooner
+same-order a b =
+    by-test (eqb (a .wake) (b .wake))
+    (λ t. let e : a .wake ≡ b .wake = eqb-true (a .wake) (b .wake) t in rw (t, le-ltb (b .wake) (a .wake) (omega arith)))
+    (λ t. rw t)
+
+-- what the search by keys finds is the timer's place
+module _ (b : List ℕ) (t : Timer) (k : Key) (e : k ≡ timer-key t) (n p : ℕ) where
+  pub found : (Falls (is-before b 409 409 473 k) n → p ≡ first-not (is-before b 409 409 473 k) 0 n) → Falls (λ (j : ℕ). sooner (timer-at b j) t) n → p ≡ first-not (λ (j : ℕ). sooner (timer-at b j) t) 0 n
+  unfolding key-at timer-at
+  found =
+      subst (λ (f : ℕ → Bool). Falls f n → p ≡ first-not f 0 n)
+      (λ i j. (ap (before (timer-key (timer-at b j))) e ∙ same-order (timer-at b j) t) i)
+
+  pub has-timer : (r : Bool) → r ≡ has-key-at b 409 409 473 n p k → r ≡ (ltb p n && not (sooner t (timer-at b p)))
+  unfolding key-at timer-at
+  has-timer r h =
+      h ∙ ap (λ (x : Bool). ltb p n && not x) (ap (λ (x : Key). before x (timer-key (timer-at b p))) e ∙ same-order t (timer-at b p))

@@ -4,6 +4,7 @@ use Prim.Native.Nat.{ℕ, _+_}
 use lib.Dec.{ltb, leb}
 use lib.ListN.{length}
 use Rattle.columns.specs.Common.{if_then_else_}
+use Rattle.run_queue.specs.declared.Key.{Key}
 use Rattle.run_queue.specs.declared.Timer.{Timer}
 use Rattle.run_queue.specs.Queue.{timer-insert}
 use Rattle.percpu.specs.Cpu.{Cpu}
@@ -19,3 +20,7 @@ timer-put t c = if no-room t c then c else cpu-timers (timer-insert t (c .timers
 -- `Weak::new()` compares above every context, so a wake of time + 1 is due
 abbrev pub is-due : ℕ → Timer → Bool
 is-due time t = leb (t .wake) (time + 1)
+
+-- a timer as a key of the queue's order
+abbrev pub timer-key : Timer → Key
+timer-key t = record { vd = t .wake; «rem_slice» = t .wake; «ctxt_id» = t .«context_ref» }

@@ -1,16 +1,15 @@
 // The timers in a CPU's block: two columns, sorted by wake and context (a `BTreeSet` in context/mod.rs).
 ghost use mathlib.Core.Path.{_≡_};
-ghost use mathlib.Core.Bool.{true, not, _&&_};
 ghost use Prim.Native.Nat.{ℕ, _+_, _<_, _≤_};
-ghost use lib.Dec.{ltb};
 ghost use lib.ListN.{length, getD, drop};
 ghost use Rattle.run_queue.specs.Order.{sooner};
 ghost use Rattle.run_queue.specs.Sorted.{Sorted};
 ghost use Rattle.percpu.specs.Cpu.{Cpu};
 ghost use Rattle.percpu.specs.With.{cpu-timers};
 ghost use Rattle.percpu.specs.Layout.{cpu-words, timer-at};
-ghost use Rattle.table.specs.First.{first-not, lead, Falls};
-ghost use Rattle.timers.specs.Put.{no-room, timer-put, is-due};
+ghost use Rattle.table.specs.First.{lead};
+ghost use Rattle.timers.specs.Put.{no-room, timer-put, is-due, timer-key};
+use run_queue::Key;
 use run_queue::Timer;
 
 pub fn timer(b: &[u64], i: usize) -> Timer
@@ -23,35 +22,15 @@ pub fn timer(b: &[u64], i: usize) -> Timer
     }
 }
 
-// How many of the first n timers stand before t: where it is, or goes.
-fn find(b: &[u64], n: usize, t: Timer) -> usize
-    requires { ⌜ (length (now b) ≡ 665) × (n ≤ 64) ⌝ }
-    ensures { λ r. ⌜ (r ≤ n) × (Falls (λ (j : ℕ). sooner (timer-at (now (b .entry)) j) t) n → r ≡ first-not (λ (j : ℕ). sooner (timer-at (now (b .entry)) j) t) 0 n) ⌝ }
+// A timer as a key: with the wake twice, only the context decides between equal wakes.
+fn key(t: Timer) -> Key
+    ensures { λ r. ⌜ r ≡ timer-key t ⌝ }
 {
-    let mut low = 0;
-    let mut high = n;
-    while low < high {
-        let middle = (low + high) / 2;
-        let x = timer(b, middle);
-        if x.sooner(t) {
-            low = middle + 1;
-        } else {
-            high = middle;
-        }
+    Key {
+        vd: t.wake,
+        rem_slice: t.wake,
+        ctxt_id: t.context_ref,
     }
-    low
-}
-
-// The timer at the place that `find` gives is t.
-fn holds(b: &[u64], n: usize, p: usize, t: Timer) -> bool
-    requires { ⌜ (length (now b) ≡ 665) × (n ≤ 64) ⌝ }
-    ensures { λ r. ⌜ (r ≡ (ltb p n && not (sooner t (timer-at (now (b .entry)) p)))) × (r ≡ true → p < n) ⌝ }
-{
-    if p < n {
-        let x = timer(b, p);
-        return !t.sooner(x);
-    }
-    false
 }
 
 // An equal pair adds nothing. True if there is no room; then nothing is changed.
@@ -60,18 +39,11 @@ pub fn insert(b: &mut [u64], t: Timer) -> bool
     ensures { λ r. ⌜ ((c : Cpu) → now (b .entry) ≡ cpu-words c → length (c .timers) ≤ 64 → Sorted sooner (c .timers) → (r ≡ no-room t c) × (now (b .exit) ≡ cpu-words (timer-put t c))) ⌝ }
 {
     let n = b[22] as usize;
-    let p = find(b, n, t);
+    let k = key(t);
+    let p = table::find(b, 409, 409, 473, n, k);
+    let held = table::holds(b, 409, 409, 473, n, p, k);
     let values = [t.wake, t.context_ref];
-    if holds(b, n, p, t) {
-        table::store_row(b, 409, &values, p);
-        return false;
-    }
-    if n < 64 {
-        table::insert_row(b, 409, &values, n, p);
-        b[22] = (n + 1) as u64;
-        return false;
-    }
-    true
+    table::put(b, 409, 22, &values, n, p, held)
 }
 
 // How many timers at the front are due.

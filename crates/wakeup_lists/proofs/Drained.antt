@@ -19,7 +19,7 @@ use Rattle.percpu.specs.With.{cpu-local-wakeup-list, cpu-ipi-context-wakeup-lis
 use Rattle.percpu.specs.Words.{block-words}
 use Rattle.percpu.specs.Layout.{cpu-words, counts, columns, front-length}
 use Rattle.percpu.proofs.Read.{ipi-is}
-use Rattle.wakeup_lists.proofs.Pushed.{Listed, ipi-listed}
+use Rattle.wakeup_lists.proofs.Pushed.{Listed, local-listed, ipi-listed}
 
 -- the first i names are behind the local ones
 abbrev pub appended : Cpu → ℕ → Cpu
@@ -70,3 +70,13 @@ cleared b a c e z =
     = col-splice (block-words (c .block) ++ counts c) (columns c) 25 9 (front-length c) (ipi-listed c .place) []
     ∙ ap (λ (k : List (List ℕ)). (block-words (c .block) ++ counts c) ++ flat k) (sym (ipi-listed c .other []))
     in rw (z, e) (ap (λ (m : List ℕ). set m 24 0) i ∙ ipi-listed c .counted [])
+
+-- and the local list's
+pub cleared-local : (b a : List ℕ) (c : Cpu) → b ≡ cpu-words c → a ≡ replicate 64 0
+    → set (splice b 537 64 a) 23 0 ≡ cpu-words (cpu-local-wakeup-list [] c)
+unfolding cpu-words pad
+cleared-local b a c e z =
+    let i : splice (cpu-words c) 537 64 (replicate 64 0) ≡ (block-words (c .block) ++ counts c) ++ flat (columns (cpu-local-wakeup-list [] c))
+    = col-splice (block-words (c .block) ++ counts c) (columns c) 25 8 (front-length c) (local-listed c .place) []
+    ∙ ap (λ (k : List (List ℕ)). (block-words (c .block) ++ counts c) ++ flat k) (sym (local-listed c .other []))
+    in rw (z, e) (ap (λ (m : List ℕ). set m 23 0) i ∙ local-listed c .counted [])

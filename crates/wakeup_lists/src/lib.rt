@@ -74,3 +74,12 @@ pub fn drain_ipi(b: &mut [u64])
     clear(&mut b[601..665]);
     b[24] = 0;
 }
+
+// The local list emptied; the words that it frees are 0.
+pub fn clear_local(b: &mut [u64])
+    requires { ⌜ length (now b) ≡ 665 ⌝ }
+    ensures { λ r. ⌜ ((c : Cpu) → now (b .entry) ≡ cpu-words c → now (b .exit) ≡ cpu-words (cpu-local-wakeup-list [] c)) ⌝ }
+{
+    clear(&mut b[537..601]);
+    b[23] = 0;
+}

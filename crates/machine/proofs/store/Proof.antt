@@ -5,47 +5,34 @@ use native.Mathlib.Omega.{arith}
 use borrow.Author.Needs.{needs}
 use Rattle.machine.proofs.store.Statement.{statement}
 use Rattle.machine.proofs.store.Tie as tie
-use Rattle.machine.proofs.store.Reads as reads
-use Rattle.machine.proofs.store.Lts as lts
-use Rattle.context.proofs.store_context.Reads as store-context-reads
 
--- src/lib.rt:52:18
 mul-at : tie.Need-mul-at
 mul-at c = search needs
 
--- src/lib.rt:52:14
 add-at : tie.Need-add-at
 add-at c = search needs
 
--- src/lib.rt:53:15
 add-end : tie.Need-add-end
 add-end c = search needs
 
--- src/lib.rt:54:28
 mul-store-context : tie.Need-mul-store-context
 mul-store-context c = search needs
 
--- src/lib.rt:54:28
 sub-store-context : tie.Need-sub-store-context
 sub-store-context c = search needs
 
--- src/lib.rt:54:28
 part-store-context-start : tie.Need-part-store-context-start
 part-store-context-start c = search needs
 
--- src/lib.rt:54:28
 part-store-context-end : tie.Need-part-store-context-end
 part-store-context-end c = omega (arith, sized (c .before .pre .0))
 
--- src/lib.rt:54:5
 store-context-requires : tie.Need-store-context-requires
 store-context-requires c κs = search needs
 
--- src/lib.rt:46:1
 same-length : tie.Need-same-length
 same-length c = search needs
 
--- src/lib.rt:46:1
 returns : tie.Need-returns
 returns c = stepped (c .before .before .before .before .before .pre .0) (λ M e o. (put-is _ _ (c .before .before .before .before .before .pre .1 .0) M e o _ _ (c .before .before .store-context .ensures), fits-context M _ _ o (c .before .before .before .before .before .pre .1 .1), refl))
 

@@ -1,32 +1,21 @@
 use Rattle.operations.proofs.Operated.{fits-at, fits-blocked-as, blocked-reply}
 use Rattle.context.specs.declared.Status.the-variants.{Blocked}
-use native.Mathlib.Omega.{arith}
 use borrow.Author.Needs.{needs}
 use Rattle.operations.proofs.block_live.Statement.{statement}
 use Rattle.operations.proofs.block_live.Tie as tie
-use Rattle.operations.proofs.block_live.Reads as reads
-use Rattle.operations.proofs.block_live.Lts as lts
-use Rattle.context.proofs.Context.block.Reads as block-reads
-use Rattle.machine.proofs.load.Reads as load-reads
-use Rattle.operations.proofs.store_changed.Reads as store-changed-reads
 
--- src/lib.rt:110:9
 load-requires : tie.Need-load-requires
 load-requires c κs = search needs
 
--- src/lib.rt:111:9
 block-requires : tie.Need-block-requires
 block-requires c κs = search needs
 
--- src/lib.rt:112:5
 store-changed-requires : tie.Need-store-changed-requires
 store-changed-requires c κs = (c .before .before .before .before .before .pre .0, (c .before .before .before .before .before .pre .1, fits-blocked-as Blocked (c .before .block .ensures) (fits-at (c .before .before .before .before .before .pre .0) _ _ (c .before .before .before .before .before .pre .1) (c .before .before .load .ensures))))
 
--- src/lib.rt:105:1
 same-length : tie.Need-same-length
 same-length c = search needs
 
--- src/lib.rt:105:1
 returns : tie.Need-returns
 returns c = λ M e o. blocked-reply _ Blocked _ M _ _ (c .before .before .before .before .before .load .ensures M e o) (c .before .before .before .before .block .ensures) (c .before .before .store-changed .ensures M e o)
 

@@ -1,97 +1,72 @@
 use Rattle.operations.proofs.Operated.{counts-small, drain-full, drained}
 use Rattle.operations.proofs.Waking.{lent-word}
 use Rattle.machine.proofs.Steps.{sized}
-use mathlib.Core.Path.{refl, sym}
+use mathlib.Core.Path.{refl}
 use native.Mathlib.Omega.{arith}
 use borrow.Author.Needs.{needs}
 use Rattle.operations.proofs.drain.Statement.{statement}
 use Rattle.operations.proofs.drain.Tie as tie
-use Rattle.operations.proofs.drain.Reads as reads
-use Rattle.operations.proofs.drain.Lts as lts
-use Rattle.operations.proofs.refused.Reads as refused-reads
-use Rattle.wakeup_lists.proofs.drain_ipi.Reads as drain-ipi-reads
 
--- src/lib.rt:153:18
 mul-at : tie.Need-mul-at
 mul-at c = search needs
 
--- src/lib.rt:153:14
 add-at : tie.Need-add-at
 add-at c = search needs
 
--- src/lib.rt:153:27
 mul-at-2 : tie.Need-mul-at-2
 mul-at-2 c = search needs
 
--- src/lib.rt:153:14
 add-at-2 : tie.Need-add-at-2
 add-at-2 c = search needs
 
--- src/lib.rt:154:15
 add-end : tie.Need-add-end
 add-end c = search needs
 
--- src/lib.rt:155:19
 add-local : tie.Need-add-local
 add-local c = search needs
 
--- src/lib.rt:155:17
 mul-local : tie.Need-mul-local
 mul-local c = search needs
 
--- src/lib.rt:155:17
 slice-read-local : tie.Need-slice-read-local
 slice-read-local c = omega (arith, sized (c .before .before .pre .0))
 
--- src/lib.rt:156:17
 add-ipi : tie.Need-add-ipi
 add-ipi c = search needs
 
--- src/lib.rt:156:15
 mul-ipi : tie.Need-mul-ipi
 mul-ipi c = search needs
 
--- src/lib.rt:156:15
 slice-read-ipi : tie.Need-slice-read-ipi
 slice-read-ipi c = omega (arith, sized (c .before .before .before .pre .0))
 
--- src/lib.rt:157:13
 add-if1 : tie.Need-add-if1
 add-if1 c = omega (arith, counts-small (c .before .before .before .pre .0) _ (c .before .before .before .pre .1))
 
--- src/lib.rt:158:9
 refused-requires : tie.Need-refused-requires
 refused-requires c κs = search needs
 
--- src/lib.rt:158:9
 returns : tie.Need-returns
 returns c = λ M e o. drain-full _ _ (c .before .before .before .before .before .pre .1) M e o _ _ refl refl (c .refused .ensures) (c .before .if1 .taken)
 
--- src/lib.rt:160:29
 mul-drain-ipi : tie.Need-mul-drain-ipi
 mul-drain-ipi c = search needs
 
--- src/lib.rt:160:29
 sub-drain-ipi : tie.Need-sub-drain-ipi
 sub-drain-ipi c = search needs
 
--- src/lib.rt:160:29
 part-drain-ipi-start : tie.Need-part-drain-ipi-start
 part-drain-ipi-start c = search needs
 
--- src/lib.rt:160:29
 part-drain-ipi-end : tie.Need-part-drain-ipi-end
 part-drain-ipi-end c = omega (arith, sized (c .before .before .before .before .pre .0))
 
--- src/lib.rt:160:5
 drain-ipi-requires : tie.Need-drain-ipi-requires
 drain-ipi-requires c κs = (search needs, rw (lent-word (c .before .before .before .before .before .args .m .now) (c .before .before .before .before .before .args .n) (c .before .before .before .before .before .args .k) 23 (omega arith), lent-word (c .before .before .before .before .before .args .m .now) (c .before .before .before .before .before .args .n) (c .before .before .before .before .before .args .k) 24 (omega arith)) (omega arith))
 
--- src/lib.rt:148:1
 same-length : tie.Need-same-length
 same-length c = search needs
 
--- src/lib.rt:148:1
 returns-2 : tie.Need-returns-2
 returns-2 c = λ M e o. drained _ _ (c .before .before .before .before .before .before .before .before .pre .1) M e o _ _ refl refl (omega arith) (c .before .before .drain-ipi .ensures)
 

@@ -1,32 +1,21 @@
 use Rattle.operations.proofs.Operated.{fits-at, fits-blocked-as, blocked-reply}
 use Rattle.context.specs.declared.Status.the-variants.{Stopped}
-use native.Mathlib.Omega.{arith}
 use borrow.Author.Needs.{needs}
 use Rattle.operations.proofs.hard_block_live.Statement.{statement}
 use Rattle.operations.proofs.hard_block_live.Tie as tie
-use Rattle.operations.proofs.hard_block_live.Reads as reads
-use Rattle.operations.proofs.hard_block_live.Lts as lts
-use Rattle.context.proofs.Context.hard_block.Reads as hard-block-reads
-use Rattle.machine.proofs.load.Reads as load-reads
-use Rattle.operations.proofs.store_changed.Reads as store-changed-reads
 
--- src/lib.rt:120:9
 load-requires : tie.Need-load-requires
 load-requires c κs = search needs
 
--- src/lib.rt:121:9
 hard-block-requires : tie.Need-hard-block-requires
 hard-block-requires c κs = search needs
 
--- src/lib.rt:122:5
 store-changed-requires : tie.Need-store-changed-requires
 store-changed-requires c κs = (c .before .before .before .before .before .pre .0, (c .before .before .before .before .before .pre .1, fits-blocked-as Stopped (c .before .hard-block .ensures) (fits-at (c .before .before .before .before .before .pre .0) _ _ (c .before .before .before .before .before .pre .1) (c .before .before .load .ensures))))
 
--- src/lib.rt:115:1
 same-length : tie.Need-same-length
 same-length c = search needs
 
--- src/lib.rt:115:1
 returns : tie.Need-returns
 returns c = λ M e o. blocked-reply _ Stopped _ M _ _ (c .before .before .before .before .before .load .ensures M e o) (c .before .before .before .before .hard-block .ensures) (c .before .before .store-changed .ensures M e o)
 

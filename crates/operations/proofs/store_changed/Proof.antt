@@ -1,25 +1,17 @@
 use Rattle.operations.proofs.Operated.{stored-reply}
-use native.Mathlib.Omega.{arith}
 use borrow.Author.Needs.{needs}
 use Rattle.operations.proofs.store_changed.Statement.{statement}
 use Rattle.operations.proofs.store_changed.Tie as tie
-use Rattle.operations.proofs.store_changed.Reads as reads
-use Rattle.operations.proofs.store_changed.Lts as lts
-use Rattle.machine.proofs.store.Reads as store-reads
 
--- src/lib.rt:84:5
 store-requires : tie.Need-store-requires
 store-requires c κs = search needs
 
--- src/lib.rt:87:17
 cast-t10 : tie.Need-cast-t10
 cast-t10 c = search needs
 
--- src/lib.rt:77:1
 same-length : tie.Need-same-length
 same-length c = search needs
 
--- src/lib.rt:77:1
 returns : tie.Need-returns
 returns c = λ M e o. stored-reply _ _ _ (c .before .before .before .store .ensures .step M e o .0)
 

@@ -1,41 +1,29 @@
 use Rattle.cpu_stats.specs.Words.{stats-of}
-use native.Mathlib.Omega.{arith}
 use borrow.Author.Needs.{needs}
 use Rattle.percpu.proofs.load_stats.Statement.{statement}
 use Rattle.percpu.proofs.load_stats.Tie as tie
-use Rattle.percpu.proofs.load_stats.Reads as reads
-use Rattle.percpu.proofs.load_stats.Lts as lts
-use Rattle.cpu_stats.proofs.state_of.Reads as state-of-reads
 
--- src/lib.rt:34:37
 shared-slice-read-state-of : tie.Need-shared-slice-read-state-of
 shared-slice-read-state-of c = search needs
 
--- src/lib.rt:34:9
 state-of-requires : tie.Need-state-of-requires
 state-of-requires c κs = search needs
 
--- src/lib.rt:37:15
 shared-slice-read-t4 : tie.Need-shared-slice-read-t4
 shared-slice-read-t4 c = search needs
 
--- src/lib.rt:38:17
 shared-slice-read-t7 : tie.Need-shared-slice-read-t7
 shared-slice-read-t7 c = search needs
 
--- src/lib.rt:39:15
 shared-slice-read-t9 : tie.Need-shared-slice-read-t9
 shared-slice-read-t9 c = search needs
 
--- src/lib.rt:40:27
 shared-slice-read-t11 : tie.Need-shared-slice-read-t11
 shared-slice-read-t11 c = search needs
 
--- src/lib.rt:41:27
 shared-slice-read-t13 : tie.Need-shared-slice-read-t13
 shared-slice-read-t13 c = search needs
 
--- src/lib.rt:30:1
 returns : tie.Need-returns
 unfolding stats-of
 returns c = rw (c .before .before .before .before .before .state-of .ensures)

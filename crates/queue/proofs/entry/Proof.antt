@@ -1,11 +1,12 @@
 -- `queue::entry` meets its contract. Assumes nothing.
 use borrow.Author.Needs.{needs}
+use Rattle.table.specs.Keys.{key-at}
 use Rattle.percpu.specs.Layout.{entry-at}
 use Rattle.queue.proofs.entry.Statement.{statement}
 use Rattle.queue.proofs.entry.Tie as tie
 
-key-at-requires : tie.Need-key-at-requires
-key-at-requires c κs = search needs
+key-requires : tie.Need-key-requires
+key-requires c κs = search needs
 
 add-t4 : tie.Need-add-t4
 add-t4 c = search needs
@@ -35,14 +36,14 @@ shared-slice-read-t15 : tie.Need-shared-slice-read-t15
 shared-slice-read-t15 c = search needs
 
 returns : tie.Need-returns
-unfolding entry-at
-returns c = rw (c .before .before .before .key-at .ensures)
+unfolding entry-at key-at
+returns c = rw (c .before .before .before .key .ensures)
 
 pub entry-spec : {M : Type 1} → statement M
 entry-spec =
     tie.close
     (tie.spec
-    key-at-requires
+    key-requires
     add-t4
     mul-t5
     shared-slice-read-t7

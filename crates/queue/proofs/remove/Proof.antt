@@ -5,6 +5,8 @@ use borrow.Author.Needs.{needs}
 use Rattle.queue.proofs.Table.{queue-table, queue-lies, entry-order}
 use Rattle.table.proofs.Sorted.{takes, leaves}
 use Rattle.table.proofs.Tables.{row}
+use Rattle.table.specs.Keys.{key-at}
+use Rattle.percpu.specs.Layout.{entry-at}
 use Rattle.run_queue.specs.Queue.{keyed}
 use Rattle.run_queue.specs.Order.{entry-before}
 use Rattle.queue.proofs.remove.Statement.{statement}
@@ -32,13 +34,14 @@ same-length : tie.Need-same-length
 same-length c = search needs
 
 returns : tie.Need-returns
-unfolding row
+unfolding row key-at entry-at
 returns c = λ k hb g u. takes queue-table queue-lies entry-before entry-order (keyed (c .before .before .before .before .before .before .before .before .before .before .before .args .k)) (c .before .before .before .before .before .before .before .before .before .before .before .args .b .now) _ _ _ refl (c .before .before .before .before .before .before .before .find .ensures .1) (c .before .before .before .before .before .holds .ensures .0) k hb g u _ _ (c .before .before .before .before .if1 .taken) (c .before .before .remove-row .ensures) refl
 
 same-length-2 : tie.Need-same-length-2
 same-length-2 c = search needs
 
 returns-2 : tie.Need-returns-2
+unfolding key-at entry-at
 returns-2 c = λ k hb g u. leaves queue-table queue-lies entry-before entry-order (keyed (c .before .before .before .before .before .before .before .args .k)) (c .before .before .before .before .before .before .before .args .b .now) _ _ _ refl (c .before .before .before .find .ensures .1) (c .before .holds .ensures .0) k hb g u (c .if1 .left)
 
 pub remove-spec : {M : Type 1} → statement M

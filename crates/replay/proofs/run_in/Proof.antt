@@ -1,12 +1,8 @@
 use lib.ListN.{length}
-use mathlib.Core.Path.{_≡_, refl}
+use mathlib.Core.Path.{_≡_}
 use borrow.Author.Needs.{needs}
-use native.Mathlib.Omega.{arith}
 use Rattle.replay.proofs.run_in.Statement.{statement}
 use Rattle.replay.proofs.run_in.Tie as tie
-use Rattle.replay.proofs.run_in.Reads as reads
-use Rattle.replay.proofs.run_in.Lts as lts
-use Rattle.replay.proofs.take_turn.Reads as take-turn-reads
 
 abbrev Inv-loop : tie.InvT-loop
 Inv-loop text₀ m₀ old₀ have₀ turns₀ text m old have turns = (length text ≡ length text₀) × (length m ≡ length m₀) × (length old ≡ length old₀)
@@ -14,55 +10,42 @@ Inv-loop text₀ m₀ old₀ have₀ turns₀ text m old have turns = (length te
 abbrev μ-loop : tie.MeasureT-loop
 μ-loop text₀ m₀ old₀ have₀ turns₀ text m old have turns = turns
 
--- src/lib.rt:233:5
 loop-holds : tie.Need-loop-holds Inv-loop μ-loop
 loop-holds c = search needs
 
--- src/lib.rt:234:13
 take-turn-requires : tie.Need-take-turn-requires Inv-loop μ-loop
 take-turn-requires c κs = search needs
 
--- src/lib.rt:236:13
 same-length : tie.Need-same-length Inv-loop μ-loop
 same-length c = search needs
 
--- src/lib.rt:236:13
 same-length-2 : tie.Need-same-length-2 Inv-loop μ-loop
 same-length-2 c = search needs
 
--- src/lib.rt:236:13
 same-length-3 : tie.Need-same-length-3 Inv-loop μ-loop
 same-length-3 c = search needs
 
--- src/lib.rt:236:13
 returns : tie.Need-returns Inv-loop μ-loop
 returns c = search needs
 
--- src/lib.rt:239:9
 sub-turns : tie.Need-sub-turns Inv-loop μ-loop
 sub-turns c = search needs
 
--- src/lib.rt:233:5
 loop-less : tie.Need-loop-less Inv-loop μ-loop
 loop-less c = search needs
 
--- src/lib.rt:233:5
 loop-again : tie.Need-loop-again Inv-loop μ-loop
 loop-again c = search needs
 
--- src/lib.rt:230:1
 same-length-4 : tie.Need-same-length-4 Inv-loop μ-loop
 same-length-4 c = search needs
 
--- src/lib.rt:230:1
 same-length-5 : tie.Need-same-length-5 Inv-loop μ-loop
 same-length-5 c = search needs
 
--- src/lib.rt:230:1
 same-length-6 : tie.Need-same-length-6 Inv-loop μ-loop
 same-length-6 c = search needs
 
--- src/lib.rt:230:1
 returns-2 : tie.Need-returns-2 Inv-loop μ-loop
 returns-2 c = search needs
 

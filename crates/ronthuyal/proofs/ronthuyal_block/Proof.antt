@@ -1,47 +1,32 @@
 use Rattle.ronthuyal.proofs.Called.{call-refused, call-image, call-done}
-use native.Mathlib.Omega.{arith}
 use borrow.Author.Needs.{needs}
 use Rattle.ronthuyal.proofs.ronthuyal_block.Statement.{statement}
 use Rattle.ronthuyal.proofs.ronthuyal_block.Tie as tie
-use Rattle.ronthuyal.proofs.ronthuyal_block.Reads as reads
-use Rattle.ronthuyal.proofs.ronthuyal_block.Lts as lts
-use Rattle.operations.proofs.block.Reads as block-reads
-use Rattle.operations.proofs.refused.Reads as refused-reads
-use Rattle.ronthuyal.proofs.check.Reads as check-reads
 
--- src/lib.rt:52:9
 check-requires : tie.Need-check-requires
 check-requires c κs = search needs
 
--- src/lib.rt:54:26
 enum-known-checked : tie.Need-enum-known-checked
 enum-known-checked c = search needs
 
--- src/lib.rt:54:37
 refused-requires : tie.Need-refused-requires
 refused-requires c κs = search needs
 
--- src/lib.rt:55:25
 enum-known-checked-2 : tie.Need-enum-known-checked-2
 enum-known-checked-2 c = search needs
 
--- src/lib.rt:55:34
 block-requires : tie.Need-block-requires
 block-requires c κs = call-image _ _ _ (c .before .before .before .before .check .ensures) _ _ (c .before .before .checked2 .given .1)
 
--- src/lib.rt:48:1
 same-length : tie.Need-same-length
 same-length c = search needs
 
--- src/lib.rt:48:1
 returns : tie.Need-returns
 returns c = call-refused _ _ _ (c .before .before .before .before .check .ensures) _ _ (c .before .before .checked .given .1) (c .refused .ensures)
 
--- src/lib.rt:48:1
 same-length-2 : tie.Need-same-length-2
 same-length-2 c = search needs
 
--- src/lib.rt:48:1
 returns-2 : tie.Need-returns-2
 returns-2 c = call-done _ _ _ (c .before .before .before .before .before .before .before .check .ensures) _ _ _ (c .before .before .before .before .before .checked2 .given .1) (c .before .before .block .ensures)
 

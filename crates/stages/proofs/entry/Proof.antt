@@ -4,51 +4,37 @@ use native.Mathlib.Omega.{arith}
 use borrow.Author.Needs.{needs}
 use Rattle.stages.proofs.entry.Statement.{statement}
 use Rattle.stages.proofs.entry.Tie as tie
-use Rattle.stages.proofs.entry.Reads as reads
-use Rattle.stages.proofs.entry.Lts as lts
-use Rattle.queue.proofs.entry.Reads as entry-reads
 
--- src/lib.rt:113:18
 mul-at : tie.Need-mul-at
 mul-at c = search needs
 
--- src/lib.rt:113:14
 add-at : tie.Need-add-at
 add-at c = search needs
 
--- src/lib.rt:113:27
 mul-at-2 : tie.Need-mul-at-2
 mul-at-2 c = search needs
 
--- src/lib.rt:113:14
 add-at-2 : tie.Need-add-at-2
 add-at-2 c = search needs
 
--- src/lib.rt:114:15
 add-end : tie.Need-add-end
 add-end c = search needs
 
--- src/lib.rt:115:18
 mul-entry : tie.Need-mul-entry
 mul-entry c = search needs
 
--- src/lib.rt:115:18
 sub-entry : tie.Need-sub-entry
 sub-entry c = search needs
 
--- src/lib.rt:115:18
 part-entry-start : tie.Need-part-entry-start
 part-entry-start c = search needs
 
--- src/lib.rt:115:18
 part-entry-end : tie.Need-part-entry-end
 part-entry-end c = omega (arith, sized (c .before .pre .0))
 
--- src/lib.rt:115:5
 entry-requires : tie.Need-entry-requires
 entry-requires c κs = (search needs, omega (arith, queue-small (c .before .before .pre .0) _ (c .before .before .pre .1 .0)))
 
--- src/lib.rt:108:1
 returns : tie.Need-returns
 returns c = entry-read (c .before .before .before .pre .0) _ _ (c .before .before .before .pre .1 .0) (c .before .before .before .pre .1 .1) _ (c .entry .ensures)
 

@@ -6,55 +6,40 @@ use native.Mathlib.Omega.{arith}
 use borrow.Author.Needs.{needs}
 use Rattle.stages.proofs.insert_timer.Statement.{statement}
 use Rattle.stages.proofs.insert_timer.Tie as tie
-use Rattle.stages.proofs.insert_timer.Reads as reads
-use Rattle.stages.proofs.insert_timer.Lts as lts
-use Rattle.timers.proofs.insert.Reads as insert-reads
 
--- src/lib.rt:82:18
 mul-at : tie.Need-mul-at
 mul-at c = search needs
 
--- src/lib.rt:82:14
 add-at : tie.Need-add-at
 add-at c = search needs
 
--- src/lib.rt:82:27
 mul-at-2 : tie.Need-mul-at-2
 mul-at-2 c = search needs
 
--- src/lib.rt:82:14
 add-at-2 : tie.Need-add-at-2
 add-at-2 c = search needs
 
--- src/lib.rt:83:15
 add-end : tie.Need-add-end
 add-end c = search needs
 
--- src/lib.rt:84:20
 mul-insert : tie.Need-mul-insert
 mul-insert c = search needs
 
--- src/lib.rt:84:20
 sub-insert : tie.Need-sub-insert
 sub-insert c = search needs
 
--- src/lib.rt:84:20
 part-insert-start : tie.Need-part-insert-start
 part-insert-start c = search needs
 
--- src/lib.rt:84:20
 part-insert-end : tie.Need-part-insert-end
 part-insert-end c = omega (arith, sized (c .before .pre .0))
 
--- src/lib.rt:84:5
 insert-requires : tie.Need-insert-requires
 insert-requires c κs = (search needs, subst (λ y. y ≤ 64) (sym (lent-word (c .before .before .args .m .now) (c .before .before .args .n) (c .before .before .args .k) 22 (omega arith))) (timers-small (c .before .before .pre .0) _ (c .before .before .pre .1 .0)))
 
--- src/lib.rt:77:1
 same-length : tie.Need-same-length
 same-length c = search needs
 
--- src/lib.rt:77:1
 returns : tie.Need-returns
 returns c = staged-timer (c .before .before .before .before .before .pre .0) _ (c .before .before .before .before .before .pre .1 .0) _ _ _ (c .before .before .before .before .before .pre .1 .1) (c .before .before .insert .ensures)
 

@@ -4,51 +4,37 @@ use native.Mathlib.Omega.{arith}
 use borrow.Author.Needs.{needs}
 use Rattle.stages.proofs.load_block.Statement.{statement}
 use Rattle.stages.proofs.load_block.Tie as tie
-use Rattle.stages.proofs.load_block.Reads as reads
-use Rattle.stages.proofs.load_block.Lts as lts
-use Rattle.stages.proofs.block.load.Reads as load-reads
 
--- src/lib.rt:29:18
 mul-at : tie.Need-mul-at
 mul-at c = search needs
 
--- src/lib.rt:29:14
 add-at : tie.Need-add-at
 add-at c = search needs
 
--- src/lib.rt:29:27
 mul-at-2 : tie.Need-mul-at-2
 mul-at-2 c = search needs
 
--- src/lib.rt:29:14
 add-at-2 : tie.Need-add-at-2
 add-at-2 c = search needs
 
--- src/lib.rt:30:15
 add-end : tie.Need-add-end
 add-end c = search needs
 
--- src/lib.rt:31:17
 mul-load : tie.Need-mul-load
 mul-load c = search needs
 
--- src/lib.rt:31:17
 sub-load : tie.Need-sub-load
 sub-load c = search needs
 
--- src/lib.rt:31:17
 part-load-start : tie.Need-part-load-start
 part-load-start c = search needs
 
--- src/lib.rt:31:17
 part-load-end : tie.Need-part-load-end
 part-load-end c = omega (arith, sized (c .before .pre .0))
 
--- src/lib.rt:31:5
 load-requires : tie.Need-load-requires
 load-requires c κs = search needs
 
--- src/lib.rt:24:1
 returns : tie.Need-returns
 returns c = λ M e o. c .load .ensures _ (lent-is _ _ (c .before .before .before .pre .1) M e o)
 

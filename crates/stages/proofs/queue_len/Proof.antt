@@ -5,43 +5,31 @@ use native.Mathlib.Omega.{arith}
 use borrow.Author.Needs.{needs}
 use Rattle.stages.proofs.queue_len.Statement.{statement}
 use Rattle.stages.proofs.queue_len.Tie as tie
-use Rattle.stages.proofs.queue_len.Reads as reads
-use Rattle.stages.proofs.queue_len.Lts as lts
-use Rattle.machine.proofs.index.Reads as index-reads
 
--- src/lib.rt:104:18
 mul-at : tie.Need-mul-at
 mul-at c = search needs
 
--- src/lib.rt:104:14
 add-at : tie.Need-add-at
 add-at c = search needs
 
--- src/lib.rt:104:27
 mul-at-2 : tie.Need-mul-at-2
 mul-at-2 c = search needs
 
--- src/lib.rt:104:14
 add-at-2 : tie.Need-add-at-2
 add-at-2 c = search needs
 
--- src/lib.rt:104:14
 add-at-3 : tie.Need-add-at-3
 add-at-3 c = search needs
 
--- src/lib.rt:105:20
 mul-index : tie.Need-mul-index
 mul-index c = search needs
 
--- src/lib.rt:105:20
 shared-slice-read-index : tie.Need-shared-slice-read-index
 shared-slice-read-index c = omega (arith, sized (c .before .before .pre .0))
 
--- src/lib.rt:105:5
 index-requires : tie.Need-index-requires
 index-requires c κs = search needs
 
--- src/lib.rt:99:1
 returns : tie.Need-returns
 returns c = (c .index .ensures, omega (arith, queue-small (c .before .before .before .pre .0) _ (c .before .before .before .pre .1), c .index .ensures), λ M e o. c .index .ensures ∙ queue-count _ _ (c .before .before .before .pre .1) M e o)
 

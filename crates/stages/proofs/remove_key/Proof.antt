@@ -6,55 +6,40 @@ use native.Mathlib.Omega.{arith}
 use borrow.Author.Needs.{needs}
 use Rattle.stages.proofs.remove_key.Statement.{statement}
 use Rattle.stages.proofs.remove_key.Tie as tie
-use Rattle.stages.proofs.remove_key.Reads as reads
-use Rattle.stages.proofs.remove_key.Lts as lts
-use Rattle.stages.proofs.block.remove_key.Reads as remove-key-reads
 
--- src/lib.rt:71:18
 mul-at : tie.Need-mul-at
 mul-at c = search needs
 
--- src/lib.rt:71:14
 add-at : tie.Need-add-at
 add-at c = search needs
 
--- src/lib.rt:71:27
 mul-at-2 : tie.Need-mul-at-2
 mul-at-2 c = search needs
 
--- src/lib.rt:71:14
 add-at-2 : tie.Need-add-at-2
 add-at-2 c = search needs
 
--- src/lib.rt:72:15
 add-end : tie.Need-add-end
 add-end c = search needs
 
--- src/lib.rt:73:23
 mul-remove-key : tie.Need-mul-remove-key
 mul-remove-key c = search needs
 
--- src/lib.rt:73:23
 sub-remove-key : tie.Need-sub-remove-key
 sub-remove-key c = search needs
 
--- src/lib.rt:73:23
 part-remove-key-start : tie.Need-part-remove-key-start
 part-remove-key-start c = search needs
 
--- src/lib.rt:73:23
 part-remove-key-end : tie.Need-part-remove-key-end
 part-remove-key-end c = omega (arith, sized (c .before .pre .0))
 
--- src/lib.rt:73:5
 remove-key-requires : tie.Need-remove-key-requires
 remove-key-requires c κs = (search needs, subst (λ y. y ≤ 64) (sym (lent-word (c .before .before .args .m .now) (c .before .before .args .n) (c .before .before .args .k) 21 (omega arith))) (queue-small (c .before .before .pre .0) _ (c .before .before .pre .1)))
 
--- src/lib.rt:66:1
 same-length : tie.Need-same-length
 same-length c = search needs
 
--- src/lib.rt:66:1
 returns : tie.Need-returns
 returns c = staged-removal (c .before .before .before .before .before .pre .0) _ (c .before .before .before .before .before .pre .1) _ _ (c .before .before .remove-key .ensures)
 

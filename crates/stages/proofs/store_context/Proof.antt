@@ -1,21 +1,14 @@
 use Rattle.stages.proofs.Lent.{staged-context}
-use native.Mathlib.Omega.{arith}
 use borrow.Author.Needs.{needs}
 use Rattle.stages.proofs.store_context.Statement.{statement}
 use Rattle.stages.proofs.store_context.Tie as tie
-use Rattle.stages.proofs.store_context.Reads as reads
-use Rattle.stages.proofs.store_context.Lts as lts
-use Rattle.machine.proofs.store.Reads as store-reads
 
--- src/lib.rt:51:5
 store-requires : tie.Need-store-requires
 store-requires c κs = search needs
 
--- src/lib.rt:45:1
 same-length : tie.Need-same-length
 same-length c = search needs
 
--- src/lib.rt:45:1
 returns : tie.Need-returns
 returns c = staged-context _ _ _ (c .before .before .before .before .before .pre .1 .0 .0) (c .before .before .store .ensures) (c .before .before .before .before .before .pre .0)
 

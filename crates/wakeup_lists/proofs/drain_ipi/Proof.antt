@@ -1,45 +1,31 @@
 use Rattle.wakeup_lists.proofs.Drained.{cleared}
 use Rattle.columns.specs.Blocks.{splice}
 use lib.ListN.{length-set}
-use mathlib.Core.Path.{_≡_, refl, sym, ap, _∙_}
-use native.Mathlib.Omega.{arith}
 use borrow.Author.Needs.{needs}
 use Rattle.wakeup_lists.proofs.drain_ipi.Statement.{statement}
 use Rattle.wakeup_lists.proofs.drain_ipi.Tie as tie
-use Rattle.wakeup_lists.proofs.drain_ipi.Reads as reads
-use Rattle.wakeup_lists.proofs.drain_ipi.Lts as lts
-use Rattle.wakeup_lists.proofs.append_ipi.Reads as append-ipi-reads
-use Rattle.wakeup_lists.proofs.clear.Reads as clear-reads
 
--- src/lib.rt:73:5
 append-ipi-requires : tie.Need-append-ipi-requires
 append-ipi-requires c κs = search needs
 
--- src/lib.rt:74:11
 sub-clear : tie.Need-sub-clear
 sub-clear c = search needs
 
--- src/lib.rt:74:11
 part-clear-start : tie.Need-part-clear-start
 part-clear-start c = search needs
 
--- src/lib.rt:74:11
 part-clear-end : tie.Need-part-clear-end
 part-clear-end c = search needs
 
--- src/lib.rt:74:5
 clear-requires : tie.Need-clear-requires
 clear-requires c κs = search needs
 
--- src/lib.rt:75:5
 slice-write-b : tie.Need-slice-write-b
 slice-write-b c = search needs
 
--- src/lib.rt:69:1
 same-length : tie.Need-same-length
 same-length c = simp length-set (search needs)
 
--- src/lib.rt:69:1
 returns : tie.Need-returns
 unfolding splice
 returns c = λ p e l. cleared _ _ _ (c .before .before .before .before .before .before .append-ipi .ensures p e l) (c .before .before .clear .ensures)

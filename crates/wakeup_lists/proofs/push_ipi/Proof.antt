@@ -4,53 +4,37 @@ use native.Mathlib.Omega.{arith}
 use borrow.Author.Needs.{needs}
 use Rattle.wakeup_lists.proofs.push_ipi.Statement.{statement}
 use Rattle.wakeup_lists.proofs.push_ipi.Tie as tie
-use Rattle.wakeup_lists.proofs.push_ipi.Reads as reads
-use Rattle.wakeup_lists.proofs.push_ipi.Lts as lts
-use Rattle.columns.proofs.insert_at.Reads as insert-at-reads
-use Rattle.wakeup_lists.proofs.index.Reads as index-reads
-use Rattle.wakeup_lists.proofs.word.Reads as word-reads
 
--- src/lib.rt:37:19
 slice-read-index : tie.Need-slice-read-index
 slice-read-index c = search needs
 
--- src/lib.rt:37:9
 index-requires : tie.Need-index-requires
 index-requires c κs = search needs
 
--- src/lib.rt:38:24
 sub-insert-at : tie.Need-sub-insert-at
 sub-insert-at c = search needs
 
--- src/lib.rt:38:24
 part-insert-at-start : tie.Need-part-insert-at-start
 part-insert-at-start c = search needs
 
--- src/lib.rt:38:24
 part-insert-at-end : tie.Need-part-insert-at-end
 part-insert-at-end c = search needs
 
--- src/lib.rt:38:5
 insert-at-requires : tie.Need-insert-at-requires
 insert-at-requires c κs = search needs
 
--- src/lib.rt:39:18
 add-word : tie.Need-add-word
 add-word c = search needs
 
--- src/lib.rt:39:13
 word-requires : tie.Need-word-requires
 word-requires c κs = search needs
 
--- src/lib.rt:39:5
 slice-write-b : tie.Need-slice-write-b
 slice-write-b c = search needs
 
--- src/lib.rt:33:1
 same-length : tie.Need-same-length
 same-length c = search needs
 
--- src/lib.rt:33:1
 returns : tie.Need-returns
 unfolding part splice
 returns c = λ p e. pushed (ipi-listed p) _ _ _ _ _ e (c .before .before .before .before .before .index .ensures) (omega (arith, c .before .before .before .before .before .before .before .before .pre .1, c .before .before .before .before .before .index .ensures)) (c .before .before .before .insert-at .ensures) (c .word .ensures)

@@ -1,28 +1,19 @@
 use mathlib.Core.Path.{sym, _∙_}
 use Rattle.context.specs.Block.{blocked-as}
-use native.Mathlib.Omega.{arith}
 use borrow.Author.Needs.{needs}
 use Rattle.context.proofs.Context.blocked_as.Statement.{statement}
 use Rattle.context.proofs.Context.blocked_as.Tie as tie
-use Rattle.context.proofs.Context.blocked_as.Reads as reads
-use Rattle.context.proofs.Context.blocked_as.Lts as lts
-use Rattle.context.proofs.Context.with_status.Reads as with-status-reads
-use Rattle.context.proofs.Status.is_runnable.Reads as is-runnable-reads
 
--- src/lib.rt:129:12
 is-runnable-requires : tie.Need-is-runnable-requires
 is-runnable-requires c κs = search needs
 
--- src/lib.rt:131:26
 with-status-requires : tie.Need-with-status-requires
 with-status-requires c κs = search needs
 
--- src/lib.rt:130:13
 returns : tie.Need-returns
 unfolding blocked-as
 returns c = rw (sym (c .before .before .is-runnable .ensures) ∙ c .before .if1 .taken, c .with-status .ensures)
 
--- src/lib.rt:125:5
 returns-2 : tie.Need-returns-2
 unfolding blocked-as
 returns-2 c = rw (sym (c .before .is-runnable .ensures) ∙ c .if1 .left)

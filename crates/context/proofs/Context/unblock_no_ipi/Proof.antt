@@ -1,28 +1,19 @@
 use mathlib.Core.Path.{sym, _∙_}
 use Rattle.context.specs.Block.{unblocked}
-use native.Mathlib.Omega.{arith}
 use borrow.Author.Needs.{needs}
 use Rattle.context.proofs.Context.unblock_no_ipi.Statement.{statement}
 use Rattle.context.proofs.Context.unblock_no_ipi.Tie as tie
-use Rattle.context.proofs.Context.unblock_no_ipi.Reads as reads
-use Rattle.context.proofs.Context.unblock_no_ipi.Lts as lts
-use Rattle.context.proofs.Context.with_status.Reads as with-status-reads
-use Rattle.context.proofs.Status.is_soft_blocked.Reads as is-soft-blocked-reads
 
--- src/lib.rt:159:12
 is-soft-blocked-requires : tie.Need-is-soft-blocked-requires
 is-soft-blocked-requires c κs = search needs
 
--- src/lib.rt:161:26
 with-status-requires : tie.Need-with-status-requires
 with-status-requires c κs = search needs
 
--- src/lib.rt:160:13
 returns : tie.Need-returns
 unfolding unblocked
 returns c = rw (sym (c .before .before .is-soft-blocked .ensures) ∙ c .before .if1 .taken, c .with-status .ensures)
 
--- src/lib.rt:155:5
 returns-2 : tie.Need-returns-2
 unfolding unblocked
 returns-2 c = rw (sym (c .before .is-soft-blocked .ensures) ∙ c .if1 .left)

@@ -1,38 +1,28 @@
 use mathlib.Core.Path.{sym}
 use Rattle.context.specs.Status.{status-of, status-of-rest}
-use borrow.Author.Needs.{needs}
-use native.Mathlib.Omega.{arith}
 use Rattle.context.proofs.record.status_of.Statement.{statement}
 use Rattle.context.proofs.record.status_of.Tie as tie
-use Rattle.context.proofs.record.status_of.Reads as reads
-use Rattle.context.proofs.record.status_of.Lts as lts
 
--- src/record.rt:23:1
 returns : tie.Need-returns
 unfolding status-of
 returns c = rw (c .match .keys1)
 
--- src/record.rt:23:1
 returns-2 : tie.Need-returns-2
 unfolding status-of
 returns-2 c = rw (c .match .keys2)
 
--- src/record.rt:23:1
 returns-3 : tie.Need-returns-3
 unfolding status-of
 returns-3 c = rw (c .match .keys3)
 
--- src/record.rt:23:1
 returns-4 : tie.Need-returns-4
 unfolding status-of
 returns-4 c = rw (c .match .keys4)
 
--- src/record.rt:23:1
 returns-5 : tie.Need-returns-5
 unfolding status-of
 returns-5 c = rw (c .match .keys5)
 
--- src/record.rt:23:1
 returns-6 : tie.Need-returns-6
 returns-6 c = sym (status-of-rest _ (c .match .rest .0 .0 .0 .0 .1) (c .match .rest .0 .0 .0 .1) (c .match .rest .0 .0 .1) (c .match .rest .0 .1) (c .match .rest .1))
 

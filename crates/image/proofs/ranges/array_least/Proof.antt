@@ -1,21 +1,15 @@
 use Rattle.image.specs.Ranges.{array-least}
 use mathlib.Core.Path.{refl}
-use native.Mathlib.Omega.{arith}
 use borrow.Author.Needs.{needs}
 use Rattle.image.proofs.ranges.array_least.Statement.{statement}
 use Rattle.image.proofs.ranges.array_least.Tie as tie
-use Rattle.image.proofs.ranges.array_least.Reads as reads
-use Rattle.image.proofs.ranges.array_least.Lts as lts
 
--- src/ranges.rt:137:5
 mul-result : tie.Need-mul-result
 mul-result c = search needs
 
--- src/ranges.rt:137:5
 array-read-result : tie.Need-array-read-result
 array-read-result c = search needs
 
--- src/ranges.rt:133:1
 returns : tie.Need-returns
 unfolding array-least
 returns c = refl

@@ -1,19 +1,15 @@
-use Rattle.image.specs.Ranges.{within, block-most, array-most, array-in-range}
-use Rattle.columns.proofs.Tests.{every-none, every-next, every-no, every-end, and-no}
-use Rattle.columns.specs.Common.{every, if_then_else_}
-use borrow.Author.Tests.{le-leb, lt-leb, lt-ltb, le-ltb, eq-eqb, ne-eqb, not-true, not-false}
-use lib.ListN.{length, getD}
-use lib.Dec.{ltb, leb, eqb}
-use Prim.Native.Nat.{ℕ, _+_, _-_, _*_, _<_, _≤_}
-use mathlib.Core.Bool.{Bool, true, false, _&&_, not}
+use Rattle.image.specs.Ranges.{array-most, array-in-range}
+use Rattle.columns.proofs.Tests.{every-none, every-next, every-no, every-end}
+use Rattle.columns.specs.Common.{every}
+use borrow.Author.Tests.{not-true, not-false}
+use lib.ListN.{getD}
+use Prim.Native.Nat.{_-_, _≤_}
+use mathlib.Core.Bool.{true}
 use mathlib.Core.Path.{_≡_, refl, sym, ap, _∙_}
 use borrow.Author.Needs.{needs}
 use native.Mathlib.Omega.{arith}
 use Rattle.image.proofs.ranges.arrays_in_range.Statement.{statement}
 use Rattle.image.proofs.ranges.arrays_in_range.Tie as tie
-use Rattle.image.proofs.ranges.arrays_in_range.Reads as reads
-use Rattle.image.proofs.ranges.arrays_in_range.Lts as lts
-use Rattle.image.proofs.ranges.array_in_range.Reads as array-in-range-reads
 
 abbrev Inv-loop : tie.InvT-loop
 Inv-loop b n last high j₀ j = (j ≤ 10) × (high ≡ array-most n) × (every (array-in-range n b) j ≡ true)
@@ -21,44 +17,34 @@ Inv-loop b n last high j₀ j = (j ≤ 10) × (high ≡ array-most n) × (every 
 abbrev μ-loop : tie.MeasureT-loop
 μ-loop b n last high j₀ j = 10 - j
 
--- src/ranges.rt:163:16
 sub-last : tie.Need-sub-last Inv-loop μ-loop
 sub-last c = search needs
 
--- src/ranges.rt:168:5
 loop-holds : tie.Need-loop-holds Inv-loop μ-loop
 unfolding array-most
 loop-holds c = (omega arith, refl, every-none _)
 
--- src/ranges.rt:169:37
 mul-array-in-range : tie.Need-mul-array-in-range Inv-loop μ-loop
 mul-array-in-range c = search needs
 
--- src/ranges.rt:169:37
 array-read-array-in-range : tie.Need-array-read-array-in-range Inv-loop μ-loop
 array-read-array-in-range c = search needs
 
--- src/ranges.rt:169:13
 array-in-range-requires : tie.Need-array-in-range-requires Inv-loop μ-loop
 array-in-range-requires c κs = (c .before .before .before .pre .0, (c .before .before .before .pre .1 .0, (c .loop-test .taken, ap (λ l. getD l (c .before .loop .j) 0) (c .before .loop .inv .1))))
 
--- src/ranges.rt:170:13
 returns : tie.Need-returns Inv-loop μ-loop
 returns c = sym (every-no _ 10 _ (c .before .before .loop-test .taken) (sym (c .before .array-in-range .ensures) ∙ not-true _ (c .if1 .taken)))
 
--- src/ranges.rt:172:9
 add-j : tie.Need-add-j Inv-loop μ-loop
 add-j c = search needs
 
--- src/ranges.rt:168:5
 loop-less : tie.Need-loop-less Inv-loop μ-loop
 loop-less c = search needs
 
--- src/ranges.rt:168:5
 loop-again : tie.Need-loop-again Inv-loop μ-loop
 loop-again c = (omega arith, c .before .before .before .loop .inv .1, every-next _ _ (c .before .before .before .loop .inv .2) (sym (c .before .array-in-range .ensures) ∙ not-false _ (c .if1 .left)))
 
--- src/ranges.rt:157:1
 returns-2 : tie.Need-returns-2 Inv-loop μ-loop
 returns-2 c = every-end _ 10 _ (c .loop-test .left) (c .before .loop .inv .0) (c .before .loop .inv .2)
 

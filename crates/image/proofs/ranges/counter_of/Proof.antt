@@ -1,22 +1,16 @@
 use Rattle.image.proofs.Checked.{counter-small}
 use Rattle.percpu.specs.Layout.{counter}
 use mathlib.Core.Path.{refl}
-use native.Mathlib.Omega.{arith}
 use borrow.Author.Needs.{needs}
 use Rattle.image.proofs.ranges.counter_of.Statement.{statement}
 use Rattle.image.proofs.ranges.counter_of.Tie as tie
-use Rattle.image.proofs.ranges.counter_of.Reads as reads
-use Rattle.image.proofs.ranges.counter_of.Lts as lts
 
--- src/ranges.rt:130:5
 mul-result : tie.Need-mul-result
 mul-result c = search needs
 
--- src/ranges.rt:130:5
 array-read-result : tie.Need-array-read-result
 array-read-result c = search needs
 
--- src/ranges.rt:126:1
 returns : tie.Need-returns
 unfolding counter
 returns c = (refl, counter-small _ (c .pre))

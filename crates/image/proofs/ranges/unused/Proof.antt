@@ -1,18 +1,16 @@
 use Rattle.image.specs.Ranges.{unused}
-use Rattle.columns.proofs.Tests.{every-none, every-next, every-no, every-end, and-no}
-use Rattle.columns.specs.Common.{every, if_then_else_}
-use borrow.Author.Tests.{le-leb, lt-leb, lt-ltb, le-ltb, eq-eqb, ne-eqb, not-true, not-false}
+use Rattle.columns.proofs.Tests.{every-none, every-next, every-no, every-end}
+use Rattle.columns.specs.Common.{every}
+use borrow.Author.Tests.{eq-eqb, ne-eqb}
 use lib.ListN.{length, getD}
-use lib.Dec.{ltb, leb, eqb}
-use Prim.Native.Nat.{ℕ, _+_, _-_, _*_, _<_, _≤_}
-use mathlib.Core.Bool.{Bool, true, false, _&&_, not}
-use mathlib.Core.Path.{_≡_, refl, sym, ap, _∙_}
+use lib.Dec.{eqb}
+use Prim.Native.Nat.{ℕ, _+_, _-_, _≤_}
+use mathlib.Core.Bool.{true}
+use mathlib.Core.Path.{_≡_, sym}
 use borrow.Author.Needs.{needs}
 use native.Mathlib.Omega.{arith}
 use Rattle.image.proofs.ranges.unused.Statement.{statement}
 use Rattle.image.proofs.ranges.unused.Tie as tie
-use Rattle.image.proofs.ranges.unused.Reads as reads
-use Rattle.image.proofs.ranges.unused.Lts as lts
 
 abbrev Inv-loop : tie.InvT-loop
 Inv-loop a k i₀ i = (i ≤ 64 - k) × (length a ≡ 64) × (k ≤ 64) × (every (λ (j : ℕ). eqb (getD a (k + j) 0) 0) i ≡ true)
@@ -20,44 +18,34 @@ Inv-loop a k i₀ i = (i ≤ 64 - k) × (length a ≡ 64) × (k ≤ 64) × (ever
 abbrev μ-loop : tie.MeasureT-loop
 μ-loop a k i₀ i = 64 - k - i
 
--- src/ranges.rt:73:5
 loop-holds : tie.Need-loop-holds Inv-loop μ-loop
 loop-holds c = (omega arith, omega arith, omega arith, every-none _)
 
--- src/ranges.rt:73:15
 sub-loop : tie.Need-sub-loop Inv-loop μ-loop
 sub-loop c = search needs
 
--- src/ranges.rt:74:14
 add-if1 : tie.Need-add-if1 Inv-loop μ-loop
 add-if1 c = search needs
 
--- src/ranges.rt:74:12
 mul-if1 : tie.Need-mul-if1 Inv-loop μ-loop
 mul-if1 c = search needs
 
--- src/ranges.rt:74:12
 shared-slice-read-if1 : tie.Need-shared-slice-read-if1 Inv-loop μ-loop
 shared-slice-read-if1 c = search needs
 
--- src/ranges.rt:75:13
 returns : tie.Need-returns Inv-loop μ-loop
 unfolding unused
 returns c = sym (every-no _ _ _ (c .before .before .loop-test .taken) (ne-eqb _ 0 (c .if1 .taken)))
 
--- src/ranges.rt:77:9
 add-i : tie.Need-add-i Inv-loop μ-loop
 add-i c = search needs
 
--- src/ranges.rt:73:5
 loop-less : tie.Need-loop-less Inv-loop μ-loop
 loop-less c = search needs
 
--- src/ranges.rt:73:5
 loop-again : tie.Need-loop-again Inv-loop μ-loop
 loop-again c = (omega arith, omega arith, omega arith, every-next _ _ (c .before .before .before .loop .inv .3) (eq-eqb _ 0 (c .if1 .left)))
 
--- src/ranges.rt:68:1
 returns-2 : tie.Need-returns-2 Inv-loop μ-loop
 unfolding unused
 returns-2 c = every-end _ _ _ (c .loop-test .left) (c .before .loop .inv .0) (c .before .loop .inv .3)

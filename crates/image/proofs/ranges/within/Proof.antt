@@ -1,18 +1,16 @@
 use Rattle.image.specs.Ranges.{within}
-use Rattle.columns.proofs.Tests.{every-none, every-next, every-no, every-end, and-no}
-use Rattle.columns.specs.Common.{every, if_then_else_}
-use borrow.Author.Tests.{le-leb, lt-leb, lt-ltb, le-ltb, eq-eqb, ne-eqb, not-true, not-false}
+use Rattle.columns.proofs.Tests.{every-none, every-next, every-no, every-end}
+use Rattle.columns.specs.Common.{every}
+use borrow.Author.Tests.{le-leb, lt-leb}
 use lib.ListN.{length, getD}
-use lib.Dec.{ltb, leb, eqb}
-use Prim.Native.Nat.{ℕ, _+_, _-_, _*_, _<_, _≤_}
-use mathlib.Core.Bool.{Bool, true, false, _&&_, not}
-use mathlib.Core.Path.{_≡_, refl, sym, ap, _∙_}
+use lib.Dec.{leb}
+use Prim.Native.Nat.{ℕ, _-_, _≤_}
+use mathlib.Core.Bool.{true}
+use mathlib.Core.Path.{_≡_, sym}
 use borrow.Author.Needs.{needs}
 use native.Mathlib.Omega.{arith}
 use Rattle.image.proofs.ranges.within.Statement.{statement}
 use Rattle.image.proofs.ranges.within.Tie as tie
-use Rattle.image.proofs.ranges.within.Reads as reads
-use Rattle.image.proofs.ranges.within.Lts as lts
 
 abbrev Inv-loop : tie.InvT-loop
 Inv-loop table w k i₀ i = (i ≤ k) × (k ≤ length table) × (k ≤ length w) × (every (λ (j : ℕ). leb (getD w j 0) (getD table j 0)) i ≡ true)
@@ -20,44 +18,34 @@ Inv-loop table w k i₀ i = (i ≤ k) × (k ≤ length table) × (k ≤ length w
 abbrev μ-loop : tie.MeasureT-loop
 μ-loop table w k i₀ i = k - i
 
--- src/ranges.rt:27:5
 loop-holds : tie.Need-loop-holds Inv-loop μ-loop
 loop-holds c = (omega arith, omega arith, omega arith, every-none _)
 
--- src/ranges.rt:28:12
 mul-if1 : tie.Need-mul-if1 Inv-loop μ-loop
 mul-if1 c = search needs
 
--- src/ranges.rt:28:12
 shared-slice-read-if1 : tie.Need-shared-slice-read-if1 Inv-loop μ-loop
 shared-slice-read-if1 c = search needs
 
--- src/ranges.rt:28:23
 mul-if1-2 : tie.Need-mul-if1-2 Inv-loop μ-loop
 mul-if1-2 c = search needs
 
--- src/ranges.rt:28:23
 shared-slice-read-if1-2 : tie.Need-shared-slice-read-if1-2 Inv-loop μ-loop
 shared-slice-read-if1-2 c = search needs
 
--- src/ranges.rt:29:13
 returns : tie.Need-returns Inv-loop μ-loop
 unfolding within
 returns c = sym (every-no _ _ _ (c .before .before .before .loop-test .taken) (lt-leb _ _ (c .if1 .taken)))
 
--- src/ranges.rt:31:9
 add-i : tie.Need-add-i Inv-loop μ-loop
 add-i c = search needs
 
--- src/ranges.rt:27:5
 loop-less : tie.Need-loop-less Inv-loop μ-loop
 loop-less c = search needs
 
--- src/ranges.rt:27:5
 loop-again : tie.Need-loop-again Inv-loop μ-loop
 loop-again c = (omega arith, omega arith, omega arith, every-next _ _ (c .before .before .before .before .loop .inv .3) (le-leb _ _ (c .if1 .left)))
 
--- src/ranges.rt:22:1
 returns-2 : tie.Need-returns-2 Inv-loop μ-loop
 unfolding within
 returns-2 c = every-end _ _ _ (c .loop-test .left) (c .before .loop .inv .0) (c .before .loop .inv .3)

@@ -1,68 +1,60 @@
+use Rattle.image.proofs.Structured.{keys-are, timers-are}
 use Rattle.image.proofs.InRange.{queue-count, timer-count}
 use Rattle.image.specs.Structure.{block-structure}
-use Rattle.columns.proofs.Tests.{every-none, every-next, every-no, every-end, and-no}
-use Rattle.columns.specs.Common.{every, if_then_else_}
-use borrow.Author.Tests.{le-leb, lt-leb, lt-ltb, le-ltb, eq-eqb, ne-eqb, not-true, not-false}
-use lib.ListN.{length, getD}
-use lib.Dec.{ltb, leb, eqb}
-use Prim.Native.Nat.{ℕ, _+_, _-_, _*_, _<_, _≤_, _%_}
-use mathlib.Core.Bool.{Bool, true, false, _&&_, not}
-use mathlib.Core.Path.{_≡_, refl, sym, ap, _∙_}
+use borrow.Author.Tests.{eq-eqb, ne-eqb, not-true, not-false}
+use Prim.Native.Nat.{_-_}
+use mathlib.Core.Path.{sym, _∙_}
 use native.Mathlib.Omega.{arith}
 use borrow.Author.Needs.{needs}
 use Rattle.image.proofs.structure.block_structure.Statement.{statement}
 use Rattle.image.proofs.structure.block_structure.Tie as tie
-use Rattle.image.proofs.structure.block_structure.Reads as reads
-use Rattle.image.proofs.structure.block_structure.Lts as lts
-use Rattle.image.proofs.structure.entry_ids.Reads as entry-ids-reads
-use Rattle.image.proofs.structure.keys_rise.Reads as keys-rise-reads
-use Rattle.image.proofs.structure.names_live.Reads as names-live-reads
-use Rattle.image.proofs.structure.timers_rise.Reads as timers-rise-reads
 
--- src/structure.rt:169:8
 shared-slice-read-if1 : tie.Need-shared-slice-read-if1
 shared-slice-read-if1 c = search needs
 
--- src/structure.rt:170:9
 returns : tie.Need-returns
 unfolding block-structure
 returns c = rw (eq-eqb _ 0 (c .if1 .taken))
 
--- src/structure.rt:172:9
 names-live-requires : tie.Need-names-live-requires
 names-live-requires c κs = search needs
 
--- src/structure.rt:173:9
 returns-2 : tie.Need-returns-2
 unfolding block-structure
 returns-2 c = rw (ne-eqb _ 0 (c .before .before .if1 .left), sym (c .before .names-live .ensures) ∙ not-true _ (c .if2 .taken))
 
--- src/structure.rt:175:9
 entry-ids-requires : tie.Need-entry-ids-requires
 entry-ids-requires c κs = search needs
 
--- src/structure.rt:176:9
 returns-3 : tie.Need-returns-3
 unfolding block-structure
 returns-3 c = rw (ne-eqb _ 0 (c .before .before .before .before .if1 .left), sym (c .before .before .before .names-live .ensures) ∙ not-false _ (c .before .before .if2 .left), sym (c .before .entry-ids .ensures) ∙ not-true _ (c .if3 .taken))
 
--- src/structure.rt:178:9
-keys-rise-requires : tie.Need-keys-rise-requires
-keys-rise-requires c κs = (c .before .before .before .before .before .before .before .before .pre .0 .3, queue-count _ _ (c .before .before .before .before .before .before .before .before .pre .0 .1) (c .before .before .before .before .before .before .before .before .pre .1))
+shared-slice-read-index : tie.Need-shared-slice-read-index
+shared-slice-read-index c = search needs
 
--- src/structure.rt:179:9
+index-requires : tie.Need-index-requires
+index-requires c κs = search needs
+
+rises-requires : tie.Need-rises-requires
+rises-requires c κs = (omega arith, omega arith, omega arith, omega (arith, queue-count _ _ (c .before .before .before .before .before .before .before .before .before .before .pre .0 .1) (c .before .before .before .before .before .before .before .before .before .before .pre .1), c .index .ensures))
+
 returns-4 : tie.Need-returns-4
 unfolding block-structure
-returns-4 c = rw (ne-eqb _ 0 (c .before .before .before .before .before .before .if1 .left), sym (c .before .before .before .before .before .names-live .ensures) ∙ not-false _ (c .before .before .before .before .if2 .left), sym (c .before .before .before .entry-ids .ensures) ∙ not-false _ (c .before .before .if3 .left), sym (c .before .keys-rise .ensures) ∙ not-true _ (c .if4 .taken))
+returns-4 c = rw (ne-eqb _ 0 (c .before .before .before .before .before .before .before .before .if1 .left), sym (c .before .before .before .before .before .before .before .names-live .ensures) ∙ not-false _ (c .before .before .before .before .before .before .if2 .left), sym (c .before .before .before .before .before .entry-ids .ensures) ∙ not-false _ (c .before .before .before .before .if3 .left), sym (keys-are _ _ (c .before .before .index .ensures) (c .before .rises .ensures)) ∙ not-true _ (c .if4 .taken))
 
--- src/structure.rt:181:5
-timers-rise-requires : tie.Need-timers-rise-requires
-timers-rise-requires c κs = (c .before .before .before .before .before .before .before .before .before .before .pre .0 .3, timer-count _ _ (c .before .before .before .before .before .before .before .before .before .before .pre .0 .1) (c .before .before .before .before .before .before .before .before .before .before .pre .1))
+shared-slice-read-index-2 : tie.Need-shared-slice-read-index-2
+shared-slice-read-index-2 c = search needs
 
--- src/structure.rt:164:1
+index-requires-2 : tie.Need-index-requires-2
+index-requires-2 c κs = search needs
+
+rises-requires-2 : tie.Need-rises-requires-2
+rises-requires-2 c κs = (omega arith, omega arith, omega arith, omega (arith, timer-count _ _ (c .before .before .before .before .before .before .before .before .before .before .before .before .before .before .pre .0 .1) (c .before .before .before .before .before .before .before .before .before .before .before .before .before .before .pre .1), c .index2 .ensures))
+
 returns-5 : tie.Need-returns-5
 unfolding block-structure
-returns-5 c = rw (ne-eqb _ 0 (c .before .before .before .before .before .before .before .if1 .left), sym (c .before .before .before .before .before .before .names-live .ensures) ∙ not-false _ (c .before .before .before .before .before .if2 .left), sym (c .before .before .before .before .entry-ids .ensures) ∙ not-false _ (c .before .before .before .if3 .left), sym (c .before .before .keys-rise .ensures) ∙ not-false _ (c .before .if4 .left)) (c .timers-rise .ensures)
+returns-5 c = rw (ne-eqb _ 0 (c .before .before .before .before .before .before .before .before .before .before .before .if1 .left), sym (c .before .before .before .before .before .before .before .before .before .before .names-live .ensures) ∙ not-false _ (c .before .before .before .before .before .before .before .before .before .if2 .left), sym (c .before .before .before .before .before .before .before .before .entry-ids .ensures) ∙ not-false _ (c .before .before .before .before .before .before .before .if3 .left), sym (keys-are _ _ (c .before .before .before .before .before .index .ensures) (c .before .before .before .before .rises .ensures)) ∙ not-false _ (c .before .before .before .if4 .left)) (timers-are _ _ (c .before .index2 .ensures) (c .rises2 .ensures))
 
 pub block-structure-spec : {M : Type 1} → statement M
 block-structure-spec =
@@ -74,7 +66,11 @@ block-structure-spec =
     returns-2
     entry-ids-requires
     returns-3
-    keys-rise-requires
+    shared-slice-read-index
+    index-requires
+    rises-requires
     returns-4
-    timers-rise-requires
+    shared-slice-read-index-2
+    index-requires-2
+    rises-requires-2
     returns-5)

@@ -2,23 +2,17 @@ use Rattle.image.proofs.Structured.{unseen, seen-more}
 use Rattle.image.specs.Structure.{id-of, is-new, ids-differ}
 use borrow.Author.Tests.{eqb-true}
 use lib.ListN.{length-set}
-use Rattle.columns.proofs.Tests.{every-none, every-next, every-no, every-end, and-no}
-use Rattle.columns.specs.Common.{every, if_then_else_}
-use borrow.Author.Tests.{le-leb, lt-leb, lt-ltb, le-ltb, eq-eqb, ne-eqb, not-true, not-false}
+use Rattle.columns.proofs.Tests.{every-none, every-next, every-no, every-end}
+use Rattle.columns.specs.Common.{every}
+use borrow.Author.Tests.{not-true, not-false}
 use lib.ListN.{length, getD}
-use lib.Dec.{ltb, leb, eqb}
-use Prim.Native.Nat.{ℕ, _+_, _-_, _*_, _<_, _≤_, _%_}
-use mathlib.Core.Bool.{Bool, true, false, _&&_, not}
-use mathlib.Core.Path.{_≡_, refl, sym, ap, _∙_}
+use Prim.Native.Nat.{ℕ, _-_, _<_, _≤_, _%_}
+use mathlib.Core.Bool.{true}
+use mathlib.Core.Path.{_≡_, refl, sym, _∙_}
 use borrow.Author.Needs.{needs}
 use native.Mathlib.Omega.{arith}
 use Rattle.image.proofs.structure.ids_differ.Statement.{statement}
 use Rattle.image.proofs.structure.ids_differ.Tie as tie
-use Rattle.image.proofs.structure.ids_differ.Reads as reads
-use Rattle.image.proofs.structure.ids_differ.Lts as lts
-use Rattle.image.proofs.structure.id_of.Reads as id-of-reads
-use Rattle.image.proofs.structure.is_new_if.Reads as is-new-if-reads
-use Rattle.machine.proofs.index.Reads as index-reads
 
 abbrev Inv-loop : tie.InvT-loop
 Inv-loop m n seen₀ y₀ seen y = (y ≤ n) × (length seen ≡ 64) × ((x : ℕ) → x < y → getD seen (id-of m x % 64) 0 ≡ 1) × (every (is-new m) y ≡ true)
@@ -26,48 +20,37 @@ Inv-loop m n seen₀ y₀ seen y = (y ≤ n) × (length seen ≡ 64) × ((x : �
 abbrev μ-loop : tie.MeasureT-loop
 μ-loop m n seen₀ y₀ seen y = n - y
 
--- src/structure.rt:64:5
 loop-holds : tie.Need-loop-holds Inv-loop μ-loop
 loop-holds c = (omega arith, refl, (λ x h. absurd (omega arith)), every-none _)
 
--- src/structure.rt:65:13
 id-of-requires : tie.Need-id-of-requires Inv-loop μ-loop
 id-of-requires c κs = search needs
 
--- src/structure.rt:66:13
 index-requires : tie.Need-index-requires Inv-loop μ-loop
 index-requires c κs = search needs
 
--- src/structure.rt:67:29
 array-read-is-new-if : tie.Need-array-read-is-new-if Inv-loop μ-loop
 array-read-is-new-if c = search needs
 
--- src/structure.rt:67:13
 is-new-if-requires : tie.Need-is-new-if-requires Inv-loop μ-loop
 is-new-if-requires c κs = ((omega arith, omega arith), (λ e. unseen (c .before .before .before .before .before .args .m .now) (c .before .before .before .loop .seen) _ _ _ (c .before .id-of .ensures) (c .index .ensures) (c .before .before .before .loop .inv .2) (eqb-true _ 0 (not-false _ e))))
 
--- src/structure.rt:68:13
 returns : tie.Need-returns Inv-loop μ-loop
 unfolding ids-differ
 returns c = sym (every-no _ _ _ (c .before .before .before .before .loop-test .taken) (sym (c .before .is-new-if .ensures) ∙ not-true _ (c .if1 .taken)))
 
--- src/structure.rt:70:9
 array-write-seen : tie.Need-array-write-seen Inv-loop μ-loop
 array-write-seen c = search needs
 
--- src/structure.rt:71:9
 add-y : tie.Need-add-y Inv-loop μ-loop
 add-y c = search needs
 
--- src/structure.rt:64:5
 loop-less : tie.Need-loop-less Inv-loop μ-loop
 loop-less c = search needs
 
--- src/structure.rt:64:5
 loop-again : tie.Need-loop-again Inv-loop μ-loop
 loop-again c = (omega arith, (rw (length-set) (c .before .before .before .before .before .loop .inv .1)), seen-more (c .before .before .before .before .before .before .before .args .m .now) (c .before .before .before .before .before .loop .seen) (c .before .before .before .before .before .loop .y) _ _ (c .before .before .before .id-of .ensures) (c .before .before .index .ensures) (omega arith) (c .before .before .before .before .before .loop .inv .2), every-next _ _ (c .before .before .before .before .before .loop .inv .3) (sym (c .before .is-new-if .ensures) ∙ not-false _ (c .if1 .left)))
 
--- src/structure.rt:58:1
 returns-2 : tie.Need-returns-2 Inv-loop μ-loop
 unfolding ids-differ
 returns-2 c = every-end _ _ _ (c .loop-test .left) (c .before .loop .inv .0) (c .before .loop .inv .3)

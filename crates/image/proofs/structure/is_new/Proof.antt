@@ -1,19 +1,15 @@
 use Rattle.image.specs.Structure.{id-of, is-new}
-use Rattle.columns.proofs.Tests.{every-none, every-next, every-no, every-end, and-no}
-use Rattle.columns.specs.Common.{every, if_then_else_}
-use borrow.Author.Tests.{le-leb, lt-leb, lt-ltb, le-ltb, eq-eqb, ne-eqb, not-true, not-false}
-use lib.ListN.{length, getD}
-use lib.Dec.{ltb, leb, eqb}
-use Prim.Native.Nat.{ℕ, _+_, _-_, _*_, _<_, _≤_, _%_}
-use mathlib.Core.Bool.{Bool, true, false, _&&_, not}
-use mathlib.Core.Path.{_≡_, refl, sym, ap, _∙_}
+use Rattle.columns.proofs.Tests.{every-none, every-next, every-no, every-end}
+use Rattle.columns.specs.Common.{every}
+use borrow.Author.Tests.{eq-eqb, ne-eqb}
+use lib.Dec.{eqb}
+use Prim.Native.Nat.{ℕ, _-_, _≤_}
+use mathlib.Core.Bool.{true, not}
+use mathlib.Core.Path.{_≡_, sym, _∙_}
 use borrow.Author.Needs.{needs}
 use native.Mathlib.Omega.{arith}
 use Rattle.image.proofs.structure.is_new.Statement.{statement}
 use Rattle.image.proofs.structure.is_new.Tie as tie
-use Rattle.image.proofs.structure.is_new.Reads as reads
-use Rattle.image.proofs.structure.is_new.Lts as lts
-use Rattle.image.proofs.structure.id_of.Reads as id-of-reads
 
 abbrev Inv-loop : tie.InvT-loop
 Inv-loop m y id x₀ x = (x ≤ y) × (every (λ (z : ℕ). not (eqb (id-of m z) (id-of m y))) x ≡ true)
@@ -21,36 +17,28 @@ Inv-loop m y id x₀ x = (x ≤ y) × (every (λ (z : ℕ). not (eqb (id-of m z)
 abbrev μ-loop : tie.MeasureT-loop
 μ-loop m y id x₀ x = y - x
 
--- src/structure.rt:34:9
 id-of-requires : tie.Need-id-of-requires Inv-loop μ-loop
 id-of-requires c κs = search needs
 
--- src/structure.rt:36:5
 loop-holds : tie.Need-loop-holds Inv-loop μ-loop
 loop-holds c = (omega arith, every-none _)
 
--- src/structure.rt:37:12
 id-of-requires-2 : tie.Need-id-of-requires-2 Inv-loop μ-loop
 id-of-requires-2 c κs = search needs
 
--- src/structure.rt:38:13
 returns : tie.Need-returns Inv-loop μ-loop
 unfolding is-new
 returns c = sym (every-no _ _ _ (c .before .before .loop-test .taken) (rw (eq-eqb _ _ (sym (c .before .id-of2 .ensures) ∙ c .if1 .taken ∙ c .before .before .before .before .id-of .ensures))))
 
--- src/structure.rt:40:9
 add-x : tie.Need-add-x Inv-loop μ-loop
 add-x c = search needs
 
--- src/structure.rt:36:5
 loop-less : tie.Need-loop-less Inv-loop μ-loop
 loop-less c = search needs
 
--- src/structure.rt:36:5
 loop-again : tie.Need-loop-again Inv-loop μ-loop
 loop-again c = (omega arith, every-next _ _ (c .before .before .before .loop .inv .1) (rw (ne-eqb _ _ (λ z. c .if1 .left (c .before .id-of2 .ensures ∙ z ∙ sym (c .before .before .before .before .id-of .ensures))))))
 
--- src/structure.rt:30:1
 returns-2 : tie.Need-returns-2 Inv-loop μ-loop
 unfolding is-new
 returns-2 c = every-end _ _ _ (c .loop-test .left) (c .before .loop .inv .0) (c .before .loop .inv .1)

@@ -1,20 +1,13 @@
-use native.Mathlib.Omega.{arith}
 use borrow.Author.Needs.{needs}
 use Rattle.image.proofs.structure.is_new_if.Statement.{statement}
 use Rattle.image.proofs.structure.is_new_if.Tie as tie
-use Rattle.image.proofs.structure.is_new_if.Reads as reads
-use Rattle.image.proofs.structure.is_new_if.Lts as lts
-use Rattle.image.proofs.structure.is_new.Reads as is-new-reads
 
--- src/structure.rt:52:9
 is-new-requires : tie.Need-is-new-requires
 is-new-requires c κs = search needs
 
--- src/structure.rt:52:9
 returns : tie.Need-returns
 returns c = search needs
 
--- src/structure.rt:46:1
 returns-2 : tie.Need-returns-2
 returns-2 c = c .before .before .pre .1 (c .if1 .left)
 

@@ -1,56 +1,39 @@
 use Rattle.image.proofs.InRange.{current-name, sched-name, idle-name}
 use Rattle.image.specs.Structure.{names-live}
-use Rattle.columns.proofs.Tests.{every-none, every-next, every-no, every-end, and-no}
-use Rattle.columns.specs.Common.{every, if_then_else_}
-use borrow.Author.Tests.{le-leb, lt-leb, lt-ltb, le-ltb, eq-eqb, ne-eqb, not-true, not-false}
-use lib.ListN.{length, getD}
-use lib.Dec.{ltb, leb, eqb}
-use Prim.Native.Nat.{ℕ, _+_, _-_, _*_, _<_, _≤_, _%_}
-use mathlib.Core.Bool.{Bool, true, false, _&&_, not}
-use mathlib.Core.Path.{_≡_, refl, sym, ap, _∙_}
+use borrow.Author.Tests.{not-true, not-false}
+use Prim.Native.Nat.{_-_}
+use mathlib.Core.Path.{sym, _∙_}
 use native.Mathlib.Omega.{arith}
 use borrow.Author.Needs.{needs}
 use Rattle.image.proofs.structure.names_live.Statement.{statement}
 use Rattle.image.proofs.structure.names_live.Tie as tie
-use Rattle.image.proofs.structure.names_live.Reads as reads
-use Rattle.image.proofs.structure.names_live.Lts as lts
-use Rattle.image.proofs.structure.is_live.Reads as is-live-reads
 
--- src/structure.rt:138:20
 shared-slice-read-is-live : tie.Need-shared-slice-read-is-live
 shared-slice-read-is-live c = search needs
 
--- src/structure.rt:138:9
 is-live-requires : tie.Need-is-live-requires
 is-live-requires c κs = omega (arith, current-name _ _ (c .before .before .before .pre .0 .1) (c .before .before .before .pre .1))
 
--- src/structure.rt:139:9
 returns : tie.Need-returns
 unfolding names-live
 returns c = rw (sym (c .before .is-live .ensures) ∙ not-true _ (c .if1 .taken))
 
--- src/structure.rt:141:20
 shared-slice-read-is-live-2 : tie.Need-shared-slice-read-is-live-2
 shared-slice-read-is-live-2 c = search needs
 
--- src/structure.rt:141:9
 is-live-requires-2 : tie.Need-is-live-requires-2
 is-live-requires-2 c κs = omega (arith, sched-name _ _ (c .before .before .before .before .before .before .pre .0 .1) (c .before .before .before .before .before .before .pre .1))
 
--- src/structure.rt:142:9
 returns-2 : tie.Need-returns-2
 unfolding names-live
 returns-2 c = rw (sym (c .before .before .before .before .is-live .ensures) ∙ not-false _ (c .before .before .before .if1 .left), sym (c .before .is-live2 .ensures) ∙ not-true _ (c .if2 .taken))
 
--- src/structure.rt:144:16
 shared-slice-read-is-live-3 : tie.Need-shared-slice-read-is-live-3
 shared-slice-read-is-live-3 c = search needs
 
--- src/structure.rt:144:5
 is-live-requires-3 : tie.Need-is-live-requires-3
 is-live-requires-3 c κs = omega (arith, idle-name _ _ (c .before .before .before .before .before .before .before .before .before .pre .0 .1) (c .before .before .before .before .before .before .before .before .before .pre .1))
 
--- src/structure.rt:133:1
 returns-3 : tie.Need-returns-3
 unfolding names-live
 returns-3 c = rw (sym (c .before .before .before .before .before .before .is-live .ensures) ∙ not-false _ (c .before .before .before .before .before .if1 .left), sym (c .before .before .before .is-live2 .ensures) ∙ not-false _ (c .before .before .if2 .left)) (c .is-live3 .ensures)

@@ -2,23 +2,16 @@ use Rattle.image.proofs.Structured.{lent-in-range, lent-structure}
 use Rattle.image.specs.Structure.{structure, block-structure}
 use Rattle.machine.specs.Encode.{cpu-place}
 use Rattle.columns.specs.Blocks.{part}
-use Rattle.columns.proofs.Tests.{every-none, every-next, every-no, every-end, and-no}
-use Rattle.columns.specs.Common.{every, if_then_else_}
-use borrow.Author.Tests.{le-leb, lt-leb, lt-ltb, le-ltb, eq-eqb, ne-eqb, not-true, not-false}
-use lib.ListN.{length, getD}
-use lib.Dec.{ltb, leb, eqb}
-use Prim.Native.Nat.{ℕ, _+_, _-_, _*_, _<_, _≤_, _%_}
-use mathlib.Core.Bool.{Bool, true, false, _&&_, not}
-use mathlib.Core.Path.{_≡_, refl, sym, ap, _∙_}
+use Rattle.columns.proofs.Tests.{every-none, every-next, every-no, every-end}
+use Rattle.columns.specs.Common.{every}
+use borrow.Author.Tests.{not-true, not-false}
+use Prim.Native.Nat.{ℕ, _-_, _≤_}
+use mathlib.Core.Bool.{true}
+use mathlib.Core.Path.{_≡_, sym, _∙_}
 use borrow.Author.Needs.{needs}
 use native.Mathlib.Omega.{arith}
 use Rattle.image.proofs.structure.structure.Statement.{statement}
 use Rattle.image.proofs.structure.structure.Tie as tie
-use Rattle.image.proofs.structure.structure.Reads as reads
-use Rattle.image.proofs.structure.structure.Lts as lts
-use Rattle.image.proofs.structure.block_structure.Reads as block-structure-reads
-use Rattle.image.proofs.structure.ids_differ.Reads as ids-differ-reads
-use Rattle.machine.proofs.word.Reads as word-reads
 
 abbrev Inv-loop : tie.InvT-loop
 Inv-loop m c n names k₀ k = (k ≤ c) × (every (λ (j : ℕ). block-structure m (part m (cpu-place n j) 665)) k ≡ true)
@@ -26,81 +19,62 @@ Inv-loop m c n names k₀ k = (k ≤ c) × (every (λ (j : ℕ). block-structure
 abbrev μ-loop : tie.MeasureT-loop
 μ-loop m c n names k₀ k = c - k
 
--- src/structure.rt:189:9
 ids-differ-requires : tie.Need-ids-differ-requires Inv-loop μ-loop
 ids-differ-requires c κs = search needs
 
--- src/structure.rt:190:9
 returns : tie.Need-returns Inv-loop μ-loop
 unfolding structure
 returns c = rw (sym (c .before .ids-differ .ensures) ∙ not-true _ (c .if1 .taken))
 
--- src/structure.rt:192:9
 word-requires : tie.Need-word-requires Inv-loop μ-loop
 word-requires c κs = search needs
 
--- src/structure.rt:194:5
 loop-holds : tie.Need-loop-holds Inv-loop μ-loop
 loop-holds c = (omega arith, every-none _)
 
--- src/structure.rt:195:22
 mul-at : tie.Need-mul-at Inv-loop μ-loop
 mul-at c = search needs
 
--- src/structure.rt:195:18
 add-at : tie.Need-add-at Inv-loop μ-loop
 add-at c = search needs
 
--- src/structure.rt:195:31
 mul-at-2 : tie.Need-mul-at-2 Inv-loop μ-loop
 mul-at-2 c = search needs
 
--- src/structure.rt:195:18
 add-at-2 : tie.Need-add-at-2 Inv-loop μ-loop
 add-at-2 c = search needs
 
--- src/structure.rt:196:19
 add-end : tie.Need-add-end Inv-loop μ-loop
 add-end c = search needs
 
--- src/structure.rt:197:32
 mul-block-structure : tie.Need-mul-block-structure Inv-loop μ-loop
 mul-block-structure c = search needs
 
--- src/structure.rt:197:32
 sub-block-structure : tie.Need-sub-block-structure Inv-loop μ-loop
 sub-block-structure c = search needs
 
--- src/structure.rt:197:32
 part-block-structure-start : tie.Need-part-block-structure-start Inv-loop μ-loop
 part-block-structure-start c = search needs
 
--- src/structure.rt:197:32
 part-block-structure-end : tie.Need-part-block-structure-end Inv-loop μ-loop
 part-block-structure-end c = search needs
 
--- src/structure.rt:197:13
 block-structure-requires : tie.Need-block-structure-requires Inv-loop μ-loop
 block-structure-requires c κs = ((omega (arith, c .before .before .before .word .ensures), omega (arith, c .before .before .before .word .ensures), omega (arith, c .before .before .before .word .ensures), search needs), lent-in-range _ _ _ _ _ (c .before .before .before .word .ensures) (c .before .loop-test .taken) (c .before .before .before .before .before .before .before .pre .1))
 
--- src/structure.rt:198:13
 returns-2 : tie.Need-returns-2 Inv-loop μ-loop
 unfolding structure
 returns-2 c = rw (sym (c .before .before .before .before .before .before .before .ids-differ .ensures) ∙ not-false _ (c .before .before .before .before .before .before .if1 .left)) (sym (every-no _ _ _ (c .before .before .before .loop-test .taken) (sym (lent-structure (c .before .before .before .before .before .before .before .before .before .args .c) _ _ _ _ (c .before .before .before .before .before .word .ensures) (c .before .block-structure .ensures)) ∙ not-true _ (c .if2 .taken))))
 
--- src/structure.rt:200:9
 add-k : tie.Need-add-k Inv-loop μ-loop
 add-k c = search needs
 
--- src/structure.rt:194:5
 loop-less : tie.Need-loop-less Inv-loop μ-loop
 loop-less c = search needs
 
--- src/structure.rt:194:5
 loop-again : tie.Need-loop-again Inv-loop μ-loop
 loop-again c = (omega arith, every-next _ _ (c .before .before .before .before .loop .inv .1) (sym (lent-structure (c .before .before .before .before .before .before .before .before .before .args .c) _ _ _ _ (c .before .before .before .before .before .word .ensures) (c .before .block-structure .ensures)) ∙ not-false _ (c .if2 .left)))
 
--- src/structure.rt:184:1
 returns-3 : tie.Need-returns-3 Inv-loop μ-loop
 unfolding structure
 returns-3 c = rw (sym (c .before .before .before .before .ids-differ .ensures) ∙ not-false _ (c .before .before .before .if1 .left)) (every-end _ _ _ (c .loop-test .left) (c .before .loop .inv .0) (c .before .loop .inv .1))

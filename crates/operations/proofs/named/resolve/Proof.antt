@@ -4,68 +4,49 @@ use native.Mathlib.Omega.{arith}
 use borrow.Author.Needs.{needs}
 use Rattle.operations.proofs.named.resolve.Statement.{statement}
 use Rattle.operations.proofs.named.resolve.Tie as tie
-use Rattle.operations.proofs.named.resolve.Reads as reads
-use Rattle.operations.proofs.named.resolve.Lts as lts
-use Rattle.machine.proofs.get_percpu_block.Reads as get-percpu-block-reads
-use Rattle.machine.proofs.look_up.Reads as look-up-reads
 
--- src/named.rt:20:9
 get-percpu-block-requires : tie.Need-get-percpu-block-requires
 get-percpu-block-requires c κs = search needs
 
--- src/named.rt:21:28
 enum-known-p : tie.Need-enum-known-p
 enum-known-p c = search needs
 
--- src/named.rt:22:9
 enum-told : tie.Need-enum-told
 enum-told c = search needs
 
--- src/named.rt:22:9
 returns : tie.Need-returns
 returns c = λ M e o. absent-cpu M _ _ _ (c .before .before .get-percpu-block .ensures M e o) (c .enum-told .given .1)
 
--- src/named.rt:24:9
 look-up-requires : tie.Need-look-up-requires
 look-up-requires c κs = search needs
 
--- src/named.rt:25:22
 enum-known-l : tie.Need-enum-known-l
 enum-known-l c = search needs
 
--- src/named.rt:26:9
 enum-told-2 : tie.Need-enum-told-2
 enum-told-2 c = search needs
 
--- src/named.rt:26:9
 returns-2 : tie.Need-returns-2
 returns-2 c = λ M e o. gone-context M _ _ _ (c .before .before .before .before .before .before .get-percpu-block .ensures M e o) _ (c .before .before .before .before .p .given .1) _ (c .before .before .look-up .ensures M e o) (c .enum-told2 .given .1)
 
--- src/named.rt:28:18
 mul-at : tie.Need-mul-at
 mul-at c = omega (arith, sized (c .before .before .before .before .before .before .before .before .before .pre), live-below (c .before .before .before .before .before .before .before .before .before .pre) _ _ _ (c .before .before .before .look-up .ensures) (c .before .l .given .1))
 
--- src/named.rt:28:14
 add-at : tie.Need-add-at
 add-at c = omega (arith, sized (c .before .before .before .before .before .before .before .before .before .pre), live-below (c .before .before .before .before .before .before .before .before .before .pre) _ _ _ (c .before .before .before .look-up .ensures) (c .before .l .given .1))
 
--- src/named.rt:28:14
 add-at-2 : tie.Need-add-at-2
 add-at-2 c = omega (arith, sized (c .before .before .before .before .before .before .before .before .before .pre), live-below (c .before .before .before .before .before .before .before .before .before .pre) _ _ _ (c .before .before .before .look-up .ensures) (c .before .l .given .1))
 
--- src/named.rt:29:8
 mul-if1 : tie.Need-mul-if1
 mul-if1 c = omega (arith, sized (c .before .before .before .before .before .before .before .before .before .pre), live-below (c .before .before .before .before .before .before .before .before .before .pre) _ _ _ (c .before .before .before .look-up .ensures) (c .before .l .given .1))
 
--- src/named.rt:29:8
 shared-slice-read-if1 : tie.Need-shared-slice-read-if1
 shared-slice-read-if1 c = omega (arith, sized (c .before .before .before .before .before .before .before .before .before .before .pre), live-below (c .before .before .before .before .before .before .before .before .before .before .pre) _ _ _ (c .before .before .before .before .look-up .ensures) (c .before .before .l .given .1))
 
--- src/named.rt:30:9
 returns-3 : tie.Need-returns-3
 returns-3 c = λ M e o. locked-context M _ _ _ (c .before .before .before .before .before .before .before .before .before .get-percpu-block .ensures M e o) _ (c .before .before .before .before .before .before .before .p .given .1) _ (c .before .before .before .before .before .look-up .ensures M e o) _ e o _ (c .before .before .before .l .given .1) (c .if1 .taken)
 
--- src/named.rt:16:1
 returns-4 : tie.Need-returns-4
 returns-4 c = λ M e o. free-context M _ _ _ (c .before .before .before .before .before .before .before .before .before .get-percpu-block .ensures M e o) _ (c .before .before .before .before .before .before .before .p .given .1) _ (c .before .before .before .before .before .look-up .ensures M e o) _ e o _ (c .before .before .before .l .given .1) (c .if1 .left)
 

@@ -1,66 +1,46 @@
-use Rattle.operations.specs.Reply.{reply}
 use Rattle.operations.proofs.Waking.{ipi-full, ipi-woken}
 use Rattle.machine.proofs.Steps.{sized, step-then}
-use mathlib.Core.Path.{_≡_, refl, sym, ap, _∙_, subst}
 use native.Mathlib.Omega.{arith}
 use borrow.Author.Needs.{needs}
 use Rattle.operations.proofs.wakeup.wake_ipi.Statement.{statement}
 use Rattle.operations.proofs.wakeup.wake_ipi.Tie as tie
-use Rattle.operations.proofs.wakeup.wake_ipi.Reads as reads
-use Rattle.operations.proofs.wakeup.wake_ipi.Lts as lts
-use Rattle.machine.proofs.store.Reads as store-reads
-use Rattle.operations.proofs.refused.Reads as refused-reads
-use Rattle.operations.proofs.wakeup.push_ipi.Reads as push-ipi-reads
 
--- src/wakeup.rt:80:18
 mul-at : tie.Need-mul-at
 mul-at c = search needs
 
--- src/wakeup.rt:80:14
 add-at : tie.Need-add-at
 add-at c = search needs
 
--- src/wakeup.rt:80:27
 mul-at-2 : tie.Need-mul-at-2
 mul-at-2 c = search needs
 
--- src/wakeup.rt:80:14
 add-at-2 : tie.Need-add-at-2
 add-at-2 c = search needs
 
--- src/wakeup.rt:80:14
 add-at-3 : tie.Need-add-at-3
 add-at-3 c = search needs
 
--- src/wakeup.rt:81:14
 mul-if1 : tie.Need-mul-if1
 mul-if1 c = search needs
 
--- src/wakeup.rt:81:14
 slice-read-if1 : tie.Need-slice-read-if1
 slice-read-if1 c = omega (arith, sized (c .before .before .pre .0))
 
--- src/wakeup.rt:82:9
 refused-requires : tie.Need-refused-requires
 refused-requires c κs = search needs
 
--- src/wakeup.rt:82:9
 returns : tie.Need-returns
 returns c = λ M e o. ipi-full _ _ (c .before .before .before .before .pre .1 .0 .0) M e o _ _ _ _ (c .refused .ensures) (c .before .if1 .taken)
 
--- src/wakeup.rt:84:5
 push-ipi-requires : tie.Need-push-ipi-requires
 push-ipi-requires c κs = search needs
 
--- src/wakeup.rt:85:5
 store-requires : tie.Need-store-requires
 store-requires c κs = search needs
 
--- src/wakeup.rt:74:1
 same-length : tie.Need-same-length
 same-length c = search needs
 
--- src/wakeup.rt:74:1
 returns-2 : tie.Need-returns-2
 returns-2 c = λ M e o. ipi-woken _ _ (c .before .before .before .before .before .before .before .before .before .before .before .pre .1 .0 .0) M e o _ _ _ _ (c .before .before .before .before .before .before .before .before .if1 .left) (step-then (c .before .before .before .before .before .before .push-ipi .ensures) (c .before .before .store .ensures) .step M e o .0)
 

@@ -1,11 +1,7 @@
 use Prim.Native.Nat.{_-_}
 use borrow.Author.Needs.{needs}
-use native.Mathlib.Omega.{arith}
 use Rattle.replay.proofs.numbers.last_line.Statement.{statement}
 use Rattle.replay.proofs.numbers.last_line.Tie as tie
-use Rattle.replay.proofs.numbers.last_line.Reads as reads
-use Rattle.replay.proofs.numbers.last_line.Lts as lts
-use Rattle.replay.proofs.numbers.line_after.Reads as line-after-reads
 
 abbrev Inv-loop : tie.InvT-loop
 Inv-loop s n last₀ i₀ last i = Unit {0}
@@ -13,27 +9,21 @@ Inv-loop s n last₀ i₀ last i = Unit {0}
 abbrev μ-loop : tie.MeasureT-loop
 μ-loop s n last₀ i₀ last i = n - i
 
--- src/numbers.rt:96:5
 loop-holds : tie.Need-loop-holds Inv-loop μ-loop
 loop-holds c = tt
 
--- src/numbers.rt:97:9
 line-after-requires : tie.Need-line-after-requires Inv-loop μ-loop
 line-after-requires c κs = search needs
 
--- src/numbers.rt:98:9
 add-i : tie.Need-add-i Inv-loop μ-loop
 add-i c = search needs
 
--- src/numbers.rt:96:5
 loop-less : tie.Need-loop-less Inv-loop μ-loop
 loop-less c = search needs
 
--- src/numbers.rt:96:5
 loop-again : tie.Need-loop-again Inv-loop μ-loop
 loop-again c = tt
 
--- src/numbers.rt:93:1
 returns : tie.Need-returns Inv-loop μ-loop
 returns c = search needs
 

@@ -1,15 +1,8 @@
 use lib.ListN.{length}
 use Prim.Native.Nat.{_-_}
 use borrow.Author.Needs.{needs}
-use native.Mathlib.Omega.{arith}
 use Rattle.replay.proofs.numbers.next.Statement.{statement}
 use Rattle.replay.proofs.numbers.next.Tie as tie
-use Rattle.replay.proofs.numbers.next.Reads as reads
-use Rattle.replay.proofs.numbers.next.Lts as lts
-use Rattle.replay.proofs.numbers.append.Reads as append-reads
-use Rattle.replay.proofs.numbers.digit.Reads as digit-reads
-use Rattle.replay.proofs.numbers.is_digit.Reads as is-digit-reads
-use Rattle.replay.proofs.numbers.skip.Reads as skip-reads
 
 abbrev Inv-loop : tie.InvT-loop
 Inv-loop s from i₀ value₀ i value = Unit {0}
@@ -17,51 +10,39 @@ Inv-loop s from i₀ value₀ i value = Unit {0}
 abbrev μ-loop : tie.MeasureT-loop
 μ-loop s from i₀ value₀ i value = length s - i
 
--- src/numbers.rt:84:9
 skip-requires : tie.Need-skip-requires Inv-loop μ-loop
 skip-requires c κs = search needs
 
--- src/numbers.rt:86:5
 loop-holds : tie.Need-loop-holds Inv-loop μ-loop
 loop-holds c = tt
 
--- src/numbers.rt:87:22
 shared-slice-read-is-digit : tie.Need-shared-slice-read-is-digit Inv-loop μ-loop
 shared-slice-read-is-digit c = search needs
 
--- src/numbers.rt:87:13
 is-digit-requires : tie.Need-is-digit-requires Inv-loop μ-loop
 is-digit-requires c κs = search needs
 
--- src/numbers.rt:88:13
 returns : tie.Need-returns Inv-loop μ-loop
 returns c = search needs
 
--- src/numbers.rt:90:37
 shared-slice-read-digit : tie.Need-shared-slice-read-digit Inv-loop μ-loop
 shared-slice-read-digit c = search needs
 
--- src/numbers.rt:90:31
 digit-requires : tie.Need-digit-requires Inv-loop μ-loop
 digit-requires c κs = search needs
 
--- src/numbers.rt:90:9
 append-requires : tie.Need-append-requires Inv-loop μ-loop
 append-requires c κs = search needs
 
--- src/numbers.rt:91:9
 add-i : tie.Need-add-i Inv-loop μ-loop
 add-i c = search needs
 
--- src/numbers.rt:86:5
 loop-less : tie.Need-loop-less Inv-loop μ-loop
 loop-less c = search needs
 
--- src/numbers.rt:86:5
 loop-again : tie.Need-loop-again Inv-loop μ-loop
 loop-again c = tt
 
--- src/numbers.rt:83:1
 returns-2 : tie.Need-returns-2 Inv-loop μ-loop
 returns-2 c = search needs
 

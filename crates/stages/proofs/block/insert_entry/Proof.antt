@@ -1,38 +1,27 @@
 use Rattle.stages.proofs.Blocks.{inserted, never}
 use mathlib.Core.Path.{sym, _∙_}
-use native.Mathlib.Omega.{arith}
 use borrow.Author.Needs.{needs}
 use Rattle.stages.proofs.block.insert_entry.Statement.{statement}
 use Rattle.stages.proofs.block.insert_entry.Tie as tie
-use Rattle.stages.proofs.block.insert_entry.Reads as reads
-use Rattle.stages.proofs.block.insert_entry.Lts as lts
-use Rattle.queue.proofs.insert.Reads as insert-reads
 
--- src/block.rt:38:8
 insert-requires : tie.Need-insert-requires
 insert-requires c κs = search needs
 
--- src/block.rt:39:9
 same-length : tie.Need-same-length
 same-length c = search needs
 
--- src/block.rt:39:9
 returns : tie.Need-returns
 returns c = λ p e l s. (sym (c .if1 .taken) ∙ c .before .before .before .insert .ensures p e l s .0, λ f. never f)
 
--- src/block.rt:41:12
 slice-read-b : tie.Need-slice-read-b
 slice-read-b c = search needs
 
--- src/block.rt:41:5
 slice-write-b : tie.Need-slice-write-b
 slice-write-b c = search needs
 
--- src/block.rt:34:1
 same-length-2 : tie.Need-same-length-2
 same-length-2 c = search needs
 
--- src/block.rt:34:1
 returns-2 : tie.Need-returns-2
 returns-2 c = λ p e l s. (sym (c .before .if1 .left) ∙ c .before .before .before .before .insert .ensures p e l s .0, λ f. inserted _ _ p (c .before .before .before .before .insert .ensures p e l s .0) (c .before .if1 .left) (c .before .before .before .before .insert .ensures p e l s .1))
 

@@ -1,29 +1,20 @@
 use Rattle.stages.proofs.Blocks.{loaded}
-use native.Mathlib.Omega.{arith}
 use borrow.Author.Needs.{needs}
 use Rattle.stages.proofs.block.load.Statement.{statement}
 use Rattle.stages.proofs.block.load.Tie as tie
-use Rattle.stages.proofs.block.load.Reads as reads
-use Rattle.stages.proofs.block.load.Lts as lts
-use Rattle.percpu.proofs.load_block.Reads as load-block-reads
 
--- src/block.rt:23:24
 sub-load-block : tie.Need-sub-load-block
 sub-load-block c = search needs
 
--- src/block.rt:23:24
 part-load-block-start : tie.Need-part-load-block-start
 part-load-block-start c = search needs
 
--- src/block.rt:23:24
 part-load-block-end : tie.Need-part-load-block-end
 part-load-block-end c = search needs
 
--- src/block.rt:23:5
 load-block-requires : tie.Need-load-block-requires
 load-block-requires c κs = search needs
 
--- src/block.rt:19:1
 returns : tie.Need-returns
 returns c = λ p e. loaded _ _ p (c .load-block .ensures) e
 

@@ -1,29 +1,20 @@
 use Rattle.stages.proofs.Blocks.{local-full, local-room, never}
-use native.Mathlib.Omega.{arith}
 use borrow.Author.Needs.{needs}
 use Rattle.stages.proofs.block.push_local.Statement.{statement}
 use Rattle.stages.proofs.block.push_local.Tie as tie
-use Rattle.stages.proofs.block.push_local.Reads as reads
-use Rattle.stages.proofs.block.push_local.Lts as lts
-use Rattle.wakeup_lists.proofs.push_local.Reads as push-local-reads
 
--- src/block.rt:57:14
 slice-read-if1 : tie.Need-slice-read-if1
 slice-read-if1 c = search needs
 
--- src/block.rt:58:9
 returns : tie.Need-returns
 returns c = λ p e. (local-full _ p e (c .if1 .taken), λ f. never f)
 
--- src/block.rt:60:5
 push-local-requires : tie.Need-push-local-requires
 push-local-requires c κs = search needs
 
--- src/block.rt:53:1
 same-length : tie.Need-same-length
 same-length c = search needs
 
--- src/block.rt:53:1
 returns-2 : tie.Need-returns-2
 returns-2 c = λ p e. (local-room _ p e (c .before .before .before .before .if1 .left), λ f. c .before .before .push-local .ensures .0 p e)
 

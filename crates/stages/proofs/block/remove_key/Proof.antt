@@ -1,29 +1,20 @@
 use Rattle.stages.proofs.Blocks.{published}
-use native.Mathlib.Omega.{arith}
 use borrow.Author.Needs.{needs}
 use Rattle.stages.proofs.block.remove_key.Statement.{statement}
 use Rattle.stages.proofs.block.remove_key.Tie as tie
-use Rattle.stages.proofs.block.remove_key.Reads as reads
-use Rattle.stages.proofs.block.remove_key.Lts as lts
-use Rattle.queue.proofs.remove.Reads as remove-reads
 
--- src/block.rt:49:5
 remove-requires : tie.Need-remove-requires
 remove-requires c κs = search needs
 
--- src/block.rt:50:12
 slice-read-b : tie.Need-slice-read-b
 slice-read-b c = search needs
 
--- src/block.rt:50:5
 slice-write-b : tie.Need-slice-write-b
 slice-write-b c = search needs
 
--- src/block.rt:45:1
 same-length : tie.Need-same-length
 same-length c = search needs
 
--- src/block.rt:45:1
 returns : tie.Need-returns
 returns c = λ p e l s. published _ _ (c .before .before .before .remove .ensures p e l s .1)
 

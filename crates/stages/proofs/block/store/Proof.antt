@@ -1,33 +1,23 @@
 use Rattle.stages.proofs.Blocks.{stored}
-use native.Mathlib.Omega.{arith}
 use borrow.Author.Needs.{needs}
 use Rattle.stages.proofs.block.store.Statement.{statement}
 use Rattle.stages.proofs.block.store.Tie as tie
-use Rattle.stages.proofs.block.store.Reads as reads
-use Rattle.stages.proofs.block.store.Lts as lts
-use Rattle.percpu.proofs.store_block.Reads as store-block-reads
 
--- src/block.rt:30:25
 sub-store-block : tie.Need-sub-store-block
 sub-store-block c = search needs
 
--- src/block.rt:30:25
 part-store-block-start : tie.Need-part-store-block-start
 part-store-block-start c = search needs
 
--- src/block.rt:30:25
 part-store-block-end : tie.Need-part-store-block-end
 part-store-block-end c = search needs
 
--- src/block.rt:30:5
 store-block-requires : tie.Need-store-block-requires
 store-block-requires c κs = search needs
 
--- src/block.rt:26:1
 same-length : tie.Need-same-length
 same-length c = search needs
 
--- src/block.rt:26:1
 returns : tie.Need-returns
 returns c = λ p e. stored _ _ _ p (c .before .before .store-block .ensures) e
 

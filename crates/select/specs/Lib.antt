@@ -1,0 +1,4 @@
+pub mod Values
+pub mod Holding
+pub mod Scanning
+pub mod Cleaning

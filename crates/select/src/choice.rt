@@ -1,0 +1,158 @@
+// The choice, by value.
+ghost use mathlib.Core.Path.{_≡_};
+ghost use mathlib.Core.Bool.{_&&_, _||_, not};
+ghost use Prim.Native.Nat.{ℕ, _-_, _<_};
+ghost use mathlib.Core.Option.{none, some};
+ghost use lib.Dec.{ltb, leb, eqb};
+ghost use Rattle.machine.specs.Machine.{Machine, context-at};
+ghost use Rattle.machine.specs.Encode.{encode};
+ghost use Rattle.machine.specs.Shape.{Fits, Image};
+ghost use Rattle.decision.specs.State.{State};
+ghost use Rattle.decision.specs.Scan.{Scan};
+ghost use Rattle.decision.specs.Choice.{named, against, nobody, without-entry, choice};
+ghost use Rattle.select.specs.Values.{best-of, locked-of, choice-of, best-below, winner-below};
+ghost use Rattle.select.specs.Holding.{Holding, Chosen};
+use crate::Best;
+use crate::Holder;
+use crate::Scanned;
+use crate::Selected;
+use crate::Winner;
+use crate::judge::both;
+use context::Context;
+use run_queue::Entry;
+
+fn either(a: bool, b: bool) -> bool
+    ensures { λ r. ⌜ r ≡ (a || b) ⌝ }
+{
+    if a {
+        return true;
+    }
+    b
+}
+
+// The context of an entry that keeps its lock.
+fn locked(late: Best) -> Winner
+    ensures { λ r. ⌜ locked-of r ≡ named (best-of late) ⌝ }
+{
+    match late {
+        Best::Nobody => Winner::Nobody,
+        Best::Found(e) => Winner::Is(machine::index(e.context_ref)),
+    }
+}
+
+// An earlier deadline, or the same one with more slice left.
+fn goes_before(h: Holder, q: Context) -> bool
+    ensures { λ r. ⌜ r ≡ (ltb (h .vd) (q .vd) || eqb (h .vd) (q .vd) && ltb (q .«rem_slice») (h .«rem_slice»)) ⌝ }
+{
+    let sooner = h.vd < q.vd;
+    let same = h.vd == q.vd;
+    let more = q.rem_slice < h.rem_slice;
+    either(sooner, both(same, more))
+}
+
+// An eligible entry e was found, whose record is q.
+pub fn against(h: Holder, late: Best, e: Entry, q: Context) -> Selected
+    ensures { λ r. ⌜ ((s : State) (f : Scan) → Holding h s → q ≡ context-at (f .contexts) (e .«context_ref») → best-of late ≡ f .ineligible-best → choice-of r ≡ against s f e) ⌝ }
+    ensures { λ r. ⌜ ((n : ℕ) → e .«context_ref» < n → winner-below n (r .winner)) ⌝ }
+{
+    let before = goes_before(h, q);
+    let kept = locked(late);
+    if both(h.eligible, before) {
+        return Selected {
+            winner: Winner::Nobody,
+            v: h.v,
+            locked: kept,
+        };
+    }
+    Selected {
+        winner: Winner::Is(machine::index(e.context_ref)),
+        v: h.v,
+        locked: kept,
+    }
+}
+
+// The holder goes on although it is not eligible: it runs, and no later than the entry by vtime or by deadline.
+fn goes_on(h: Holder, e: Entry) -> bool
+    ensures { λ r. ⌜ r ≡ (h .runnable && (leb (h .vtime) (e .vtime) || leb (h .vd) (e .key .vd))) ⌝ }
+{
+    let key = e.key;
+    let no_later = h.vtime <= e.vtime;
+    let no_later_deadline = h.vd <= key.vd;
+    both(h.runnable, either(no_later, no_later_deadline))
+}
+
+// Nobody is eligible, and the queue gives nobody.
+fn alone(h: Holder) -> Selected
+    ensures { λ r. ⌜ ((s : State) → Holding h s → choice-of r ≡ nobody s none) ⌝ }
+    ensures { λ r. ⌜ ((n : ℕ) → winner-below n (r .winner)) ⌝ }
+{
+    if h.runnable {
+        return Selected {
+            winner: Winner::Nobody,
+            v: h.vtime,
+            locked: Winner::Nobody,
+        };
+    }
+    Selected {
+        winner: Winner::Nobody,
+        v: h.v,
+        locked: Winner::Nobody,
+    }
+}
+
+// Nobody is eligible: V becomes the vtime of the entry of least vtime.
+fn least(h: Holder, e: Entry) -> Selected
+    ensures { λ r. ⌜ ((s : State) → Holding h s → choice-of r ≡ nobody s (some e)) ⌝ }
+    ensures { λ r. ⌜ ((n : ℕ) → e .«context_ref» < n → winner-below n (r .winner)) ⌝ }
+{
+    let x = machine::index(e.context_ref);
+    if goes_on(h, e) {
+        return Selected {
+            winner: Winner::Nobody,
+            v: e.vtime,
+            locked: Winner::Is(x),
+        };
+    }
+    Selected {
+        winner: Winner::Is(x),
+        v: e.vtime,
+        locked: Winner::Nobody,
+    }
+}
+
+// No eligible entry was found.
+pub fn without_entry(h: Holder, late: Best) -> Selected
+    ensures { λ r. ⌜ ((s : State) (f : Scan) → Holding h s → best-of late ≡ f .ineligible-best → choice-of r ≡ without-entry s f) ⌝ }
+    ensures { λ r. ⌜ ((n : ℕ) → best-below n late → winner-below n (r .winner)) ⌝ }
+{
+    if h.eligible {
+        return Selected {
+            winner: Winner::Nobody,
+            v: h.v,
+            locked: locked(late),
+        };
+    }
+    match late {
+        Best::Nobody => alone(h),
+        Best::Found(e) => least(h, e),
+    }
+}
+
+// What the choice needs of the scan: the record of the eligible entry, where there is one.
+pub fn choose(m: &[u64], c: usize, n: usize, h: Holder, w: Scanned) -> Selected
+    requires { ⌜ Image c n (now m) ⌝ }
+    requires { ⌜ (best-below n (w .«eligible_best»)) × (best-below n (w .«ineligible_best»)) ⌝ }
+    ensures { λ r. ⌜ ((M : Machine) → now (m .entry) ≡ encode M → Fits c n M → (s : State) (f : Scan) → Holding h s → Chosen (M .contexts) w f → choice-of r ≡ choice s f) ⌝ }
+    ensures { λ r. ⌜ winner-below n (r .winner) ⌝ }
+{
+    let best = w.eligible_best;
+    let late = w.ineligible_best;
+    match best {
+        Best::Nobody => without_entry(h, late),
+        Best::Found(e) => {
+            let x = machine::index(e.context_ref);
+            let q = machine::load(m, c, n, x);
+            against(h, late, e, q)
+        }
+    }
+}

@@ -1,0 +1,130 @@
+// The clean-up after the scan, V stored with it, and the winner's key out of the queue.
+ghost use mathlib.Core.Path.{_≡_};
+ghost use mathlib.Core.Bool.{false};
+ghost use Prim.Native.Nat.{_+_, _*_, _-_, _<_, _≤_};
+ghost use lib.ListN.{length};
+ghost use Rattle.run_queue.specs.declared.Key.{Key};
+ghost use Rattle.machine.specs.Shape.{Image};
+ghost use Rattle.decision.specs.State.{State, queue-key};
+ghost use Rattle.decision.specs.Choice.{dequeued, taken-out};
+ghost use Rattle.stages.specs.Stage.{Staged};
+ghost use Rattle.select.specs.Values.{winner-of, winner-below};
+ghost use Rattle.select.specs.Scanning.{key-at, keys-in};
+ghost use Rattle.select.specs.Cleaning.{lightened, remove-keys, cleaned};
+use crate::Winner;
+use crate::judge;
+use context::Context;
+use percpu::PercpuBlock;
+use run_queue::Key;
+
+// What is left of a weight.
+fn reduced(total: u64, change: u64) -> u64
+    ensures { λ r. ⌜ r ≡ total - change ⌝ }
+{
+    if change < total {
+        return total - change;
+    }
+    0
+}
+
+// The block with less weight, the queue's length published, and V.
+fn lightened(mut b: PercpuBlock, change: u64, len: usize, v: u64) -> PercpuBlock
+    ensures { λ r. ⌜ r ≡ lightened b change len v ⌝ }
+{
+    let left = reduced(b.total_weight, change);
+    let length = machine::word(len);
+    b.total_weight = left;
+    b.published_weight = left;
+    b.queue_len = length;
+    b.v = v;
+    b
+}
+
+fn key_of(d: &[u64], j: usize) -> Key
+    requires { ⌜ (length (now d) ≡ 192) × (j < 64) ⌝ }
+    ensures { λ r. ⌜ r ≡ key-at (now (d .entry)) j ⌝ }
+{
+    let at = 3 * j;
+    Key {
+        vd: d[at],
+        rem_slice: d[at + 1],
+        ctxt_id: d[at + 2],
+    }
+}
+
+// The first `number` keys of d leave the queue of CPU k.
+fn remove_keys(m: &mut [u64], d: &[u64], c: usize, n: usize, k: usize, number: usize)
+    requires { ⌜ Image c n (now m) ⌝ }
+    requires { ⌜ (k < c) × (number ≤ 64) × (length (now d) ≡ 192) ⌝ }
+    ensures { λ r. ⌜ Staged c n k (now (m .entry)) (now (m .exit)) false (λ (s : State). remove-keys (keys-in (now (d .entry)) number) s) ⌝ }
+{
+    let mut j = 0;
+    while j < number {
+        let key = key_of(d, j);
+        stages::remove_key(m, c, n, k, key);
+        j += 1;
+    }
+}
+
+// The weight and the keys that the scan gave up leave, and V becomes v.
+pub fn clean_up(
+    m: &mut [u64],
+    d: &[u64],
+    c: usize,
+    n: usize,
+    k: usize,
+    weight_change: u64,
+    number: usize,
+    v: u64,
+)
+    requires { ⌜ Image c n (now m) ⌝ }
+    requires { ⌜ (k < c) × (number ≤ 64) × (length (now d) ≡ 192) ⌝ }
+    ensures { λ r. ⌜ Staged c n k (now (m .entry)) (now (m .exit)) false (λ (s : State). cleaned «weight_change» (keys-in (now (d .entry)) number) v s) ⌝ }
+{
+    let old = stages::load_block(m, c, n, k);
+    let len = stages::queue_len(m, c, n, k);
+    let b = lightened(old, weight_change, len, v);
+    stages::store_block(m, c, n, k, b);
+    remove_keys(m, d, c, n, k, number);
+}
+
+fn key_of_context(q: Context) -> Key
+    ensures { λ r. ⌜ r ≡ queue-key q ⌝ }
+{
+    Key {
+        vd: q.queue_key_vd,
+        rem_slice: q.queue_key_rem_slice,
+        ctxt_id: q.debug_id,
+    }
+}
+
+// The key of context x leaves the queue of CPU k, and its record.
+fn dequeue(m: &mut [u64], c: usize, n: usize, k: usize, x: usize)
+    requires { ⌜ Image c n (now m) ⌝ }
+    requires { ⌜ (k < c) × (x < n) ⌝ }
+    ensures { λ r. ⌜ Staged c n k (now (m .entry)) (now (m .exit)) false (λ (s : State). dequeued x s) ⌝ }
+{
+    let q = machine::load(m, c, n, x);
+    if q.has_queue_key {
+        let unqueued = judge::without_key(q);
+        stages::store_context(m, c, n, k, x, unqueued);
+        let key = key_of_context(q);
+        stages::remove_key(m, c, n, k, key);
+    }
+}
+
+// The winner's key leaves the queue of CPU k.
+pub fn take_out(m: &mut [u64], c: usize, n: usize, k: usize, w: Winner)
+    requires { ⌜ Image c n (now m) ⌝ }
+    requires { ⌜ (k < c) × (winner-below n w) ⌝ }
+    ensures { λ r. ⌜ Staged c n k (now (m .entry)) (now (m .exit)) false (λ (s : State). taken-out (winner-of w) s) ⌝ }
+{
+    match w {
+        Winner::Nobody => {
+            return;
+        }
+        Winner::Is(x) => {
+            dequeue(m, c, n, k, x);
+        }
+    }
+}

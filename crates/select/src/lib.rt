@@ -1,0 +1,131 @@
+// The scan of a CPU's queue, the clean-up after it, and the choice of who runs next (`select_next_context` of context/switch.rs).
+// In every function m is the image of a machine of c CPUs and n contexts.
+mod choice;
+mod clean_up;
+mod judge;
+mod read;
+mod scan;
+
+use context::Context;
+use run_queue::Entry;
+ghost use mathlib.Core.Path.{_≡_};
+ghost use mathlib.Core.Bool.{false};
+ghost use Prim.Native.Nat.{_<_, _≤_};
+ghost use lib.ListN.{length};
+ghost use Rattle.machine.specs.Shape.{Image};
+ghost use Rattle.decision.specs.State.{State};
+ghost use Rattle.decision.specs.Choice.{choice, chosen};
+ghost use Rattle.decision.specs.Decision.{scanned};
+ghost use Rattle.stages.specs.Stage.{Stage};
+ghost use Rattle.select.specs.Values.{choice-of, best-below, winner-below};
+ghost use Rattle.select.specs.Scanning.{found};
+ghost use Rattle.select.specs.Holding.{Holding};
+ghost use Rattle.select.specs.Cleaning.{chosen-after};
+
+// A least vtime, if there is one.
+pub enum MinVtime {
+    Nobody,
+    At(u64),
+}
+
+// The best entry so far, if there is one.
+pub enum Best {
+    Nobody,
+    Found(Entry),
+}
+
+// A context that won or is kept locked, if there is one.
+pub enum Winner {
+    Nobody,
+    Is(usize),
+}
+
+// What an entry is to the scan; the record that is stored, if it changes.
+pub enum Visit {
+    Pass,
+    Gone,
+    Blocked(Context),
+    NoAddrSpace(Context),
+    Ready(Context),
+}
+
+// What the scan goes by: the CPU, the time, words of the CPU's block, and the vtime of a runnable holder that is not eligible.
+pub struct Scanner {
+    pub cpu_id: u64,
+    pub time: u64,
+    pub idle_ctxt: u64,
+    pub sched_ctxt: u64,
+    pub current_ctxt: u64,
+    pub v: u64,
+    pub ineligible_holder: MinVtime,
+}
+
+// The context in charge before the decision, as the choice sees it.
+pub struct Holder {
+    pub runnable: bool,
+    pub eligible: bool,
+    pub vtime: u64,
+    pub vd: u64,
+    pub rem_slice: u64,
+    // V of the CPU
+    pub v: u64,
+}
+
+// What the scan has found; the keys to remove are in a scratch slice, three words a key, and counted here.
+pub struct Scanned {
+    pub eligible_best: Best,
+    pub ineligible_best: Best,
+    pub weight_change: u64,
+    pub contexts_to_remove: usize,
+}
+
+// Who won, V, and the context that the decision keeps locked besides the holder and the winner.
+pub struct Selected {
+    pub winner: Winner,
+    pub v: u64,
+    pub locked: Winner,
+}
+
+// After the scan of CPU k's queue, which found w: the choice, the clean-up, and the winner's key out of the queue.
+fn apply_choice(
+    m: &mut [u64],
+    d: &[u64],
+    c: usize,
+    n: usize,
+    k: usize,
+    h: Holder,
+    w: Scanned,
+) -> Selected
+    requires { ⌜ Image c n (now m) ⌝ }
+    requires { ⌜ (k < c) × (w .«contexts_to_remove» ≤ 64) × (length (now d) ≡ 192) ⌝ }
+    requires { ⌜ (best-below n (w .«eligible_best»)) × (best-below n (w .«ineligible_best»)) ⌝ }
+    ensures { λ r. ⌜ ((s : State) → Holding h s → Stage c n k (now (m .entry)) (now (m .exit)) false (choice-of r) (λ (a : State). chosen-after s (found (a .contexts) w (now (d .entry))) a) (λ (a : State). choice s (found (a .contexts) w (now (d .entry))))) ⌝ }
+    ensures { λ r. ⌜ winner-below n (r .winner) ⌝ }
+{
+    let r = choice::choose(m, c, n, h, w);
+    clean_up::clean_up(m, d, c, n, k, w.weight_change, w.contexts_to_remove, r.v);
+    let winner = r.winner;
+    clean_up::take_out(m, c, n, k, winner);
+    r
+}
+
+// The scan of CPU k's queue at a time, the clean-up and the choice. The scratch is for the keys to remove, three words each of 64.
+pub fn select(
+    m: &mut [u64],
+    c: usize,
+    n: usize,
+    k: usize,
+    time: u64,
+    scratch: &mut [u64],
+) -> Selected
+    requires { ⌜ Image c n (now m) ⌝ }
+    requires { ⌜ (k < c) × (length (now scratch) ≡ 192) ⌝ }
+    ensures { λ r. ⌜ Stage c n k (now (m .entry)) (now (m .exit)) false (choice-of r) (λ (s : State). chosen (choice s (scanned k time s)) (scanned k time s) s) (λ (s : State). choice s (scanned k time s)) ⌝ }
+    ensures { λ r. ⌜ winner-below n (r .winner) ⌝ }
+{
+    let b = stages::load_block(m, c, n, k);
+    let h = read::holder(m, c, n, k, b);
+    let t = read::scanner(k, time, b, h);
+    let w = scan::scan_queue(m, scratch, c, n, k, t);
+    apply_choice(m, scratch, c, n, k, h, w)
+}

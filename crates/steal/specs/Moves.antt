@@ -1,0 +1,73 @@
+-- Entries moved from CPU t to CPU k of the machine. Assumes nothing.
+use mathlib.Core.Path.{_≡_}
+use mathlib.Core.Bool.{Bool, true, false, _||_}
+use mathlib.Core.List.{List}
+use mathlib.Core.Option.{Option}
+use Prim.Native.Nat.{ℕ, _<_, _≤_}
+use lib.ListN.{set}
+use Rattle.machine.specs.Machine.{Machine, cpu-at, context-at}
+use Rattle.machine.specs.Encode.{encode}
+use Rattle.machine.specs.Shape.{Fits, Image}
+use Rattle.columns.specs.Common.{if_then_else_}
+use Rattle.context.specs.declared.Context.{Context}
+use Rattle.run_queue.specs.declared.Entry.{Entry}
+use Rattle.decision.specs.State.{State, state-of, on-cpu, put-context, insert-entry, with-new-key}
+use Rattle.decision.specs.Wakeups.{entry-of}
+use Rattle.decision.specs.Steal.{Stealing, Moving, first-wins, published, mark-stealable}
+use Rattle.steal_judge.specs.declared.Winner.{Winner}
+use Rattle.steal_judge.specs.declared.Winner.the-variants.{None, One}
+use Rattle.steal_judge.specs.Names.{winner-of}
+
+abbrev pub moving-of : (k t : ℕ) → Winner → Machine → Moving
+moving-of k t w M = record { state = state-of k M; victim = cpu-at M t; winner = winner-of w }
+
+abbrev pub put-moving : (k t : ℕ) → Moving → Machine → Machine
+put-moving k t v M = record { contexts = v .state .contexts; cpus = set (set (M .cpus) t (v .victim)) k (v .state .cpu) }
+
+-- of one machine M that m stood for: v is what the moves come to
+pub record MovesAt (c n k t : ℕ) (m' : List ℕ) (full : Bool) (w' : Winner) (v : Moving) (M : Machine) : Type 0 where
+  pub room : full ≡ v .state .no-room
+  pub after : full ≡ false → m' ≡ encode (put-moving k t v M)
+  pub fits : full ≡ false → Fits c n (put-moving k t v M)
+  pub winner : full ≡ false → winner-of w' ≡ v .winner
+
+pub record Moves (c n k t : ℕ) (m m' : List ℕ) (full : Bool) (w w' : Winner) (f : Moving → Moving) : Type 0 where
+  pub image : full ≡ false → Image c n m'
+  pub moves : (M : Machine) → m ≡ encode M → Fits c n M → MovesAt c n k t m' full w' (f (moving-of k t w M)) M
+
+-- no sum that a move makes overflows
+pub record Movable (c n k : ℕ) (m : List ℕ) : Type 0 where
+  pub M : Machine
+  pub eq : m ≡ encode M
+  pub fits : Fits c n M
+  pub v : cpu-at M k .block .v ≤ 4899916395652841471
+  pub total-weight : cpu-at M k .block .«total_weight» ≤ 9799832791305682942
+  pub vtime : (x : ℕ) → x < n → (context-at (M .contexts) x) .vtime ≤ 9799832791305682942
+
+-- a stolen record taken in by this CPU, and who has won then
+unfoldable pub taken-in : Bool → Winner → Entry → Context → State → State
+taken-in runs w e q s =
+    if first-wins runs (winner-of w) then put-context (e .«context_ref») q s else
+    insert-entry (entry-of (e .«context_ref») (e .weight) q) (put-context (e .«context_ref») (with-new-key q) s)
+
+abbrev pub winner-in : Bool → Winner → Entry → Winner
+winner-in runs w e = if first-wins runs (winner-of w) then One (e .«context_ref») else w
+
+-- what other CPUs read, on both
+abbrev pub finished : Moving → Moving
+finished v = record { state = on-cpu published (v .state); victim = mark-stealable (published (v .victim)); winner = v .winner }
+
+-- the machine that a state of the stealing stands for
+abbrev pub machine-of : ℕ → Stealing → Machine
+machine-of k l = record { contexts = l .state .contexts; cpus = set (l .cpus) k (l .state .cpu) }
+
+-- l is what the stealing comes to
+pub record StealsAt (c n k : ℕ) (m' : List ℕ) (full : Bool) (w' : Winner) (l : Stealing) : Type 0 where
+  pub room : full ≡ l .state .no-room
+  pub after : full ≡ false → m' ≡ encode (machine-of k l)
+  pub fits : full ≡ false → Fits c n (machine-of k l)
+  pub winner : full ≡ false → winner-of w' ≡ l .winner
+
+pub record Steals (c n k : ℕ) (m m' : List ℕ) (full : Bool) (w' : Winner) (f : Machine → Stealing) : Type 0 where
+  pub image : full ≡ false → Image c n m'
+  pub steals : (M : Machine) → m ≡ encode M → Fits c n M → StealsAt c n k m' full w' (f M)

@@ -1,0 +1,261 @@
+// Entries moved from the victim's queue to this CPU.
+use context::Context;
+use run_queue::Entry;
+use run_queue::Key;
+use steal_judge::Candidates;
+use steal_judge::Winner;
+ghost use mathlib.Core.Path.{_≡_};
+ghost use mathlib.Core.Bool.{Bool, true, false, not, _&&_};
+ghost use mathlib.Core.List.{List, [], _∷_};
+ghost use mathlib.Core.Logic.{_≢_};
+ghost use Prim.Native.Nat.{ℕ, _+_, _*_, _<_, _≤_};
+ghost use lib.ListN.{length, getD};
+ghost use Rattle.columns.specs.Common.{if_then_else_, fold, All};
+ghost use Rattle.percpu.specs.Cpu.{Cpu};
+ghost use Rattle.percpu.specs.With.{cpu-total-weight};
+ghost use Rattle.machine.specs.Machine.{Machine, cpu-at, context-at};
+ghost use Rattle.machine.specs.Encode.{encode, cpu-place};
+ghost use Rattle.machine.specs.Shape.{ContextFits, EntryFits, Image, Fits};
+ghost use Rattle.decision.specs.State.{State, on-cpu, with-new-key, insert-entry, put-context};
+ghost use Rattle.decision.specs.Wakeups.{entry-of};
+ghost use Rattle.decision.specs.Steal.{Moving, give-up, published, mark-stealable, moved, first-wins, move-entry};
+ghost use Rattle.stages.specs.Stage.{Stage, Staged, Ranged};
+ghost use Rattle.steal_judge.specs.Names.{winner-of, entries-of};
+ghost use Rattle.steal.specs.Moves.{Moves, Movable, taken-in, winner-in, finished};
+
+// who won, and whether an insertion found no room
+pub struct Moved {
+    pub winner: Winner,
+    pub full: bool,
+}
+
+fn give_up(m: &mut [u64], c: usize, n: usize, t: usize, e: Entry)
+    requires { ⌜ Image c n (now m) ⌝ }
+    requires { ⌜ t < c ⌝ }
+    ensures { λ r. ⌜ Staged c n t (now (m .entry)) (now (m .exit)) false (λ (s : State). on-cpu (λ (p : Cpu). give-up e p) s) ⌝ }
+{
+    let at = 2 + 26 * n + 665 * t;
+    let end = at + 665;
+    crate::block::give_up(&mut m[at..end], e);
+}
+
+fn add_weight(m: &mut [u64], c: usize, n: usize, k: usize, weight: u64)
+    requires { ⌜ Image c n (now m) ⌝ }
+    requires { ⌜ (k < c) × (weight ≤ 88761) × (getD (now m) (cpu-place n k + 20) 0 ≤ 9799832791305682942) ⌝ }
+    ensures { λ r. ⌜ Staged c n k (now (m .entry)) (now (m .exit)) false (λ (s : State). on-cpu (λ (p : Cpu). cpu-total-weight (p .block .«total_weight» + weight) p) s) ⌝ }
+{
+    let at = 2 + 26 * n + 665 * k;
+    let end = at + 665;
+    crate::block::add_weight(&mut m[at..end], weight);
+}
+
+fn publish(m: &mut [u64], c: usize, n: usize, k: usize)
+    requires { ⌜ Image c n (now m) ⌝ }
+    requires { ⌜ k < c ⌝ }
+    ensures { λ r. ⌜ Staged c n k (now (m .entry)) (now (m .exit)) false (λ (s : State). on-cpu (λ (p : Cpu). published p) s) ⌝ }
+{
+    let at = 2 + 26 * n + 665 * k;
+    let end = at + 665;
+    crate::block::publish(&mut m[at..end]);
+}
+
+fn publish_victim(m: &mut [u64], c: usize, n: usize, t: usize)
+    requires { ⌜ Image c n (now m) ⌝ }
+    requires { ⌜ t < c ⌝ }
+    ensures { λ r. ⌜ Staged c n t (now (m .entry)) (now (m .exit)) false (λ (s : State). on-cpu (λ (p : Cpu). mark-stealable (published p)) s) ⌝ }
+{
+    let at = 2 + 26 * n + 665 * t;
+    let end = at + 665;
+    crate::block::publish_victim(&mut m[at..end]);
+}
+
+// The record of context x as it will stand on this CPU.
+fn stolen(m: &[u64], c: usize, n: usize, k: usize, t: usize, x: usize, weight: u64) -> Context
+    requires { ⌜ Image c n (now m) ⌝ }
+    requires { ⌜ (k < c) × (t < c) × (x < n) × (15 ≤ weight) ⌝ }
+    requires { ⌜ Movable c n k (now m) ⌝ }
+    ensures { λ r. ⌜ (ContextFits c r) × ((M : Machine) → now (m .entry) ≡ encode M → Fits c n M → r ≡ moved (cpu-at M k .block .v) (cpu-at M t .block .v) weight (context-at (M .contexts) x)) ⌝ }
+{
+    let q = machine::load(m, c, n, x);
+    let here = stages::load_block(m, c, n, k);
+    let there = stages::load_block(m, c, n, t);
+    steal_judge::moved(q, here.v, there.v, weight)
+}
+
+fn with_new_key(mut q: Context) -> Context
+    ensures { λ r. ⌜ r ≡ with-new-key q ⌝ }
+{
+    q.queue_key_rem_slice = q.rem_slice;
+    q.queue_key_vd = q.vd;
+    q.has_queue_key = true;
+    q
+}
+
+fn entry_of(x: u64, weight: u64, q: Context) -> Entry
+    ensures { λ r. ⌜ r ≡ entry-of x weight q ⌝ }
+{
+    Entry {
+        key: Key {
+            vd: q.vd,
+            rem_slice: q.rem_slice,
+            ctxt_id: q.debug_id,
+        },
+        vtime: q.vtime,
+        weight: weight,
+        context_ref: x,
+    }
+}
+
+fn first_wins(runs: bool, w: Winner) -> bool
+    ensures { λ r. ⌜ r ≡ first-wins runs (winner-of w) ⌝ }
+{
+    match w {
+        Winner::None => !runs,
+        Winner::One(_) => false,
+    }
+}
+
+// The stolen record q of context x: the first one wins, or it is queued here.
+fn take_in(
+    m: &mut [u64],
+    c: usize,
+    n: usize,
+    k: usize,
+    runs: bool,
+    w: Winner,
+    e: Entry,
+    q: Context,
+) -> Moved
+    requires { ⌜ Image c n (now m) ⌝ }
+    requires { ⌜ (k < c) × (EntryFits n e) ⌝ }
+    requires { ⌜ ContextFits c q ⌝ }
+    ensures { λ r. ⌜ Stage c n k (now (m .entry)) (now (m .exit)) (r .full) (r .winner) (λ (s : State). taken-in runs w e q s) (λ (s : State). winner-in runs w e) ⌝ }
+{
+    let x = machine::index(e.context_ref);
+    if first_wins(runs, w) {
+        stages::store_context(m, c, n, k, x, q);
+        return Moved {
+            winner: Winner::One(x),
+            full: false,
+        };
+    }
+    let full = queue_in(m, c, n, k, x, e, q);
+    Moved {
+        winner: w,
+        full: full,
+    }
+}
+
+fn queue_in(m: &mut [u64], c: usize, n: usize, k: usize, x: usize, e: Entry, q: Context) -> bool
+    requires { ⌜ Image c n (now m) ⌝ }
+    requires { ⌜ (k < c) × (EntryFits n e) × (x ≡ e .«context_ref») ⌝ }
+    requires { ⌜ ContextFits c q ⌝ }
+    ensures { λ r. ⌜ Staged c n k (now (m .entry)) (now (m .exit)) r (λ (s : State). insert-entry (entry-of (e .«context_ref») (e .weight) q) (put-context (e .«context_ref») (with-new-key q) s)) ⌝ }
+{
+    let keyed = with_new_key(q);
+    stages::store_context(m, c, n, k, x, keyed);
+    let new = entry_of(e.context_ref, e.weight, q);
+    stages::insert_entry(m, c, n, k, new)
+}
+
+fn move_entry(
+    m: &mut [u64],
+    c: usize,
+    n: usize,
+    k: usize,
+    t: usize,
+    runs: bool,
+    w: Winner,
+    e: Entry,
+) -> Moved
+    requires { ⌜ Image c n (now m) ⌝ }
+    requires { ⌜ (k < c) × (t < c) × (t ≢ k) × (EntryFits n e) ⌝ }
+    requires { ⌜ Movable c n k (now m) ⌝ }
+    ensures { λ r. ⌜ Moves c n k t (now (m .entry)) (now (m .exit)) (r .full) w (r .winner) (λ (v : Moving). move-entry runs v e) ⌝ }
+{
+    let x = machine::index(e.context_ref);
+    let q = stolen(m, c, n, k, t, x, e.weight);
+    give_up(m, c, n, t, e);
+    add_weight(m, c, n, k, e.weight);
+    take_in(m, c, n, k, runs, w, e, q)
+}
+
+fn move_two(
+    m: &mut [u64],
+    c: usize,
+    n: usize,
+    k: usize,
+    t: usize,
+    runs: bool,
+    w: Winner,
+    a: Entry,
+    b: Entry,
+) -> Moved
+    requires { ⌜ Image c n (now m) ⌝ }
+    requires { ⌜ (k < c) × (t < c) × (t ≢ k) × (EntryFits n a) × (EntryFits n b) ⌝ }
+    requires { ⌜ Ranged c n 4611686027017322496 4899916395652841471 (now m) ⌝ }
+    ensures { λ r. ⌜ Moves c n k t (now (m .entry)) (now (m .exit)) (r .full) w (r .winner) (λ (v : Moving). move-entry runs (move-entry runs v a) b) ⌝ }
+{
+    let one = move_entry(m, c, n, k, t, runs, w, a);
+    if one.full {
+        return one;
+    }
+    let first = one.winner;
+    move_entry(m, c, n, k, t, runs, first, b)
+}
+
+fn move_entries(
+    m: &mut [u64],
+    c: usize,
+    n: usize,
+    k: usize,
+    t: usize,
+    runs: bool,
+    w: Winner,
+    got: Candidates,
+) -> Moved
+    requires { ⌜ Image c n (now m) ⌝ }
+    requires { ⌜ (k < c) × (t < c) × (t ≢ k) × (All (EntryFits n) (entries-of got)) ⌝ }
+    requires { ⌜ Ranged c n 4611686027017322496 4899916395652841471 (now m) ⌝ }
+    ensures { λ r. ⌜ Moves c n k t (now (m .entry)) (now (m .exit)) (r .full) w (r .winner) (λ (v : Moving). fold (move-entry runs) v (entries-of got)) ⌝ }
+{
+    match got {
+        Candidates::Nothing => {
+            return Moved {
+                winner: w,
+                full: false,
+            };
+        }
+        Candidates::Single(a) => {
+            return move_entry(m, c, n, k, t, runs, w, a);
+        }
+        Candidates::Pair(a, b) => {
+            return move_two(m, c, n, k, t, runs, w, a, b);
+        }
+    }
+}
+
+// The words that other CPUs read are stored on both CPUs.
+pub fn rob(
+    m: &mut [u64],
+    c: usize,
+    n: usize,
+    k: usize,
+    t: usize,
+    runs: bool,
+    w: Winner,
+    got: Candidates,
+) -> Moved
+    requires { ⌜ Image c n (now m) ⌝ }
+    requires { ⌜ (k < c) × (t < c) × (t ≢ k) × (All (EntryFits n) (entries-of got)) ⌝ }
+    requires { ⌜ Ranged c n 4611686027017322496 4899916395652841471 (now m) ⌝ }
+    ensures { λ r. ⌜ Moves c n k t (now (m .entry)) (now (m .exit)) (r .full) w (r .winner) (λ (v : Moving). finished (fold (move-entry runs) v (entries-of got))) ⌝ }
+{
+    let all = move_entries(m, c, n, k, t, runs, w, got);
+    if all.full {
+        return all;
+    }
+    publish_victim(m, c, n, t);
+    publish(m, c, n, k);
+    all
+}

@@ -1,0 +1,8 @@
+pub mod Pacing
+pub mod Listed
+pub mod Entering
+pub mod Judged
+pub mod Serving
+pub mod Higher
+pub mod BoundedOnce
+pub mod Bounded

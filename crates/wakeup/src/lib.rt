@@ -1,0 +1,105 @@
+// The wake-up stage (`wakeup_contexts`, context/switch.rs): due timers and the local list.
+// In every function m is the image of a machine of c CPUs and n contexts, and k is the CPU. A function that returns a truth
+// returns whether there is no room; the image is then of no interest.
+mod enter;
+
+use enter::enter_queue;
+use run_queue::Timer;
+use wakeup_judge::Wakeup;
+use wakeup_judge::WakeupResult;
+ghost use mathlib.Core.Path.{_≡_};
+ghost use mathlib.Core.Bool.{Bool, true, false};
+ghost use Prim.Native.Nat.{ℕ, _+_, _*_, _<_, _≤_};
+ghost use lib.ListN.{length};
+ghost use Rattle.columns.specs.Common.{fold};
+ghost use Rattle.machine.specs.Shape.{Image};
+ghost use Rattle.decision.specs.State.{State};
+ghost use Rattle.decision.specs.Wakeups.{put-back, wake-as, serve-wakeup, serve-wakeups};
+ghost use Rattle.stages.specs.Stage.{Staged, Ranged};
+ghost use Rattle.wakeup_judge.specs.Judge.{wake-of, wakeup-of, result-of};
+ghost use Rattle.wakeup_read.specs.Read.{wakeups-in};
+ghost use Rattle.wakeup.specs.Paced.{Paced, ResultFits, Named};
+
+// A context that is locked is tried again at the next decision.
+fn put_again(m: &mut [u64], c: usize, n: usize, k: usize, w: Wakeup) -> bool
+    requires { ⌜ Image c n (now m) ⌝ }
+    requires { ⌜ (k < c) × (w .«context_ref» < n) ⌝ }
+    ensures { λ r. ⌜ Staged c n k (now (m .entry)) (now (m .exit)) r (λ (s : State). put-back (wake-of w) (w .«context_ref») s) ⌝ }
+{
+    if w.by_timer {
+        let t = Timer {
+            wake: w.wake,
+            context_ref: w.context_ref,
+        };
+        return stages::insert_timer(m, c, n, k, t);
+    }
+    let x = machine::index(w.context_ref);
+    stages::push_local(m, c, n, k, x)
+}
+
+fn serve_as(m: &mut [u64], c: usize, n: usize, k: usize, w: Wakeup, r: WakeupResult) -> bool
+    requires { ⌜ Image c n (now m) ⌝ }
+    requires { ⌜ (k < c) × (w .«context_ref» < n) × ResultFits c r ⌝ }
+    requires { ⌜ Paced c n k 4611686018427387903 4611686018438749311 (now m) ⌝ }
+    ensures { λ full. ⌜ Staged c n k (now (m .entry)) (now (m .exit)) full (λ (s : State). wake-as s (wakeup-of w) (result-of r)) ⌝ }
+{
+    let x = machine::index(w.context_ref);
+    match r {
+        WakeupResult::Dropped => {
+            return false;
+        }
+        WakeupResult::Locked => {
+            return put_again(m, c, n, k, w);
+        }
+        WakeupResult::WokenOnly(q) => {
+            stages::store_context(m, c, n, k, x, q);
+            return false;
+        }
+        WakeupResult::Entered(q) => {
+            return enter_queue(m, c, n, k, x, q);
+        }
+    }
+}
+
+fn serve_one(m: &mut [u64], c: usize, n: usize, k: usize, w: Wakeup) -> bool
+    requires { ⌜ Image c n (now m) ⌝ }
+    requires { ⌜ (k < c) × (w .«context_ref» < n) ⌝ }
+    requires { ⌜ Paced c n k 4611686018427387903 4611686018438749311 (now m) ⌝ }
+    ensures { λ r. ⌜ Staged c n k (now (m .entry)) (now (m .exit)) r (λ (s : State). serve-wakeup s (wakeup-of w)) ⌝ }
+{
+    let b = stages::load_block(m, c, n, k);
+    let x = machine::index(w.context_ref);
+    let q = machine::load(m, c, n, x);
+    let r = wakeup_judge::judge(b.current_ctxt, b.sched_ctxt, w, q);
+    serve_as(m, c, n, k, w, r)
+}
+
+// The first len wake-ups of the scratch d, in order.
+fn serve_all(m: &mut [u64], d: &[u64], c: usize, n: usize, k: usize, len: usize) -> bool
+    requires { ⌜ Image c n (now m) ⌝ }
+    requires { ⌜ (k < c) × (len ≤ 128) × (length (now d) ≡ 384) × Named n (wakeups-in (now d) len) ⌝ }
+    requires { ⌜ Paced c n k 4611686018427387903 4611686018427387903 (now m) ⌝ }
+    ensures { λ r. ⌜ Staged c n k (now (m .entry)) (now (m .exit)) r (λ (s : State). fold serve-wakeup s (wakeups-in (now (d .entry)) len)) ⌝ }
+{
+    let mut i = 0;
+    while i < len {
+        let w = wakeup_read::wakeup_in(d, i);
+        if serve_one(m, c, n, k, w) {
+            return true;
+        }
+        i += 1;
+    }
+    false
+}
+
+// The whole stage; d is a scratch of 384 words.
+pub fn serve_wakeups(m: &mut [u64], c: usize, n: usize, k: usize, time: u64, d: &mut [u64]) -> bool
+    requires { ⌜ Image c n (now m) ⌝ }
+    requires { ⌜ (k < c) × (time ≤ 4611686018427387903) × (length (now d) ≡ 384) ⌝ }
+    requires { ⌜ Ranged c n 4611686018427387904 4611686018427387903 (now m) ⌝ }
+    ensures { λ r. ⌜ Staged c n k (now (m .entry)) (now (m .exit)) r (λ (s : State). serve-wakeups time s) ⌝ }
+{
+    let len = wakeup_read::read_wakeups(m, d, c, n, k, time);
+    wakeup_read::drain(m, c, n, k, time);
+    serve_all(m, d, c, n, k, len)
+}

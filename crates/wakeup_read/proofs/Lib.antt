@@ -1,0 +1,4 @@
+pub mod Scratched
+pub mod Items
+pub mod Reading
+pub mod Draining

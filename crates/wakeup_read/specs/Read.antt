@@ -1,0 +1,37 @@
+-- What is read into the scratch: three words a wake-up. Assumes nothing.
+use mathlib.Core.Path.{_≡_}
+use mathlib.Core.List.{List, [], _∷_, _++_, map}
+use Prim.Native.Nat.{ℕ, zero, suc, _+_, _*_, _<_}
+use lib.Dec.{eqb}
+use lib.ListN.{getD}
+use Rattle.columns.specs.Common.{keep}
+use Rattle.context.specs.declared.Context.{Context}
+use Rattle.run_queue.specs.declared.Timer.{Timer}
+use Rattle.percpu.specs.Layout.{no-timer}
+use Rattle.machine.specs.Machine.{Machine, context-at, cpu-at}
+use Rattle.machine.specs.Encode.{encode}
+use Rattle.machine.specs.Shape.{Fits}
+use Rattle.decision.specs.Wakeups as definition
+use Rattle.wakeup_judge.specs.declared.Wakeup.{Wakeup}
+use Rattle.wakeup_judge.specs.Judge.{wakeup-of, live-at}
+
+abbrev pub wakeup-at : List ℕ → ℕ → Wakeup
+wakeup-at d i = record { «by_timer» = eqb (getD d (3 * i) 0) 1; wake = getD d (3 * i + 1) 0; «context_ref» = getD d (3 * i + 2) 0 }
+
+-- the first n wake-ups of a scratch
+unfoldable pub wakeups-in : List ℕ → ℕ → List definition.Wakeup
+wakeups-in d zero = []
+wakeups-in d (suc n) = wakeups-in d n ++ (wakeup-of (wakeup-at d n) ∷ [])
+
+-- the wake-ups of the timers that are live, where the holder is `sched`
+unfoldable pub live-wakeups : ℕ → List Context → List Timer → List definition.Wakeup
+live-wakeups sched cs l = map definition.timer-wakeup (keep (λ (t : Timer). live-at sched t (context-at cs (t .«context_ref»))) l)
+
+-- r is timer i of CPU k, and r is name i of its local list
+pub record TimerRead (c n k i : ℕ) (m : List ℕ) (r : Timer) : Type 0 where
+  pub is : (M : Machine) → m ≡ encode M → Fits c n M → r ≡ getD (cpu-at M k .timers) i no-timer
+  pub name : r .«context_ref» < n
+
+pub record NameRead (c n k i : ℕ) (m : List ℕ) (r : ℕ) : Type 0 where
+  pub is : (M : Machine) → m ≡ encode M → Fits c n M → r ≡ getD (cpu-at M k .«local_wakeup_list») i 0
+  pub name : r < n
