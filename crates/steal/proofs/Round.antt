@@ -82,7 +82,7 @@ unfolding steal-entries
 entries-done runs l t v [] h = absurd (h refl)
 entries-done runs l t v (e ∷ es) h = refl
 
-done-still : (k : ℕ) (runs : Bool) (locked : List ℕ) (l : Stealing) → l .done ≡ true → (t : ℕ) → steal-from k runs locked l t ≡ l
+pub done-still : (k : ℕ) (runs : Bool) (locked : List ℕ) (l : Stealing) → l .done ≡ true → (t : ℕ) → steal-from k runs locked l t ≡ l
 unfolding steal-from
 done-still k runs locked l e t = rw e
 

@@ -35,7 +35,7 @@ pub due-is : (s : State) (w : Winner) (b : PercpuBlock) {some r : Bool} → b �
     → r ≡ eqb (b .«steal_counter» % interval (eqb (b .«sched_ctxt») (b .«idle_ctxt»)) some) 0 → r ≡ should-steal s (winner-of w)
 due-is s w b e z h = h ∙ rw (z, e)
 
-counted-below : {t b : ℕ} (p : Cpu) → CpuBelow t b p → CpuBelow t b (count-steal p)
+pub counted-below : {t b : ℕ} (p : Cpu) → CpuBelow t b p → CpuBelow t b (count-steal p)
 counted-below p o =
     record {
       schedule-time = o .schedule-time;
