@@ -1,15 +1,15 @@
 -- The candidates: entries of the victim's queue, of contexts that differ. Assumes nothing.
-use mathlib.Core.Path.{_≡_, refl, sym, ap, _∙_, subst}
+use mathlib.Core.Path.{_≡_, refl}
 use mathlib.Core.Bool.{Bool, true, false, not, _&&_, _||_}
 use mathlib.Core.List.{List, [], _∷_, _++_}
 use mathlib.Core.Logic.{_≢_}
 use mathlib.Core.Option.{Option}
-use Prim.Native.Nat.{ℕ, _+_, _<_, _≤_}
+use Prim.Native.Nat.{ℕ, _+_, _≤_}
 use native.Mathlib.Omega.{arith}
 use lib.Dec.{ltb, eqb}
 use lib.ListN.{length, length-append}
 use borrow.Author.Tests.{eqb-false}
-use Rattle.columns.specs.Common.{if_then_else_, fold, All}
+use Rattle.columns.specs.Common.{fold, All}
 use Rattle.columns.proofs.Tests.{by-test, and-both}
 use Rattle.context.specs.declared.Context.{Context}
 use Rattle.context.specs.Status.{is-runnable}
@@ -65,11 +65,11 @@ module _ (k : ℕ) (locked : List ℕ) (cs : List Context) (w : Option ℕ) (n :
   taken-step P bound got e a p =
       by-test (ltb (length got) n && can-be-stolen k locked cs w got e)
       (λ t. rw t
-        (record {
-          each = all-more P got e (a .each) p;
-          apart = apart-more got e (a .apart) (not-taken got e ((and-both (ltb (length got) n) _ t) .1));
-          few = rw (length-append) (omega (arith, a .few));
-        }))
+      (record {
+        each = all-more P got e (a .each) p;
+        apart = apart-more got e (a .apart) (not-taken got e ((and-both (ltb (length got) n) _ t) .1));
+        few = rw (length-append) (omega (arith, a .few));
+      }))
       (λ t. rw t (record { each = a .each; apart = a .apart; few = omega (arith, a .few) }))
 
   taken-all : (P : Entry → Type 0) (bound : ℕ) (got q : List Entry) → Taken P bound got → All P q → Taken P (bound + length q) (fold (take-candidate k locked cs w n) got q)

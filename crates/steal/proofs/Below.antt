@@ -1,14 +1,9 @@
 -- How far a CPU and a record can go by one move. Assumes nothing.
-use mathlib.Core.Path.{_≡_, refl, sym, ap, _∙_, subst}
-use mathlib.Core.List.{List, [], _∷_}
-use Prim.Native.Nat.{ℕ, _+_, _-_, _*_, _/_, _<_, _≤_}
+use Prim.Native.Nat.{ℕ, _+_, _-_, _*_, _/_, _≤_}
 use native.Mathlib.Omega.{arith}
 use native.Mathlib.Nat.{div-mul-le-self, mul-le-mul-left}
-use lib.ListN.{length, getD}
-use Rattle.columns.specs.Common.{All}
 use Rattle.context.specs.declared.Context.{Context}
 use Rattle.run_queue.specs.declared.Entry.{Entry}
-use Rattle.run_queue.specs.declared.Key.{Key}
 use Rattle.run_queue.specs.Order.{entry-before}
 use Rattle.run_queue.specs.Queue.{queue-insert, queue-remove, keyed}
 use Rattle.percpu.specs.Cpu.{Cpu}

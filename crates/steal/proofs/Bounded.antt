@@ -1,6 +1,6 @@
 -- How far the stealing can make values grow: virtual times at most b become at most 2 b + 2^30. Assumes nothing.
-use mathlib.Core.Path.{_≡_, refl, sym, ap, _∙_, subst}
-use mathlib.Core.Bool.{Bool, true, false, not, _&&_, _||_}
+use mathlib.Core.Path.{_≡_, refl, sym, subst}
+use mathlib.Core.Bool.{Bool, true, false, not}
 use mathlib.Core.List.{List, [], _∷_}
 use mathlib.Core.Logic.{_≢_}
 use mathlib.Core.Option.{Option}
@@ -8,7 +8,7 @@ use Prim.Native.Nat.{ℕ, zero, suc, _+_, _-_, _*_, _%_, _<_, _≤_}
 use native.Mathlib.Omega.{arith}
 use lib.ListN.{length, getD, set}
 use lib.Seq.{getD-set-other}
-use Rattle.columns.specs.Common.{if_then_else_, fold, tabulate, All}
+use Rattle.columns.specs.Common.{fold, tabulate, All}
 use Rattle.columns.proofs.Tests.{by-test}
 use Rattle.context.specs.declared.Context.{Context}
 use Rattle.run_queue.specs.declared.Entry.{Entry}
@@ -18,12 +18,13 @@ use Rattle.percpu.specs.With.{cpu-total-weight}
 use Rattle.machine.specs.Machine.{Machine, context-at, cpu-at, no-context, no-cpu}
 use Rattle.machine.specs.Shape.{EntryFits, Fits}
 use Rattle.machine.proofs.Steps.{getD-set}
-use Rattle.decision.specs.State.{State, state-of, on-cpu, with-new-key}
+use Rattle.decision.specs.State.{state-of, on-cpu, with-new-key}
 use Rattle.decision.specs.Steal.{Stealing, Moving, moved, first-wins, move-entry, can-steal-from, want, candidates, targets, count-steal, should-steal, steal-entries, steal-from, steal}
 use Rattle.decision.proofs.Lists.{all-map}
-use Rattle.stages.specs.Stage.{ContextBelow, CpuBelow, Below}
+use Rattle.stages.specs.Stage.{ContextBelow, CpuBelow, Below, Ranged}
 use Rattle.stages.proofs.Fitting.{all-of}
-use Rattle.steal.specs.Moves.{machine-of}
+use Rattle.steal_judge.specs.declared.Winner.{Winner}
+use Rattle.steal.specs.Moves.{machine-of, Steals}
 use Rattle.steal.proofs.Round.{round-is, done-still}
 use Rattle.steal.proofs.Stolen.{counted-below}
 use Rattle.steal.proofs.Apart.{Apart, candidates-taken}
@@ -74,30 +75,30 @@ module _ {n t : ℕ} (b : ℕ) (runs : Bool) (v : Moving) (e : Entry) (es : List
   move-below =
       by-test (first-wins runs (v .winner))
       (λ z. rw z
-        (record {
-          context = λ y l. getD-set (v .state .contexts) x y r no-context (ContextBelow t (2 * b + 1073741824)) r-below (a .context y l);
-          slice = λ y l. getD-set (v .state .contexts) x y r no-context (λ (i : Context). i .«rem_slice» ≤ 9663676416) (a .slice x (f .name)) (a .slice y l);
-          cpu = heavier;
-          v-here = a .v-here;
-          weight = weight-left;
-          victim = below-given-up b e (v .victim) (a .victim);
-          each = a .each .1;
-          still = still-others b (v .state .contexts) x r es (a .apart .0) (a .still .1);
-          apart = a .apart .1;
-        }))
+      (record {
+        context = λ y l. getD-set (v .state .contexts) x y r no-context (ContextBelow t (2 * b + 1073741824)) r-below (a .context y l);
+        slice = λ y l. getD-set (v .state .contexts) x y r no-context (λ (i : Context). i .«rem_slice» ≤ 9663676416) (a .slice x (f .name)) (a .slice y l);
+        cpu = heavier;
+        v-here = a .v-here;
+        weight = weight-left;
+        victim = below-given-up b e (v .victim) (a .victim);
+        each = a .each .1;
+        still = still-others b (v .state .contexts) x r es (a .apart .0) (a .still .1);
+        apart = a .apart .1;
+      }))
       (λ z. rw z
-        (record {
-          context = λ y l. getD-set (v .state .contexts) x y (with-new-key r) no-context (ContextBelow t (2 * b + 1073741824))
-              (below-keyed b (v .state .cpu .block .v) (v .victim .block .v) (e .weight) q (a .context x (f .name)) (a .v-here) (a .still .0) (a .slice x (f .name)) (f .heavy)) (a .context y l);
-          slice = λ y l. getD-set (v .state .contexts) x y (with-new-key r) no-context (λ (i : Context). i .«rem_slice» ≤ 9663676416) (a .slice x (f .name)) (a .slice y l);
-          cpu = below-inserted (2 * b + 1073741824) _ _ (cpu-total-weight (v .state .cpu .block .«total_weight» + e .weight) (v .state .cpu)) (r-below .vtime) (r-below .vd) heavier;
-          v-here = a .v-here;
-          weight = weight-left;
-          victim = below-given-up b e (v .victim) (a .victim);
-          each = a .each .1;
-          still = still-others b (v .state .contexts) x (with-new-key r) es (a .apart .0) (a .still .1);
-          apart = a .apart .1;
-        }))
+      (record {
+        context = λ y l. getD-set (v .state .contexts) x y (with-new-key r) no-context (ContextBelow t (2 * b + 1073741824))
+            (below-keyed b (v .state .cpu .block .v) (v .victim .block .v) (e .weight) q (a .context x (f .name)) (a .v-here) (a .still .0) (a .slice x (f .name)) (f .heavy)) (a .context y l);
+        slice = λ y l. getD-set (v .state .contexts) x y (with-new-key r) no-context (λ (i : Context). i .«rem_slice» ≤ 9663676416) (a .slice x (f .name)) (a .slice y l);
+        cpu = below-inserted (2 * b + 1073741824) _ _ (cpu-total-weight (v .state .cpu .block .«total_weight» + e .weight) (v .state .cpu)) (r-below .vtime) (r-below .vd) heavier;
+        v-here = a .v-here;
+        weight = weight-left;
+        victim = below-given-up b e (v .victim) (a .victim);
+        each = a .each .1;
+        still = still-others b (v .state .contexts) x (with-new-key r) es (a .apart .0) (a .still .1);
+        apart = a .apart .1;
+      }))
 
 moves-below : {n t : ℕ} (b : ℕ) (runs : Bool) (v : Moving) (es : List Entry) → MovingBelow n t b v es → MovingBelow n t b (fold (move-entry runs) v es) []
 moves-below b runs v [] a = a
@@ -182,7 +183,7 @@ module _ {c n t : ℕ} (b k : ℕ) (runs : Bool) (locked : List ℕ) (w : Option
   all-below =
       by-test (should-steal (state-of k M) w)
       (λ z. rw (z, o .cpus)
-        (fold-tabulate (StealingBelow c n t b start) (steal-from k runs locked) (c - 1) (λ (j : ℕ). (k + (j + 1)) % c) (λ y j l p. from-below ((k + (j + 1)) % c) (round-is k c j h l .0) y p) start start-below))
+      (fold-tabulate (StealingBelow c n t b start) (steal-from k runs locked) (c - 1) (λ (j : ℕ). (k + (j + 1)) % c) (λ y j l p. from-below ((k + (j + 1)) % c) (round-is k c j h l .0) y p) start start-below))
       (λ z. rw z start-below)
 
   pub steal-below : Below c n t (2 * b + 1073741824) (machine-of k (steal k runs locked (M .cpus) w (state-of k M)))
@@ -192,3 +193,10 @@ module _ {c n t : ℕ} (b k : ℕ) (runs : Bool) (locked : List ℕ) (w : Option
         context = all-below .context;
         cpu = λ j l. getD-set ((steal k runs locked (M .cpus) w (state-of k M)) .cpus) k j _ no-cpu (CpuBelow t (2 * b + 1073741824)) (all-below .cpu) (all-below .cpus j l);
       }
+
+-- the image after
+pub steal-ranged : {c n t b k : ℕ} {m m' : List ℕ} {full : Bool} {w' : Winner} (runs : Bool) (locked : List ℕ) (w : Option ℕ) → k < c → full ≡ false
+    → Steals c n k m m' full w' (λ (M : Machine). steal k runs locked (M .cpus) w (state-of k M)) → Ranged c n t b m → Ranged c n t (2 * b + 1073741824) m'
+steal-ranged {b = b} {k = k} runs locked w h z s r =
+    let p = s .steals (r .M) (r .eq) (r .fits) in
+    record { M = _; eq = p .after z; fits = p .fits z; below = steal-below b k runs locked w (r .M) h (r .fits) (r .below) }
