@@ -4,3 +4,6 @@ pub mod Blocks
 pub mod Victims
 pub mod Moved
 pub mod Stolen
+pub mod Apart
+pub mod Below
+pub mod Bounded

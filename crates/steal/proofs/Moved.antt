@@ -1,11 +1,11 @@
 -- One entry moved, and the room for its sums. Assumes nothing.
 use mathlib.Core.Path.{_≡_, refl, sym, ap, _∙_, subst}
-use mathlib.Core.Bool.{Bool, true, false, not, _&&_, _||_}
-use mathlib.Core.List.{List, [], _∷_}
+use mathlib.Core.Bool.{Bool, true, false, not}
+use mathlib.Core.List.{List}
 use mathlib.Core.Logic.{_≢_}
-use Prim.Native.Nat.{ℕ, zero, suc, _+_, _-_, _/_, _<_, _≤_}
+use Prim.Native.Nat.{ℕ, _+_, _-_, _<_, _≤_}
 use native.Mathlib.Omega.{arith}
-use lib.ListN.{length, getD, set, length-set}
+use lib.ListN.{getD, set, length-set}
 use lib.Seq.{getD-set-same}
 use Rattle.columns.specs.Common.{if_then_else_, fold, All}
 use Rattle.columns.proofs.Tests.{by-test}
@@ -20,15 +20,15 @@ use Rattle.machine.specs.Shape.{ContextFits, EntryFits, Fits, Image}
 use Rattle.machine.proofs.Steps.{getD-set}
 use Rattle.decision.specs.State.{State, state-of, on-cpu, put-context, insert-entry, with-new-key, at}
 use Rattle.decision.specs.Wakeups.{entry-of}
-use Rattle.decision.specs.Steal.{Moving, moved, first-wins, give-up, move-entry, published, mark-stealable}
+use Rattle.decision.specs.Steal.{Moving, moved, first-wins, give-up, move-entry}
 use Rattle.stages.specs.Stage.{Stage, Staged, Ranged}
 use Rattle.stages.proofs.Compose.{stage-as, stage-then}
 use Rattle.steal_judge.specs.declared.Winner.{Winner}
-use Rattle.steal_judge.specs.declared.Winner.the-variants.{None, One}
+use Rattle.steal_judge.specs.declared.Winner.the-variants.{One}
 use Rattle.steal_judge.specs.declared.Candidates.{Candidates}
 use Rattle.steal_judge.specs.declared.Candidates.the-variants.{Nothing, Single, Pair}
 use Rattle.steal_judge.specs.Names.{winner-of, entries-of}
-use Rattle.steal.specs.Moves.{moving-of, put-moving, MovesAt, Moves, Movable, taken-in, winner-in, finished}
+use Rattle.steal.specs.Moves.{moving-of, put-moving, MovesAt, Moves, Movable, taken-in, winner-in}
 use Rattle.steal.proofs.Blocks.{weight-of}
 use Rattle.steal.proofs.Victims.{victim-then, state-kept}
 
@@ -113,9 +113,9 @@ pub entry-moved : {c n k t : ℕ} {m m1 m2 m3 : List ℕ} {full : Bool} {r w : W
 entry-moved {k = k} {t = t} {r = r} {w = w} runs e x q h d i z a b s =
     victim-then (λ (p : Cpu). give-up e p) (λ (v : Moving). move-entry runs v e) d a (stage-then h b s)
     (λ M u o.
-      let y : q ≡ moved (cpu-at M k .block .v) (cpu-at M t .block .v) (e .weight) (context-at (M .contexts) (e .«context_ref»)) =
-          z M u o ∙ ap (λ (j : ℕ). moved (cpu-at M k .block .v) (cpu-at M t .block .v) (e .weight) (context-at (M .contexts) j)) i in
-      (moved-state runs w e k t M q y, moved-victim runs w e k t M q, λ l. moved-winner runs w e k t M q l))
+    let y : q ≡ moved (cpu-at M k .block .v) (cpu-at M t .block .v) (e .weight) (context-at (M .contexts) (e .«context_ref»)) =
+    z M u o ∙ ap (λ (j : ℕ). moved (cpu-at M k .block .v) (cpu-at M t .block .v) (e .weight) (context-at (M .contexts) j)) i in
+    (moved-state runs w e k t M q y, moved-victim runs w e k t M q, λ l. moved-winner runs w e k t M q l))
 
 -- the sums of the first move, and of the second
 pub movable-first : {c n k : ℕ} {m : List ℕ} → k < c → Ranged c n 4611686027017322496 4899916395652841471 m → Movable c n k m

@@ -1,27 +1,25 @@
 -- The search's loops: round the CPUs, and over the entries of one. Assumes nothing.
 use mathlib.Core.Path.{_≡_, refl, sym, ap, _∙_, subst}
-use mathlib.Core.Bool.{Bool, true, false, not, _&&_, _||_}
+use mathlib.Core.Bool.{Bool, true, false, not}
 use mathlib.Core.List.{List, [], _∷_, _++_}
 use mathlib.Core.Logic.{_≢_}
-use mathlib.Core.Option.{Option}
 use Prim.Native.Nat.{ℕ, zero, suc, _+_, _-_, _%_, _<_, _≤_}
 use native.Mathlib.Omega.{arith}
 use native.Mathlib.Numerals.{add-one}
 use native.Mathlib.Nat.{mod-eq-of-lt, mod-eq-sub-mod}
-use lib.Dec.{ltb, leb, eqb}
+use lib.Dec.{ltb}
 use lib.ListN.{length, getD, take, drop, take-append-drop}
 use lib.Seq.{take-suc, take-all}
 use borrow.Author.Tests.{ltb-true, ltb-false, le-ltb}
 use Rattle.columns.specs.Common.{if_then_else_, fold, tabulate, All}
 use Rattle.columns.proofs.Tests.{by-test}
-use Rattle.context.specs.declared.Context.{Context}
 use Rattle.run_queue.specs.declared.Entry.{Entry}
 use Rattle.percpu.specs.Cpu.{Cpu}
 use Rattle.percpu.specs.Layout.{no-entry}
-use Rattle.machine.specs.Machine.{Machine, cpu-at, no-cpu}
-use Rattle.machine.specs.Encode.{encode, cpu-place}
-use Rattle.machine.specs.Shape.{EntryFits, Fits, Image}
-use Rattle.decision.specs.State.{State, state-of}
+use Rattle.machine.specs.Machine.{Machine, cpu-at}
+use Rattle.machine.specs.Encode.{encode}
+use Rattle.machine.specs.Shape.{EntryFits, Fits}
+use Rattle.decision.specs.State.{state-of}
 use Rattle.decision.specs.Steal.{Stealing, can-steal-from, want, candidates, take-candidate, targets, steal-entries, steal-from}
 use Rattle.decision.proofs.EarlyExit.{fold-still, enough-stays}
 use Rattle.stages.specs.Read.{EntryRead}
@@ -29,7 +27,6 @@ use Rattle.steal_judge.specs.declared.Winner.{Winner}
 use Rattle.steal_judge.specs.declared.Locked.{Locked}
 use Rattle.steal_judge.specs.declared.Candidates.{Candidates}
 use Rattle.steal_judge.specs.Names.{winner-of, locked-of, entries-of}
-use Rattle.steal.specs.declared.search.Victim.{Victim}
 use Rattle.steal.specs.Search.{offers, Begins, Passed, Searched}
 
 module _ {A B : Type 0} where
@@ -82,7 +79,7 @@ unfolding steal-entries
 entries-done runs l t v [] h = absurd (h refl)
 entries-done runs l t v (e ∷ es) h = refl
 
-done-still : (k : ℕ) (runs : Bool) (locked : List ℕ) (l : Stealing) → l .done ≡ true → (t : ℕ) → steal-from k runs locked l t ≡ l
+pub done-still : (k : ℕ) (runs : Bool) (locked : List ℕ) (l : Stealing) → l .done ≡ true → (t : ℕ) → steal-from k runs locked l t ≡ l
 unfolding steal-from
 done-still k runs locked l e t = rw e
 
@@ -196,10 +193,10 @@ module _ {c n k len want' : ℕ} {m : List ℕ} {w : Winner} {locked : Locked} {
       let y : entries-of got' ≡ fold f [] (take (j + 1) (cpu-at M t .queue)) = inner-step r s M z o in
       let g : ltb (length (entries-of got')) want' ≡ false = le-ltb (length (entries-of got')) want' l in
       let u : fold f (entries-of got') (drop (j + 1) (cpu-at M t .queue)) ≡ entries-of got' =
-          enough-stays k (locked-of locked) (M .contexts) (winner-of w) want' (entries-of got') (drop (j + 1) (cpu-at M t .queue)) g in
+      enough-stays k (locked-of locked) (M .contexts) (winner-of w) want' (entries-of got') (drop (j + 1) (cpu-at M t .queue)) g in
       let x : fold f [] (cpu-at M t .queue) ≡ entries-of got' =
-          ap (fold f []) (sym (take-append-drop (j + 1) (cpu-at M t .queue))) ∙ fold-append f [] (take (j + 1) (cpu-at M t .queue)) (drop (j + 1) (cpu-at M t .queue))
-          ∙ ap (λ (i : List Entry). fold f i (drop (j + 1) (cpu-at M t .queue))) (sym y) ∙ u in
+      ap (fold f []) (sym (take-append-drop (j + 1) (cpu-at M t .queue))) ∙ fold-append f [] (take (j + 1) (cpu-at M t .queue)) (drop (j + 1) (cpu-at M t .queue))
+      ∙ ap (λ (i : List Entry). fold f i (drop (j + 1) (cpu-at M t .queue))) (sym y) ∙ u in
       rw (d .0, ← v M z o) (sym x)
 
 -- all entries were looked at

@@ -1,24 +1,22 @@
 -- What the search reads and judges. Assumes nothing.
-use mathlib.Core.Path.{_≡_, refl, sym, ap, _∙_, subst}
-use mathlib.Core.Bool.{Bool, true, false, not, _&&_, _||_}
+use mathlib.Core.Path.{_≡_, sym, _∙_, subst}
+use mathlib.Core.Bool.{Bool, true, false}
 use mathlib.Core.List.{List, [], _∷_, _++_}
 use mathlib.Core.Option.{Option}
-use Prim.Native.Nat.{ℕ, zero, suc, _+_, _-_, _/_, _<_, _≤_, min, max}
+use Prim.Native.Nat.{ℕ, _+_, _-_, _/_, _<_, min, max}
 use native.Mathlib.Omega.{arith}
-use lib.Dec.{ltb, leb, eqb}
-use lib.ListN.{length, getD}
+use lib.Dec.{eqb}
+use lib.ListN.{length}
 use borrow.Author.Tests.{eq-eqb, ne-eqb, lt-ltb}
 use Rattle.columns.specs.Common.{if_then_else_, All}
 use Rattle.context.specs.declared.Context.{Context}
 use Rattle.run_queue.specs.declared.Entry.{Entry}
 use Rattle.percpu.specs.declared.PercpuBlock.{PercpuBlock}
 use Rattle.percpu.specs.Cpu.{Cpu}
-use Rattle.machine.specs.Machine.{Machine, cpu-at, context-at}
+use Rattle.machine.specs.Machine.{context-at}
 use Rattle.machine.specs.Shape.{EntryFits}
-use Rattle.decision.specs.State.{State, state-of}
+use Rattle.decision.specs.State.{State}
 use Rattle.decision.specs.Steal.{my-load, can-steal-from, want, can-be-stolen, take-candidate}
-use Rattle.steal_judge.specs.declared.Candidates.{Candidates}
-use Rattle.steal_judge.specs.Names.{winner-of, locked-of, entries-of}
 use Rattle.steal_judge.specs.Judged.{stolen-record, has-enough}
 
 module _ (s : State) (b : PercpuBlock) (len : ℕ) (e : b ≡ s .cpu .block) (l : len ≡ length (s .cpu .queue)) where

@@ -1,41 +1,39 @@
 -- The stealing as a whole. Assumes nothing.
 use mathlib.Core.Path.{_≡_, refl, sym, ap, _∙_, subst}
-use mathlib.Core.Bool.{Bool, true, false, not, _&&_, _||_}
+use mathlib.Core.Bool.{Bool, true, false, not}
 use mathlib.Core.List.{List, [], _∷_}
 use mathlib.Core.Logic.{_≢_}
-use mathlib.Core.Option.{Option}
-use Prim.Native.Nat.{ℕ, _+_, _%_, _<_, _≤_}
+use Prim.Native.Nat.{ℕ, _%_, _<_}
 use native.Mathlib.Omega.{arith}
 use lib.Dec.{eqb}
-use lib.ListN.{length, getD, set}
+use lib.ListN.{set}
 use lib.Seq.{getD-set-other, set-set}
-use Rattle.columns.specs.Common.{if_then_else_, fold}
+use Rattle.columns.specs.Common.{fold}
 use Rattle.run_queue.specs.declared.Entry.{Entry}
 use Rattle.percpu.specs.declared.PercpuBlock.{PercpuBlock}
 use Rattle.percpu.specs.Cpu.{Cpu}
 use Rattle.machine.specs.Machine.{Machine, cpu-at, no-cpu}
 use Rattle.machine.specs.Encode.{encode}
-use Rattle.machine.specs.Shape.{Fits, Image}
+use Rattle.machine.specs.Shape.{Fits}
 use Rattle.machine.proofs.Steps.{getD-set}
 use Rattle.decision.specs.State.{State, state-of, on-cpu, is-some}
-use Rattle.decision.specs.Steal.{Stealing, Moving, count-steal, should-steal, steal-interval, move-entry, after-moving, steal-entries, steal-from, targets, steal}
-use Rattle.stages.specs.Stage.{Staged, Ranged, Below, CpuBelow, put-state}
+use Rattle.decision.specs.Steal.{Stealing, Moving, count-steal, should-steal, move-entry, after-moving, steal-entries, steal}
+use Rattle.stages.specs.Stage.{Staged, Ranged, CpuBelow, put-state}
 use Rattle.stages.proofs.Compose.{state-put}
 use Rattle.steal_judge.specs.declared.Winner.{Winner}
 use Rattle.steal_judge.specs.declared.Locked.{Locked}
-use Rattle.steal_judge.specs.declared.Candidates.{Candidates}
 use Rattle.steal_judge.specs.Names.{winner-of, locked-of, entries-of}
 use Rattle.steal_judge.specs.Judged.{interval}
 use Rattle.steal.specs.declared.search.Victim.{Victim}
 use Rattle.steal.specs.Search.{Begins, Searched}
-use Rattle.steal.specs.Moves.{moving-of, put-moving, MovesAt, Moves, finished, machine-of, StealsAt, Steals}
+use Rattle.steal.specs.Moves.{moving-of, put-moving, Moves, finished, machine-of, StealsAt, Steals}
 use Rattle.steal.proofs.Victims.{set-other}
 
 pub due-is : (s : State) (w : Winner) (b : PercpuBlock) {some r : Bool} → b ≡ s .cpu .block → some ≡ is-some (winner-of w)
     → r ≡ eqb (b .«steal_counter» % interval (eqb (b .«sched_ctxt») (b .«idle_ctxt»)) some) 0 → r ≡ should-steal s (winner-of w)
 due-is s w b e z h = h ∙ rw (z, e)
 
-counted-below : {t b : ℕ} (p : Cpu) → CpuBelow t b p → CpuBelow t b (count-steal p)
+pub counted-below : {t b : ℕ} (p : Cpu) → CpuBelow t b p → CpuBelow t b (count-steal p)
 counted-below p o =
     record {
       schedule-time = o .schedule-time;
@@ -142,8 +140,8 @@ module _ {c n k : ℕ} {m m1 : List ℕ} (h : k < c) (a : Staged c n k m m1 fals
                   let b = g .moves (counted M) (p .after refl) (p .fits refl) in
                   let u : Moving = fold (move-entry runs) (moving-of k (v .cpu) w (counted M)) (entries-of (v .got)) in
                   let y : all M ≡ after-moving (v .cpu) (M .cpus) u =
-                      all-is M e o ∙ entries-as (start M) (v .cpu) (cpu-at (counted M) (v .cpu)) (entries-of (v .got)) q
-                      ∙ ap (λ (x : State). after-moving (v .cpu) (M .cpus) (fold (move-entry runs) (record { state = x; victim = cpu-at (counted M) (v .cpu); winner = winner-of w }) (entries-of (v .got)))) (sym (start-state M o)) in
+                  all-is M e o ∙ entries-as (start M) (v .cpu) (cpu-at (counted M) (v .cpu)) (entries-of (v .got)) q
+                  ∙ ap (λ (x : State). after-moving (v .cpu) (M .cpus) (fold (move-entry runs) (record { state = x; victim = cpu-at (counted M) (v .cpu); winner = winner-of w }) (entries-of (v .got)))) (sym (start-state M o)) in
                   let x : put-moving k (v .cpu) (finished u) (counted M) ≡ machine-of k (after-moving (v .cpu) (M .cpus) u) = machine-as M u (s .other q) in
                   subst (StealsAt c n k m2 full w') (sym y)
                   (record {

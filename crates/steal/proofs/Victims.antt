@@ -1,24 +1,22 @@
 -- Two CPUs of the machine: the victim t changes, then this one, k. Assumes nothing.
 use mathlib.Core.Path.{_≡_, refl, sym, ap, _∙_, subst}
-use mathlib.Core.Bool.{Bool, true, false, not, _&&_, _||_}
+use mathlib.Core.Bool.{Bool, true, false, not}
 use mathlib.Core.List.{List, [], _∷_}
 use mathlib.Core.Logic.{_≢_}
-use Prim.Native.Nat.{ℕ, zero, suc, _+_, _<_, _≤_}
+use Prim.Native.Nat.{ℕ, zero, suc, _<_}
 use native.Mathlib.Omega.{arith}
 use lib.ListN.{length, getD, set, length-set}
 use lib.Seq.{getD-set-same, getD-set-other, set-set}
-use Rattle.columns.specs.Common.{if_then_else_, fold}
-use Rattle.columns.proofs.Tests.{by-test}
 use Rattle.percpu.specs.Cpu.{Cpu}
 use Rattle.machine.specs.Machine.{Machine, cpu-at, no-cpu}
 use Rattle.machine.specs.Encode.{encode}
 use Rattle.machine.specs.Shape.{Fits, Image}
 use Rattle.decision.specs.State.{State, state-of, on-cpu}
 use Rattle.decision.specs.Steal.{Moving}
-use Rattle.stages.specs.Stage.{StageAt, Stage, Staged, put-state}
+use Rattle.stages.specs.Stage.{Stage, Staged, put-state}
 use Rattle.steal_judge.specs.declared.Winner.{Winner}
 use Rattle.steal_judge.specs.Names.{winner-of}
-use Rattle.steal.specs.Moves.{moving-of, put-moving, MovesAt, Moves}
+use Rattle.steal.specs.Moves.{moving-of, put-moving, Moves}
 
 pub never {ℓ} : {C : Type ℓ} → true ≡ false → C
 never e = let z : _≡_ {A = ℕ} 0 1 = cc in absurd (omega arith)
@@ -50,7 +48,7 @@ victim-then {c = c} {n = n} {k = k} {t = t} {m2 = m2} {full = full} {f = f} {g =
           let b = s .stage N (a .after refl) (a .fits refl) in
           let y = h M e o in
           let x : put-state k (f (state-of k N)) N ≡ put-moving k t (F (moving-of k t w M)) M =
-              ap (λ (q : State). put-state k (f q) N) z ∙ (λ i. record { contexts = (sym (y .0) i) .contexts; cpus = set (set (M .cpus) t (sym (y .1) i)) k ((sym (y .0) i) .cpu) }) in
+          ap (λ (q : State). put-state k (f q) N) z ∙ (λ i. record { contexts = (sym (y .0) i) .contexts; cpus = set (set (M .cpus) t (sym (y .1) i)) k ((sym (y .0) i) .cpu) }) in
           record {
             room = b .room ∙ ap (λ (q : State). (f q) .no-room) z ∙ ap (λ (q : State). q .no-room) (sym (y .0));
             after = λ q. b .after q ∙ ap encode x;
@@ -93,7 +91,7 @@ module _ {c n k t : ℕ} {m m1 m2 : List ℕ} {w w1 w2 : Winner} {f : Moving →
             let y = b .moves (put-moving k t v M) (p .after z) (p .fits z) in
             let q : moving-of k t w1 (put-moving k t v M) ≡ v = moving-put k t w1 v M (omega (arith, o .cpus)) (omega (arith, o .cpus)) d (sym (p .room) ∙ z) (p .winner z) in
             let x : put-moving k t (f' (moving-of k t w1 (put-moving k t v M))) (put-moving k t v M) ≡ put-moving k t (f' v) M =
-                ap (λ (u : Moving). put-moving k t (f' u) (put-moving k t v M)) q ∙ put-twice k t v (f' v) M d in
+            ap (λ (u : Moving). put-moving k t (f' u) (put-moving k t v M)) q ∙ put-twice k t v (f' v) M d in
             record {
               room = y .room ∙ ap (λ (u : Moving). (f' u) .state .no-room) q;
               after = λ i. y .after i ∙ ap encode x;
@@ -129,7 +127,7 @@ moves-none {c} {n} {k} {t} {m} {w} i =
       image = λ e. i;
       moves = λ M e o.
           let x : M ≡ put-moving k t (moving-of k t w M) M =
-              ap (λ (l : List Cpu). record { contexts = M .contexts; cpus = l }) (sym (set-same (M .cpus) k) ∙ ap (λ (l : List Cpu). set l k (cpu-at M k)) (sym (set-same (M .cpus) t))) in
+          ap (λ (l : List Cpu). record { contexts = M .contexts; cpus = l }) (sym (set-same (M .cpus) k) ∙ ap (λ (l : List Cpu). set l k (cpu-at M k)) (sym (set-same (M .cpus) t))) in
           record { room = refl; after = λ z. e ∙ ap encode x; fits = λ z. subst (Fits c n) x o; winner = λ z. refl };
     }
   where

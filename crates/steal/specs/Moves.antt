@@ -1,8 +1,7 @@
 -- Entries moved from CPU t to CPU k of the machine. Assumes nothing.
 use mathlib.Core.Path.{_≡_}
-use mathlib.Core.Bool.{Bool, true, false, _||_}
+use mathlib.Core.Bool.{Bool, false}
 use mathlib.Core.List.{List}
-use mathlib.Core.Option.{Option}
 use Prim.Native.Nat.{ℕ, _<_, _≤_}
 use lib.ListN.{set}
 use Rattle.machine.specs.Machine.{Machine, cpu-at, context-at}
@@ -15,7 +14,7 @@ use Rattle.decision.specs.State.{State, state-of, on-cpu, put-context, insert-e
 use Rattle.decision.specs.Wakeups.{entry-of}
 use Rattle.decision.specs.Steal.{Stealing, Moving, first-wins, published, mark-stealable}
 use Rattle.steal_judge.specs.declared.Winner.{Winner}
-use Rattle.steal_judge.specs.declared.Winner.the-variants.{None, One}
+use Rattle.steal_judge.specs.declared.Winner.the-variants.{One}
 use Rattle.steal_judge.specs.Names.{winner-of}
 
 abbrev pub moving-of : (k t : ℕ) → Winner → Machine → Moving

@@ -1,11 +1,11 @@
 -- The search for a victim: what the code finds, in the definition's words. Assumes nothing.
 use mathlib.Core.Path.{_≡_}
-use mathlib.Core.Bool.{Bool, true, false}
+use mathlib.Core.Bool.{Bool, false}
 use mathlib.Core.List.{List, []}
 use mathlib.Core.Logic.{_≢_}
 use mathlib.Core.Option.{Option}
-use Prim.Native.Nat.{ℕ, _+_, _-_, _%_, _<_, _≤_}
-use lib.ListN.{length, getD}
+use Prim.Native.Nat.{ℕ, _+_, _-_, _%_, _<_}
+use lib.ListN.{getD}
 use Rattle.columns.specs.Common.{if_then_else_, fold, All}
 use Rattle.run_queue.specs.declared.Entry.{Entry}
 use Rattle.percpu.specs.Cpu.{Cpu}

@@ -4,9 +4,7 @@ use steal_judge::Candidates;
 use steal_judge::Locked;
 use steal_judge::Winner;
 ghost use mathlib.Core.Path.{_≡_};
-ghost use mathlib.Core.Bool.{Bool, true, false};
-ghost use mathlib.Core.List.{List, [], _∷_, _++_};
-ghost use Prim.Native.Nat.{ℕ, _+_, _-_, _*_, _%_, _<_, _≤_};
+ghost use Prim.Native.Nat.{_+_, _-_, _%_, _<_, _≤_};
 ghost use lib.ListN.{length, getD};
 ghost use Rattle.columns.specs.Common.{if_then_else_, All};
 ghost use Rattle.machine.specs.Machine.{Machine, cpu-at};
@@ -141,8 +139,5 @@ pub fn search(m: &[u64], c: usize, n: usize, k: usize, w: Winner, locked: Locked
         }
         i += 1;
     }
-    Victim {
-        cpu: t,
-        got: got,
-    }
+    Victim { cpu: t, got: got }
 }

@@ -2,10 +2,10 @@
 use context::Context;
 use run_queue::Entry;
 ghost use mathlib.Core.Path.{_≡_};
-ghost use mathlib.Core.Bool.{Bool, true, false, not, _&&_};
-ghost use mathlib.Core.List.{List, [], _∷_, _++_};
-ghost use Prim.Native.Nat.{ℕ, _+_, _-_, _/_, _%_, _<_, _≤_, min, max};
-ghost use lib.Dec.{leb, eqb};
+ghost use mathlib.Core.Bool.{true, false, not};
+ghost use mathlib.Core.List.{[], _∷_, _++_};
+ghost use Prim.Native.Nat.{_+_, _-_, _/_, _%_, _<_, _≤_, min, max};
+ghost use lib.Dec.{eqb};
 ghost use lib.ListN.{length};
 ghost use Rattle.columns.specs.Common.{if_then_else_};
 ghost use Rattle.decision.specs.State.{is-some};
