@@ -7,55 +7,40 @@ use native.Mathlib.Omega.{arith}
 use borrow.Author.Needs.{needs}
 use Rattle.steal.proofs.count_steal.Statement.{statement}
 use Rattle.steal.proofs.count_steal.Tie as tie
-use Rattle.steal.proofs.count_steal.Reads as reads
-use Rattle.steal.proofs.count_steal.Lts as lts
-use Rattle.steal.proofs.block.count_steal.Reads as count-steal-reads
 
--- src/lib.rt:30:18
 mul-at : tie.Need-mul-at
 mul-at c = search needs
 
--- src/lib.rt:30:14
 add-at : tie.Need-add-at
 add-at c = search needs
 
--- src/lib.rt:30:27
 mul-at-2 : tie.Need-mul-at-2
 mul-at-2 c = search needs
 
--- src/lib.rt:30:14
 add-at-2 : tie.Need-add-at-2
 add-at-2 c = search needs
 
--- src/lib.rt:31:15
 add-end : tie.Need-add-end
 add-end c = search needs
 
--- src/lib.rt:32:24
 mul-count-steal : tie.Need-mul-count-steal
 mul-count-steal c = search needs
 
--- src/lib.rt:32:24
 sub-count-steal : tie.Need-sub-count-steal
 sub-count-steal c = search needs
 
--- src/lib.rt:32:24
 part-count-steal-start : tie.Need-part-count-steal-start
 part-count-steal-start c = search needs
 
--- src/lib.rt:32:24
 part-count-steal-end : tie.Need-part-count-steal-end
 part-count-steal-end c = omega (arith, sized (c .before .pre .0))
 
--- src/lib.rt:32:5
 count-steal-requires : tie.Need-count-steal-requires
 count-steal-requires c κs = search needs
 
--- src/lib.rt:25:1
 same-length : tie.Need-same-length
 same-length c = search needs
 
--- src/lib.rt:25:1
 returns : tie.Need-returns
 returns c = staged-cpu (c .before .before .before .before .before .pre .0) _ (c .before .before .before .before .before .pre .1) _ (λ (p : Cpu). count-steal p) (λ p o e. c .before .before .count-steal .ensures p e) (λ p o. fits-counted _ p o)
 

@@ -6,55 +6,37 @@ use native.Mathlib.Omega.{arith}
 use borrow.Author.Needs.{needs}
 use Rattle.steal.proofs.steal.Statement.{statement}
 use Rattle.steal.proofs.steal.Tie as tie
-use Rattle.steal.proofs.steal.Reads as reads
-use Rattle.steal.proofs.steal.Lts as lts
-use Rattle.steal.proofs.count_steal.Reads as count-steal-reads
-use Rattle.steal.proofs.moving.rob.Reads as rob-reads
-use Rattle.steal.proofs.search.search.Reads as search-reads
-use Rattle.steal.proofs.should_steal.Reads as should-steal-reads
-use Rattle.steal_judge.proofs.count.Reads as count-reads
 
--- src/lib.rt:61:9
 should-steal-requires : tie.Need-should-steal-requires
 should-steal-requires c κs = search needs
 
--- src/lib.rt:62:5
 count-steal-requires : tie.Need-count-steal-requires
 count-steal-requires c κs = search needs
 
--- src/lib.rt:64:9
 same-length : tie.Need-same-length
 same-length c = search needs
 
--- src/lib.rt:64:9
 returns : tie.Need-returns
 returns c = not-due (c .before .before .before .before .before .before .before .before .pre .1 .0) (c .before .before .before .count-steal .ensures) (c .before .before .before .before .before .before .before .before .args .w) (c .before .before .before .before .before .before .before .before .args .runs) (c .before .before .before .before .before .before .before .before .args .locked) (c .before .before .before .before .before .should-steal .ensures) (was-false _ (c .if1 .taken))
 
--- src/lib.rt:69:9
 search-requires : tie.Need-search-requires
 search-requires c κs = (c .before .before .before .before .count-steal .ensures .image refl, c .before .before .before .before .before .before .before .before .before .pre .1 .0)
 
--- src/lib.rt:71:8
 count-requires : tie.Need-count-requires
 count-requires c κs = search needs
 
--- src/lib.rt:72:9
 same-length-2 : tie.Need-same-length-2
 same-length-2 c = search needs
 
--- src/lib.rt:72:9
 returns-2 : tie.Need-returns-2
 returns-2 c = nothing-stolen (c .before .before .before .before .before .before .before .before .before .before .before .before .pre .1 .0) (c .before .before .before .before .before .before .before .count-steal .ensures) (c .before .before .before .before .before .before .before .before .before .before .before .before .args .w) (c .before .before .before .before .before .before .before .before .before .before .before .before .args .runs) (c .before .before .before .before .before .before .before .before .before .before .before .before .args .locked) (c .before .before .before .before .before .before .before .before .before .should-steal .ensures) (was-true _ (c .before .before .before .before .if1 .left)) _ (c .before .before .search .ensures) (is-empty-list _ (omega (arith, c .before .count .ensures, c .if2 .taken)))
 
--- src/lib.rt:77:5
 rob-requires : tie.Need-rob-requires
 rob-requires c κs = (c .before .before .before .before .before .before .before .before .count-steal .ensures .image refl, ((c .before .before .before .before .before .before .before .before .before .before .before .before .before .pre .1 .0, c .before .before .before .search .ensures .cpu, c .before .before .before .search .ensures .other (not-empty _ (omega (arith, c .before .before .count .ensures, c .before .if2 .left))), c .before .before .before .search .ensures .entries), counted-ranged (c .before .before .before .before .before .before .before .before .before .before .before .before .before .pre .1 .0) (c .before .before .before .before .before .before .before .before .count-steal .ensures) (c .before .before .before .before .before .before .before .before .before .before .before .before .before .pre .1 .1)))
 
--- src/lib.rt:47:1
 same-length-3 : tie.Need-same-length-3
 same-length-3 c = search needs
 
--- src/lib.rt:47:1
 returns-3 : tie.Need-returns-3
 returns-3 c = robbed (c .before .before .before .before .before .before .before .before .before .before .before .before .before .before .before .before .pre .1 .0) (c .before .before .before .before .before .before .before .before .before .before .before .count-steal .ensures) (c .before .before .before .before .before .before .before .before .before .before .before .before .before .before .before .before .args .w) (c .before .before .before .before .before .before .before .before .before .before .before .before .before .before .before .before .args .runs) (c .before .before .before .before .before .before .before .before .before .before .before .before .before .before .before .before .args .locked) (c .before .before .before .before .before .before .before .before .before .before .before .before .before .should-steal .ensures) (was-true _ (c .before .before .before .before .before .before .before .before .if1 .left)) _ (c .before .before .before .before .before .before .search .ensures) (not-empty _ (omega (arith, c .before .before .before .before .before .count .ensures, c .before .before .before .before .if2 .left))) (c .before .before .rob .ensures)
 

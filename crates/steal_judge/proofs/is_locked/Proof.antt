@@ -1,21 +1,14 @@
 use Rattle.steal_judge.proofs.Judging.{locked-holder, locked-best}
-use native.Mathlib.Omega.{arith}
 use borrow.Author.Needs.{needs}
 use Rattle.steal_judge.proofs.is_locked.Statement.{statement}
 use Rattle.steal_judge.proofs.is_locked.Tie as tie
-use Rattle.steal_judge.proofs.is_locked.Reads as reads
-use Rattle.steal_judge.proofs.is_locked.Lts as lts
-use Rattle.steal_judge.proofs.wins.Reads as wins-reads
 
--- src/lib.rt:57:9
 returns : tie.Need-returns
 returns c = locked-holder (c .before .before .args .l) _ (c .if1 .taken)
 
--- src/lib.rt:60:5
 wins-requires : tie.Need-wins-requires
 wins-requires c κs = search needs
 
--- src/lib.rt:53:1
 returns-2 : tie.Need-returns-2
 returns-2 c = locked-best (c .before .before .before .args .l) _ (c .before .if1 .left) (c .wins .ensures)
 

@@ -1,36 +1,26 @@
-use Rattle.steal_judge.proofs.Judging.{taken-none, taken-single, taken-first, taken-second}
-use native.Mathlib.Omega.{arith}
+use Rattle.steal_judge.proofs.Judging.{taken-single, taken-first, taken-second}
 use borrow.Author.Needs.{needs}
 use Rattle.steal_judge.proofs.is_taken.Statement.{statement}
 use Rattle.steal_judge.proofs.is_taken.Tie as tie
-use Rattle.steal_judge.proofs.is_taken.Reads as reads
-use Rattle.steal_judge.proofs.is_taken.Lts as lts
 
--- src/lib.rt:67:32
 enum-told : tie.Need-enum-told
 enum-told c = search needs
 
--- src/lib.rt:68:28
 enum-known-got : tie.Need-enum-known-got
 enum-known-got c = search needs
 
--- src/lib.rt:69:26
 enum-known-got-2 : tie.Need-enum-known-got-2
 enum-known-got-2 c = search needs
 
--- src/lib.rt:71:17
 returns : tie.Need-returns
 returns c = taken-first _ (c .before .before .before .got2 .given .1) (c .if1 .taken)
 
--- src/lib.rt:63:1
 returns-2 : tie.Need-returns-2
 returns-2 c = search needs
 
--- src/lib.rt:63:1
 returns-3 : tie.Need-returns-3
 returns-3 c = taken-single _ (c .before .before .got .given .1)
 
--- src/lib.rt:63:1
 returns-4 : tie.Need-returns-4
 returns-4 c = taken-second _ (c .before .before .before .before .got2 .given .1) (c .before .if1 .left)
 

@@ -1,39 +1,27 @@
 use Rattle.steal_judge.proofs.Judging.{was-false, was-true}
 use Rattle.steal_judge.proofs.Judging.{not-here, not-runnable, runs-already, scheduled-already, space-decides}
-use native.Mathlib.Omega.{arith}
 use borrow.Author.Needs.{needs}
 use Rattle.steal_judge.proofs.may_move.Statement.{statement}
 use Rattle.steal_judge.proofs.may_move.Tie as tie
-use Rattle.steal_judge.proofs.may_move.Reads as reads
-use Rattle.steal_judge.proofs.may_move.Lts as lts
-use Rattle.context.proofs.Status.is_runnable.Reads as is-runnable-reads
-use Rattle.cpu_set.proofs.contains.Reads as contains-reads
 
--- src/lib.rt:173:9
 contains-requires : tie.Need-contains-requires
 contains-requires c κs = search needs
 
--- src/lib.rt:174:9
 returns : tie.Need-returns
 returns c = not-here _ _ (c .before .contains .ensures) (was-false _ (c .if1 .taken))
 
--- src/lib.rt:177:9
 is-runnable-requires : tie.Need-is-runnable-requires
 is-runnable-requires c κs = search needs
 
--- src/lib.rt:178:9
 returns-2 : tie.Need-returns-2
 returns-2 c = not-runnable _ _ (c .before .before .before .contains .ensures) (was-true _ (c .before .before .if1 .left)) (c .before .is-runnable .ensures) (was-false _ (c .if2 .taken))
 
--- src/lib.rt:181:9
 returns-3 : tie.Need-returns-3
 returns-3 c = runs-already _ _ (c .before .before .before .before .contains .ensures) (was-true _ (c .before .before .before .if1 .left)) (c .before .before .is-runnable .ensures) (was-true _ (c .before .if2 .left)) (c .if3 .taken)
 
--- src/lib.rt:184:9
 returns-4 : tie.Need-returns-4
 returns-4 c = scheduled-already _ _ (c .before .before .before .before .before .contains .ensures) (was-true _ (c .before .before .before .before .if1 .left)) (c .before .before .before .is-runnable .ensures) (was-true _ (c .before .before .if2 .left)) (c .before .if3 .left) (c .if4 .taken)
 
--- src/lib.rt:169:1
 returns-5 : tie.Need-returns-5
 returns-5 c = space-decides _ _ (c .before .before .before .before .before .before .contains .ensures) (was-true _ (c .before .before .before .before .before .if1 .left)) (c .before .before .before .before .is-runnable .ensures) (was-true _ (c .before .before .before .if2 .left)) (c .before .before .if3 .left) (c .before .if4 .left)
 

@@ -3,27 +3,19 @@ use native.Mathlib.Omega.{arith}
 use borrow.Author.Needs.{needs}
 use Rattle.steal_judge.proofs.moved.Statement.{statement}
 use Rattle.steal_judge.proofs.moved.Tie as tie
-use Rattle.steal_judge.proofs.moved.Reads as reads
-use Rattle.steal_judge.proofs.moved.Lts as lts
-use Rattle.ticks.proofs.saturating_sub.Reads as saturating-sub-reads
 
--- src/lib.rt:220:39
 add-saturating-sub : tie.Need-add-saturating-sub
 add-saturating-sub c = search needs
 
--- src/lib.rt:220:9
 saturating-sub-requires : tie.Need-saturating-sub-requires
 saturating-sub-requires c κs = search needs
 
--- src/lib.rt:222:20
 div-q : tie.Need-div-q
 div-q c = search needs
 
--- src/lib.rt:222:12
 add-q : tie.Need-add-q
 add-q c = omega (arith, div-le-self (c .before .before .before .args .q .«rem_slice») (c .before .before .before .args .weight))
 
--- src/lib.rt:216:1
 returns : tie.Need-returns
 returns c = rw (c .before .saturating-sub .ensures)
 

@@ -1,19 +1,12 @@
-use borrow.Author.Needs.{needs}
-use native.Mathlib.Omega.{arith}
 use Rattle.steal_judge.proofs.should_steal.Statement.{statement}
 use Rattle.steal_judge.proofs.should_steal.Tie as tie
-use Rattle.steal_judge.proofs.should_steal.Reads as reads
-use Rattle.steal_judge.proofs.should_steal.Lts as lts
 
--- src/lib.rt:105:13
 returns : tie.Need-returns
 returns c = rw (c .before .if1 .taken, c .if2 .taken)
 
--- src/lib.rt:107:9
 returns-2 : tie.Need-returns-2
 returns-2 c = rw (c .before .if1 .taken, c .if2 .left)
 
--- src/lib.rt:100:1
 returns-3 : tie.Need-returns-3
 returns-3 c = rw (c .if1 .left)
 

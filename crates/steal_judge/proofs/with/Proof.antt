@@ -1,32 +1,23 @@
 use Rattle.steal_judge.proofs.Judging.{with-none, with-single, with-pair}
-use native.Mathlib.Omega.{arith}
 use borrow.Author.Needs.{needs}
 use Rattle.steal_judge.proofs.with.Statement.{statement}
 use Rattle.steal_judge.proofs.with.Tie as tie
-use Rattle.steal_judge.proofs.with.Reads as reads
-use Rattle.steal_judge.proofs.with.Lts as lts
 
--- src/lib.rt:93:32
 enum-told : tie.Need-enum-told
 enum-told c = search needs
 
--- src/lib.rt:94:28
 enum-known-got : tie.Need-enum-known-got
 enum-known-got c = search needs
 
--- src/lib.rt:95:26
 enum-known-got-2 : tie.Need-enum-known-got-2
 enum-known-got-2 c = search needs
 
--- src/lib.rt:88:1
 returns : tie.Need-returns
 returns c = with-none _ (c .enum-told .given .1)
 
--- src/lib.rt:88:1
 returns-2 : tie.Need-returns-2
 returns-2 c = with-single _ (c .before .got .given .1)
 
--- src/lib.rt:88:1
 returns-3 : tie.Need-returns-3
 returns-3 c = with-pair _ (c .before .got2 .given .1) (c .before .before .before .pre)
 

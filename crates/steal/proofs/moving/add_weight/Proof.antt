@@ -4,60 +4,45 @@ use Prim.Native.Nat.{_≤_, _+_}
 use Rattle.percpu.specs.With.{cpu-total-weight}
 use Rattle.percpu.specs.Cpu.{Cpu}
 use Rattle.stages.proofs.Lent.{lent-word, staged-cpu}
-use Rattle.steal.proofs.Blocks.{weight-added, fits-weight}
+use Rattle.steal.proofs.Blocks.{fits-weight}
 use native.Mathlib.Omega.{arith}
 use borrow.Author.Needs.{needs}
 use Rattle.steal.proofs.moving.add_weight.Statement.{statement}
 use Rattle.steal.proofs.moving.add_weight.Tie as tie
-use Rattle.steal.proofs.moving.add_weight.Reads as reads
-use Rattle.steal.proofs.moving.add_weight.Lts as lts
-use Rattle.steal.proofs.block.add_weight.Reads as add-weight-reads
 
--- src/moving.rt:47:18
 mul-at : tie.Need-mul-at
 mul-at c = search needs
 
--- src/moving.rt:47:14
 add-at : tie.Need-add-at
 add-at c = search needs
 
--- src/moving.rt:47:27
 mul-at-2 : tie.Need-mul-at-2
 mul-at-2 c = search needs
 
--- src/moving.rt:47:14
 add-at-2 : tie.Need-add-at-2
 add-at-2 c = search needs
 
--- src/moving.rt:48:15
 add-end : tie.Need-add-end
 add-end c = search needs
 
--- src/moving.rt:49:30
 mul-add-weight : tie.Need-mul-add-weight
 mul-add-weight c = search needs
 
--- src/moving.rt:49:30
 sub-add-weight : tie.Need-sub-add-weight
 sub-add-weight c = search needs
 
--- src/moving.rt:49:30
 part-add-weight-start : tie.Need-part-add-weight-start
 part-add-weight-start c = search needs
 
--- src/moving.rt:49:30
 part-add-weight-end : tie.Need-part-add-weight-end
 part-add-weight-end c = omega (arith, sized (c .before .pre .0))
 
--- src/moving.rt:49:5
 add-weight-requires : tie.Need-add-weight-requires
 add-weight-requires c κs = (search needs, subst (λ y. y ≤ 9799832791305682942) (sym (lent-word (c .before .before .args .m .now) (c .before .before .args .n) (c .before .before .args .k) 20 (omega arith))) (c .before .before .pre .1 .2), c .before .before .pre .1 .1)
 
--- src/moving.rt:42:1
 same-length : tie.Need-same-length
 same-length c = search needs
 
--- src/moving.rt:42:1
 returns : tie.Need-returns
 returns c = staged-cpu (c .before .before .before .before .before .pre .0) _ (c .before .before .before .before .before .pre .1 .0) _ (λ (p : Cpu). cpu-total-weight (p .block .«total_weight» + c .before .before .before .before .before .args .weight) p) (λ p o e. c .before .before .add-weight .ensures p e) (λ p o. fits-weight _ _ p o)
 

@@ -9,55 +9,40 @@ use native.Mathlib.Omega.{arith}
 use borrow.Author.Needs.{needs}
 use Rattle.steal.proofs.moving.give_up.Statement.{statement}
 use Rattle.steal.proofs.moving.give_up.Tie as tie
-use Rattle.steal.proofs.moving.give_up.Reads as reads
-use Rattle.steal.proofs.moving.give_up.Lts as lts
-use Rattle.steal.proofs.block.give_up.Reads as give-up-reads
 
--- src/moving.rt:37:18
 mul-at : tie.Need-mul-at
 mul-at c = search needs
 
--- src/moving.rt:37:14
 add-at : tie.Need-add-at
 add-at c = search needs
 
--- src/moving.rt:37:27
 mul-at-2 : tie.Need-mul-at-2
 mul-at-2 c = search needs
 
--- src/moving.rt:37:14
 add-at-2 : tie.Need-add-at-2
 add-at-2 c = search needs
 
--- src/moving.rt:38:15
 add-end : tie.Need-add-end
 add-end c = search needs
 
--- src/moving.rt:39:27
 mul-give-up : tie.Need-mul-give-up
 mul-give-up c = search needs
 
--- src/moving.rt:39:27
 sub-give-up : tie.Need-sub-give-up
 sub-give-up c = search needs
 
--- src/moving.rt:39:27
 part-give-up-start : tie.Need-part-give-up-start
 part-give-up-start c = search needs
 
--- src/moving.rt:39:27
 part-give-up-end : tie.Need-part-give-up-end
 part-give-up-end c = omega (arith, sized (c .before .pre .0))
 
--- src/moving.rt:39:5
 give-up-requires : tie.Need-give-up-requires
 give-up-requires c κs = (search needs, subst (λ y. y ≤ 64) (sym (lent-word (c .before .before .args .m .now) (c .before .before .args .n) (c .before .before .args .t) 21 (omega arith))) (queue-small (c .before .before .pre .0) _ (c .before .before .pre .1)))
 
--- src/moving.rt:32:1
 same-length : tie.Need-same-length
 same-length c = search needs
 
--- src/moving.rt:32:1
 returns : tie.Need-returns
 returns c = staged-cpu (c .before .before .before .before .before .pre .0) _ (c .before .before .before .before .before .pre .1) _ (λ (p : Cpu). give-up (c .before .before .before .before .before .args .e) p) (λ p o e. c .before .before .give-up .ensures p e (o .queue) (o .keys-rise)) (λ p o. fits-given-up _ (c .before .before .before .before .before .args .e) p o)
 

@@ -1,51 +1,36 @@
 use Rattle.steal.proofs.Victims.{moves-none}
 use Rattle.steal.proofs.Moved.{movable-first, moved-nothing, moved-single, moved-pair, fits-single, fits-pair}
-use native.Mathlib.Omega.{arith}
 use borrow.Author.Needs.{needs}
 use Rattle.steal.proofs.moving.move_entries.Statement.{statement}
 use Rattle.steal.proofs.moving.move_entries.Tie as tie
-use Rattle.steal.proofs.moving.move_entries.Reads as reads
-use Rattle.steal.proofs.moving.move_entries.Lts as lts
-use Rattle.steal.proofs.moving.move_entry.Reads as move-entry-reads
-use Rattle.steal.proofs.moving.move_two.Reads as move-two-reads
 
--- src/moving.rt:224:13
 enum-told : tie.Need-enum-told
 enum-told c = search needs
 
--- src/moving.rt:224:13
 returns : tie.Need-returns
 returns c = moved-nothing (c .before .before .before .args .runs) _ (c .enum-told .given .1) (moves-none (c .before .before .before .pre .0))
 
--- src/moving.rt:229:28
 enum-known-got : tie.Need-enum-known-got
 enum-known-got c = search needs
 
--- src/moving.rt:230:13
 move-entry-requires : tie.Need-move-entry-requires
 move-entry-requires c κs = (c .before .before .before .before .before .pre .0, ((c .before .before .before .before .before .pre .1 .0 .0, c .before .before .before .before .before .pre .1 .0 .1, c .before .before .before .before .before .pre .1 .0 .2, fits-single (c .before .before .got .given .1) (c .before .before .before .before .before .pre .1 .0 .3)), movable-first (c .before .before .before .before .before .pre .1 .0 .0) (c .before .before .before .before .before .pre .1 .1)))
 
--- src/moving.rt:230:13
 same-length : tie.Need-same-length
 same-length c = search needs
 
--- src/moving.rt:230:13
 returns-2 : tie.Need-returns-2
 returns-2 c = moved-single (c .before .before .before .before .before .before .before .before .args .runs) _ (c .before .before .before .before .before .got .given .1) (c .before .before .move-entry .ensures)
 
--- src/moving.rt:232:26
 enum-known-got-2 : tie.Need-enum-known-got-2
 enum-known-got-2 c = search needs
 
--- src/moving.rt:233:13
 move-two-requires : tie.Need-move-two-requires
 move-two-requires c κs = (c .before .before .before .before .before .pre .0, ((c .before .before .before .before .before .pre .1 .0 .0, c .before .before .before .before .before .pre .1 .0 .1, c .before .before .before .before .before .pre .1 .0 .2, fits-pair (c .before .before .got2 .given .1) (c .before .before .before .before .before .pre .1 .0 .3) .0, fits-pair (c .before .before .got2 .given .1) (c .before .before .before .before .before .pre .1 .0 .3) .1), c .before .before .before .before .before .pre .1 .1))
 
--- src/moving.rt:233:13
 same-length-2 : tie.Need-same-length-2
 same-length-2 c = search needs
 
--- src/moving.rt:233:13
 returns-3 : tie.Need-returns-3
 returns-3 c = moved-pair (c .before .before .before .before .before .before .before .before .args .runs) _ (c .before .before .before .before .before .got2 .given .1) (c .before .before .move-two .ensures)
 

@@ -6,39 +6,25 @@ use native.Mathlib.Omega.{arith}
 use borrow.Author.Needs.{needs}
 use Rattle.steal.proofs.moving.move_entry.Statement.{statement}
 use Rattle.steal.proofs.moving.move_entry.Tie as tie
-use Rattle.steal.proofs.moving.move_entry.Reads as reads
-use Rattle.steal.proofs.moving.move_entry.Lts as lts
-use Rattle.machine.proofs.index.Reads as index-reads
-use Rattle.steal.proofs.moving.add_weight.Reads as add-weight-reads
-use Rattle.steal.proofs.moving.give_up.Reads as give-up-reads
-use Rattle.steal.proofs.moving.stolen.Reads as stolen-reads
-use Rattle.steal.proofs.moving.take_in.Reads as take-in-reads
 
--- src/moving.rt:176:9
 index-requires : tie.Need-index-requires
 index-requires c κs = search needs
 
--- src/moving.rt:177:9
 stolen-requires : tie.Need-stolen-requires
 stolen-requires c κs = (c .before .before .before .pre .0, ((c .before .before .before .pre .1 .0 .0, c .before .before .before .pre .1 .0 .1, omega (arith, c .before .before .before .pre .1 .0 .3 .name, c .before .index .ensures), c .before .before .before .pre .1 .0 .3 .heavy), c .before .before .before .pre .1 .1))
 
--- src/moving.rt:178:5
 give-up-requires : tie.Need-give-up-requires
 give-up-requires c κs = search needs
 
--- src/moving.rt:179:5
 add-weight-requires : tie.Need-add-weight-requires
 add-weight-requires c κs = (c .before .before .before .give-up .ensures .image refl, (c .before .before .before .before .before .before .before .before .before .pre .1 .0 .0, c .before .before .before .before .before .before .before .before .before .pre .1 .0 .3 .light, weight-small (λ (p : Cpu). give-up (c .before .before .before .before .before .before .before .before .before .args .e) p) (c .before .before .before .before .before .before .before .before .before .pre .1 .0 .0) (c .before .before .before .before .before .before .before .before .before .pre .1 .0 .2) (c .before .before .before .before .before .before .before .before .before .pre .1 .1) (c .before .before .before .give-up .ensures)))
 
--- src/moving.rt:180:5
 take-in-requires : tie.Need-take-in-requires
 take-in-requires c κs = (c .before .before .before .add-weight .ensures .image refl, ((c .before .before .before .before .before .before .before .before .before .before .before .before .before .pre .1 .0 .0, c .before .before .before .before .before .before .before .before .before .before .before .before .before .pre .1 .0 .3), c .before .before .before .before .before .before .before .before .before .stolen .ensures .0))
 
--- src/moving.rt:161:1
 same-length : tie.Need-same-length
 same-length c = search needs
 
--- src/moving.rt:161:1
 returns : tie.Need-returns
 returns c = entry-moved (c .before .before .before .before .before .before .before .before .before .before .before .before .before .before .before .before .args .runs) (c .before .before .before .before .before .before .before .before .before .before .before .before .before .before .before .before .args .e) _ _ (c .before .before .before .before .before .before .before .before .before .before .before .before .before .before .before .before .pre .1 .0 .0) (c .before .before .before .before .before .before .before .before .before .before .before .before .before .before .before .before .pre .1 .0 .2) (c .before .before .before .before .before .before .before .before .before .before .before .before .before .before .index .ensures) (c .before .before .before .before .before .before .before .before .before .before .before .before .stolen .ensures .1) (c .before .before .before .before .before .before .before .before .before .before .give-up .ensures) (c .before .before .before .before .before .before .add-weight .ensures) (c .before .before .take-in .ensures)
 

@@ -2,60 +2,45 @@ use Rattle.machine.proofs.Steps.{sized}
 use Rattle.decision.specs.Steal.{published, mark-stealable}
 use Rattle.percpu.specs.Cpu.{Cpu}
 use Rattle.stages.proofs.Lent.{staged-cpu}
-use Rattle.steal.proofs.Blocks.{fits-published, fits-marked}
+use Rattle.steal.proofs.Blocks.{fits-marked}
 use native.Mathlib.Omega.{arith}
 use borrow.Author.Needs.{needs}
 use Rattle.steal.proofs.moving.publish_victim.Statement.{statement}
 use Rattle.steal.proofs.moving.publish_victim.Tie as tie
-use Rattle.steal.proofs.moving.publish_victim.Reads as reads
-use Rattle.steal.proofs.moving.publish_victim.Lts as lts
-use Rattle.steal.proofs.block.publish_victim.Reads as publish-victim-reads
 
--- src/moving.rt:67:18
 mul-at : tie.Need-mul-at
 mul-at c = search needs
 
--- src/moving.rt:67:14
 add-at : tie.Need-add-at
 add-at c = search needs
 
--- src/moving.rt:67:27
 mul-at-2 : tie.Need-mul-at-2
 mul-at-2 c = search needs
 
--- src/moving.rt:67:14
 add-at-2 : tie.Need-add-at-2
 add-at-2 c = search needs
 
--- src/moving.rt:68:15
 add-end : tie.Need-add-end
 add-end c = search needs
 
--- src/moving.rt:69:34
 mul-publish-victim : tie.Need-mul-publish-victim
 mul-publish-victim c = search needs
 
--- src/moving.rt:69:34
 sub-publish-victim : tie.Need-sub-publish-victim
 sub-publish-victim c = search needs
 
--- src/moving.rt:69:34
 part-publish-victim-start : tie.Need-part-publish-victim-start
 part-publish-victim-start c = search needs
 
--- src/moving.rt:69:34
 part-publish-victim-end : tie.Need-part-publish-victim-end
 part-publish-victim-end c = omega (arith, sized (c .before .pre .0))
 
--- src/moving.rt:69:5
 publish-victim-requires : tie.Need-publish-victim-requires
 publish-victim-requires c κs = search needs
 
--- src/moving.rt:62:1
 same-length : tie.Need-same-length
 same-length c = search needs
 
--- src/moving.rt:62:1
 returns : tie.Need-returns
 returns c = staged-cpu (c .before .before .before .before .before .pre .0) _ (c .before .before .before .before .before .pre .1) _ (λ (p : Cpu). mark-stealable (published p)) (λ p o e. c .before .before .publish-victim .ensures p e) (λ p o. fits-marked _ p o)
 

@@ -4,34 +4,22 @@ use native.Mathlib.Omega.{arith}
 use borrow.Author.Needs.{needs}
 use Rattle.steal.proofs.moving.queue_in.Statement.{statement}
 use Rattle.steal.proofs.moving.queue_in.Tie as tie
-use Rattle.steal.proofs.moving.queue_in.Reads as reads
-use Rattle.steal.proofs.moving.queue_in.Lts as lts
-use Rattle.stages.proofs.insert_entry.Reads as insert-entry-reads
-use Rattle.stages.proofs.store_context.Reads as store-context-reads
-use Rattle.steal.proofs.moving.entry_of.Reads as entry-of-reads
-use Rattle.steal.proofs.moving.with_new_key.Reads as with-new-key-reads
 
--- src/moving.rt:155:9
 with-new-key-requires : tie.Need-with-new-key-requires
 with-new-key-requires c κs = search needs
 
--- src/moving.rt:156:5
 store-context-requires : tie.Need-store-context-requires
 store-context-requires c κs = (c .before .before .before .pre .0, ((c .before .before .before .pre .1 .0 .0, omega (arith, c .before .before .before .pre .1 .0 .1 .name, c .before .before .before .pre .1 .0 .2)), keyed-fits (c .before .before .before .args .q) (c .before .with-new-key .ensures) (c .before .before .before .pre .1 .1)))
 
--- src/moving.rt:157:9
 entry-of-requires : tie.Need-entry-of-requires
 entry-of-requires c κs = search needs
 
--- src/moving.rt:158:5
 insert-entry-requires : tie.Need-insert-entry-requires
 insert-entry-requires c κs = (c .before .before .before .before .store-context .ensures .image refl, (c .before .before .before .before .before .before .before .before .pre .1 .0 .0, entry-fits (c .before .before .before .before .before .before .before .before .args .q) (c .before .before .before .before .before .before .before .before .args .e) (c .before .entry-of .ensures) (c .before .before .before .before .before .before .before .before .pre .1 .0 .1)))
 
--- src/moving.rt:149:1
 same-length : tie.Need-same-length
 same-length c = search needs
 
--- src/moving.rt:149:1
 returns : tie.Need-returns
 returns c = queued (c .before .before .before .before .before .before .before .before .before .before .before .args .e) (c .before .before .before .before .before .before .before .before .before .before .before .args .q) (c .before .before .before .before .before .before .before .before .before .before .before .pre .1 .0 .0) (c .before .before .before .before .before .before .before .store-context .ensures) (c .before .before .insert-entry .ensures) (c .before .before .before .before .before .before .before .before .before .before .before .pre .1 .0 .2) (c .before .before .before .before .before .before .before .before .before .with-new-key .ensures) (c .before .before .before .before .entry-of .ensures)
 

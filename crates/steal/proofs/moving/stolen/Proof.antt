@@ -1,31 +1,20 @@
 use Rattle.steal.proofs.Moved.{movable-sum, stolen-fits, stolen-as}
-use native.Mathlib.Omega.{arith}
 use borrow.Author.Needs.{needs}
 use Rattle.steal.proofs.moving.stolen.Statement.{statement}
 use Rattle.steal.proofs.moving.stolen.Tie as tie
-use Rattle.steal.proofs.moving.stolen.Reads as reads
-use Rattle.steal.proofs.moving.stolen.Lts as lts
-use Rattle.machine.proofs.load.Reads as load-reads
-use Rattle.stages.proofs.load_block.Reads as load-block-reads
-use Rattle.steal_judge.proofs.moved.Reads as moved-reads
 
--- src/moving.rt:79:9
 load-requires : tie.Need-load-requires
 load-requires c κs = search needs
 
--- src/moving.rt:80:9
 load-block-requires : tie.Need-load-block-requires
 load-block-requires c κs = search needs
 
--- src/moving.rt:81:9
 load-block-requires-2 : tie.Need-load-block-requires-2
 load-block-requires-2 c κs = search needs
 
--- src/moving.rt:82:5
 moved-requires : tie.Need-moved-requires
 moved-requires c κs = (movable-sum (c .before .before .before .before .pre .1 .1) _ _ _ (c .before .before .before .before .pre .1 .0 .2) (c .before .load-block .ensures _ (c .before .before .before .before .pre .1 .1 .eq) (c .before .before .before .before .pre .1 .1 .fits)) (c .before .before .load .ensures _ (c .before .before .before .before .pre .1 .1 .eq) (c .before .before .before .before .pre .1 .1 .fits)) .0, c .before .before .before .before .pre .1 .0 .3, movable-sum (c .before .before .before .before .pre .1 .1) _ _ _ (c .before .before .before .before .pre .1 .0 .2) (c .before .load-block .ensures _ (c .before .before .before .before .pre .1 .1 .eq) (c .before .before .before .before .pre .1 .1 .fits)) (c .before .before .load .ensures _ (c .before .before .before .before .pre .1 .1 .eq) (c .before .before .before .before .pre .1 .1 .fits)) .1)
 
--- src/moving.rt:73:1
 returns : tie.Need-returns
 returns c = (stolen-fits _ _ _ _ _ (c .before .before .before .before .before .pre .0) (c .before .before .before .before .before .pre .1 .0 .2) (c .before .before .before .load .ensures _ (c .before .before .before .before .before .pre .0 .eq) (c .before .before .before .before .before .pre .0 .fits)) (c .moved .ensures), λ M e o. stolen-as (c .before .before .load-block .result) (c .before .load-block2 .result) _ _ M _ _ _ (c .moved .ensures) (c .before .before .load-block .ensures M e o) (c .before .load-block2 .ensures M e o) (c .before .before .before .load .ensures M e o))
 

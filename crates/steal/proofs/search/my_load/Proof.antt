@@ -4,28 +4,19 @@ use native.Mathlib.Omega.{arith}
 use borrow.Author.Needs.{needs}
 use Rattle.steal.proofs.search.my_load.Statement.{statement}
 use Rattle.steal.proofs.search.my_load.Tie as tie
-use Rattle.steal.proofs.search.my_load.Reads as reads
-use Rattle.steal.proofs.search.my_load.Lts as lts
-use Rattle.stages.proofs.load_block.Reads as load-block-reads
-use Rattle.stages.proofs.queue_len.Reads as queue-len-reads
 
--- src/search.rt:31:9
 load-block-requires : tie.Need-load-block-requires
 load-block-requires c κs = search needs
 
--- src/search.rt:32:9
 queue-len-requires : tie.Need-queue-len-requires
 queue-len-requires c κs = search needs
 
--- src/search.rt:34:9
 returns : tie.Need-returns
 returns c = (omega (arith, c .before .before .queue-len .ensures .1), λ M e o. load-idle (state-of _ M) _ _ (c .before .before .before .load-block .ensures M e o) (c .before .before .queue-len .ensures .2 M e o) (c .if1 .taken))
 
--- src/search.rt:36:5
 add-result : tie.Need-add-result
 add-result c = search needs
 
--- src/search.rt:26:1
 returns-2 : tie.Need-returns-2
 returns-2 c = (omega (arith, c .before .before .queue-len .ensures .1), λ M e o. load-busy (state-of _ M) _ _ (c .before .before .before .load-block .ensures M e o) (c .before .before .queue-len .ensures .2 M e o) (c .if1 .left))
 

@@ -4,24 +4,16 @@ use native.Mathlib.Omega.{arith}
 use borrow.Author.Needs.{needs}
 use Rattle.steal.proofs.search.offered.Statement.{statement}
 use Rattle.steal.proofs.search.offered.Tie as tie
-use Rattle.steal.proofs.search.offered.Reads as reads
-use Rattle.steal.proofs.search.offered.Lts as lts
-use Rattle.stages.proofs.queue_len.Reads as queue-len-reads
-use Rattle.steal.proofs.search.can_steal_from.Reads as can-steal-from-reads
 
--- src/search.rt:57:8
 can-steal-from-requires : tie.Need-can-steal-from-requires
 can-steal-from-requires c κs = search needs
 
--- src/search.rt:58:9
 queue-len-requires : tie.Need-queue-len-requires
 queue-len-requires c κs = search needs
 
--- src/search.rt:58:9
 returns : tie.Need-returns
 returns c = (omega (arith, c .queue-len .ensures .0), λ M e o. offers-all (state-of _ M) _ (c .before .before .can-steal-from .ensures M e o) (c .before .if1 .taken) (c .queue-len .ensures .2 M e o))
 
--- src/search.rt:52:1
 returns-2 : tie.Need-returns-2
 returns-2 c = (omega arith, λ M e o. offers-none (state-of _ M) _ (c .before .can-steal-from .ensures M e o) (c .if1 .left))
 

@@ -1,18 +1,10 @@
-use mathlib.Core.Path.{refl, sym, _∙_, subst}
-use Prim.Native.Nat.{_-_, _≤_, _<_}
-use Rattle.machine.proofs.Steps.{sized}
+use mathlib.Core.Path.{refl, sym, _∙_}
+use Prim.Native.Nat.{_-_}
 use Rattle.steal.proofs.Round.{Outer, Inner, found, not-found, passed-next, passed-none, round-is, inner-first, inner-next, inner-enough, inner-all, not-empty, is-empty-list}
 use borrow.Author.Needs.{needs}
 use native.Mathlib.Omega.{arith}
 use Rattle.steal.proofs.search.search.Statement.{statement}
 use Rattle.steal.proofs.search.search.Tie as tie
-use Rattle.steal.proofs.search.search.Reads as reads
-use Rattle.steal.proofs.search.search.Lts as lts
-use Rattle.stages.proofs.entry.Reads as entry-reads
-use Rattle.steal.proofs.search.offered.Reads as offered-reads
-use Rattle.steal.proofs.search.take_candidate.Reads as take-candidate-reads
-use Rattle.steal.proofs.search.wanted.Reads as wanted-reads
-use Rattle.steal_judge.proofs.count.Reads as count-reads
 
 abbrev Inv-loop : tie.InvT-loop
 Inv-loop m c n k w locked others got₀ t i len want j₀ got j = Inner c n k len want m w locked got t j
@@ -26,87 +18,66 @@ Inv-search m c n k w locked others got₀ t₀ i₀ got t i = Outer c n k m w lo
 abbrev μ-search : tie.MeasureT-search
 μ-search m c n k w locked others got₀ t₀ i₀ got t i = others - i
 
--- src/search.rt:121:18
 sub-others : tie.Need-sub-others Inv-loop μ-loop Inv-search μ-search
 sub-others c = omega arith
 
--- src/search.rt:125:5
 search-holds : tie.Need-search-holds Inv-loop μ-loop Inv-search μ-search
 search-holds c = record { here = omega arith; none = refl; cpu = c .before .pre .1; passed = passed-none }
 
--- src/search.rt:126:19
 add-t : tie.Need-add-t Inv-loop μ-loop Inv-search μ-search
 add-t c = search needs
 
--- src/search.rt:126:14
 add-t-2 : tie.Need-add-t-2 Inv-loop μ-loop Inv-search μ-search
 add-t-2 c = search needs
 
--- src/search.rt:126:13
 rem-t : tie.Need-rem-t Inv-loop μ-loop Inv-search μ-search
 rem-t c = search needs
 
--- src/search.rt:127:13
 offered-requires : tie.Need-offered-requires Inv-loop μ-loop Inv-search μ-search
 offered-requires c κs = (c .before .before .before .pre .0, (c .before .before .before .pre .1, round-is _ _ _ (c .before .before .before .pre .1) (c .search-test .taken) .0))
 
--- src/search.rt:128:13
 wanted-requires : tie.Need-wanted-requires Inv-loop μ-loop Inv-search μ-search
 wanted-requires c κs = (c .before .before .before .before .pre .0, (c .before .before .before .before .pre .1, round-is _ _ _ (c .before .before .before .before .pre .1) (c .before .search-test .taken) .0))
 
--- src/search.rt:130:9
 loop-holds : tie.Need-loop-holds Inv-loop μ-loop Inv-search μ-search
 loop-holds c = inner-first (c .before .before .before .search .inv .none) (c .wanted .ensures .0)
 
--- src/search.rt:131:17
 entry-requires : tie.Need-entry-requires Inv-loop μ-loop Inv-search μ-search
 entry-requires c κs = (c .before .before .before .before .before .before .before .pre .0, (round-is _ _ _ (c .before .before .before .before .before .before .before .pre .1) (c .before .before .before .before .search-test .taken) .0, omega (arith, c .before .before .before .offered .ensures .0, c .loop-test .taken)))
 
--- src/search.rt:132:13
 take-candidate-requires : tie.Need-take-candidate-requires Inv-loop μ-loop Inv-search μ-search
 take-candidate-requires c κs = (c .before .before .before .before .before .before .before .before .pre .0, ((c .before .before .before .before .before .before .before .before .pre .1, c .entry .ensures .fits), (c .before .before .before .wanted .ensures .1, c .before .before .loop .inv .few, c .before .before .loop .inv .entries)))
 
--- src/search.rt:133:16
 count-requires : tie.Need-count-requires Inv-loop μ-loop Inv-search μ-search
 count-requires c κs = search needs
 
--- src/search.rt:136:13
 add-j : tie.Need-add-j Inv-loop μ-loop Inv-search μ-search
 add-j c = search needs
 
--- src/search.rt:130:9
 loop-less : tie.Need-loop-less Inv-loop μ-loop Inv-search μ-search
 loop-less c = search needs
 
--- src/search.rt:130:9
 loop-again : tie.Need-loop-again Inv-loop μ-loop Inv-search μ-search
 loop-again c = inner-next (c .before .before .take-candidate .result) (c .before .before .before .before .before .loop .inv) (c .before .before .before .before .loop-test .taken) (c .before .before .before .before .before .before .before .offered .ensures .1) (c .before .before .before .entry .ensures) (c .before .before .take-candidate .ensures .0) (c .before .before .take-candidate .ensures .1) (omega (arith, c .before .count .ensures, c .if1 .left))
 
--- src/search.rt:138:16
 count-requires-2 : tie.Need-count-requires-2 Inv-loop μ-loop Inv-search μ-search
 count-requires-2 c κs = search needs
 
--- src/search.rt:141:9
 add-i : tie.Need-add-i Inv-loop μ-loop Inv-search μ-search
 add-i c = search needs
 
--- src/search.rt:125:5
 search-less : tie.Need-search-less Inv-loop μ-loop Inv-search μ-search
 search-less c = search needs
 
--- src/search.rt:125:5
 search-again : tie.Need-search-again Inv-loop μ-loop Inv-search μ-search
 search-again c = record { here = omega arith; none = is-empty-list _ (omega (arith, c .before .count2 .ensures, c .if2 .left)); cpu = round-is _ _ _ (c .before .before .before .before .before .before .before .before .before .pre .1) (c .before .before .before .before .before .before .search-test .taken) .0; passed = passed-next (c .before .before .before .before .before .before .before .search .inv .passed) (λ M e o. sym (is-empty-list _ (omega (arith, c .before .count2 .ensures, c .if2 .left))) ∙ inner-all (c .before .before .before .loop .inv) (c .before .before .loop-test .left) (c .before .before .before .before .before .offered .ensures .1) (c .before .before .before .before .wanted .ensures .2) M e o) }
 
--- src/search.rt:116:1
 returns : tie.Need-returns Inv-loop μ-loop Inv-search μ-search
 returns c = not-found (c .before .before .before .pre .1) (c .before .search .inv .passed) (c .search-test .left) (c .before .search .inv .here) (c .before .search .inv .none) (c .before .search .inv .cpu)
 
--- src/search.rt:116:1
 returns-2 : tie.Need-returns-2 Inv-loop μ-loop Inv-search μ-search
 returns-2 c = found (c .before .before .before .before .before .before .before .before .before .before .before .pre .1) (c .before .before .before .before .before .before .before .before .before .search .inv .passed) (c .before .before .before .before .before .before .before .before .search-test .taken) refl (inner-enough (c .before .before .take-candidate .result) (c .before .before .before .before .before .loop .inv) (c .before .before .before .before .loop-test .taken) (c .before .before .before .before .before .before .before .offered .ensures .1) (c .before .before .before .entry .ensures) (c .before .before .take-candidate .ensures .1) (c .before .before .before .before .before .before .wanted .ensures .2) (omega (arith, c .before .count .ensures, c .if1 .taken))) (not-empty _ (omega (arith, c .before .count .ensures, c .if1 .taken, c .before .before .before .before .before .before .wanted .ensures .0))) (c .before .before .take-candidate .ensures .0)
 
--- src/search.rt:116:1
 returns-3 : tie.Need-returns-3 Inv-loop μ-loop Inv-search μ-search
 returns-3 c = found (c .before .before .before .before .before .before .before .before .before .pre .1) (c .before .before .before .before .before .before .before .search .inv .passed) (c .before .before .before .before .before .before .search-test .taken) refl (inner-all (c .before .before .before .loop .inv) (c .before .before .loop-test .left) (c .before .before .before .before .before .offered .ensures .1) (c .before .before .before .before .wanted .ensures .2)) (not-empty _ (omega (arith, c .before .count2 .ensures, c .if2 .taken))) (c .before .before .before .loop .inv .entries)
 
