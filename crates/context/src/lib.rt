@@ -1,4 +1,5 @@
 // A context's record: what the scheduler reads and writes of it (context/context.rs).
+mod charging;
 mod record;
 
 pub use record::load_context;

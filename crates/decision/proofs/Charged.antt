@@ -10,7 +10,7 @@ use Rattle.context.specs.Status.{is-runnable}
 use Rattle.context.specs.With.{with-vtime, with-vd, with-rem-slice}
 use Rattle.ticks.specs.Ticks.{ticks}
 use Rattle.weights.specs.Weights.{weight}
-use Rattle.charge.specs.Charge.{charged, renewed, is-yield, stopped}
+use Rattle.context.specs.Charge.{charged, renewed, is-yield, stopped}
 use Rattle.machine.specs.Machine.{Machine, context-at}
 use Rattle.decision.specs.State.{State, put-context, on-cpu, state-of, holder, is-idle}
 use Rattle.decision.specs.Charging.{times, inactive, holder-stopped, charge-holder, before-selection, before-choice}

@@ -9,7 +9,7 @@ use Rattle.cpu_stats.specs.declared.CpuStats.{CpuStats}
 use Rattle.cpu_stats.specs.State.{is-idle-state}
 use Rattle.cpu_stats.specs.With.{stats-user, stats-kernel, stats-idle, stats-context-switches, stats-syscall-switches}
 use Rattle.weights.specs.Weights.{weight}
-use Rattle.charge.specs.Charge.{charged, stopped}
+use Rattle.context.specs.Charge.{charged, stopped}
 use Rattle.percpu.specs.Cpu.{Cpu}
 use Rattle.percpu.specs.With.{cpu-pit-ticks, cpu-stats, cpu-schedule-time, cpu-total-weight}
 use Rattle.decision.specs.State.{State, put-context, on-cpu, insert-timer, holder, is-idle}

@@ -12,7 +12,7 @@ use Rattle.weights.specs.Weights.{weights, weight, whole-slice}
 use Rattle.run_queue.specs.Order.{before, sooner}
 use Rattle.run_queue.specs.Queue.{insert, remove}
 use Rattle.runnable.specs.Runnable.{update-runnable}
-use Rattle.charge.specs.Charge.{charged}
+use Rattle.context.specs.Charge.{charged}
 use Rattle.percpu.specs.Words.{block-words, block-of}
 use Rattle.percpu.specs.Layout.{counts, columns, cpu-words, entry-at, timer-at, cpu-of}
 use Rattle.machine.specs.Machine.{no-context, no-cpu, cpu-at}

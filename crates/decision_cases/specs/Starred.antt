@@ -10,7 +10,7 @@ use Rattle.context.specs.Words.{context-of}
 use Rattle.ticks.specs.Ticks.{ticks}
 use Rattle.weights.specs.Weights.{whole-slice}
 use Rattle.run_queue.specs.declared.Entry.{Entry}
-use Rattle.charge.specs.Charge.{charged}
+use Rattle.context.specs.Charge.{charged}
 use Rattle.percpu.specs.Cpu.{Cpu}
 use Rattle.percpu.specs.With.{cpu-queue, cpu-queue-len, cpu-sched-ctxt}
 use Rattle.percpu.specs.Words.{block-of}

@@ -16,8 +16,8 @@ use Rattle.ticks.specs.Ticks.{ticks}
 use Rattle.ticks.proofs.Laws.{ticks-high}
 use Rattle.weights.specs.Weights.{weight}
 use Rattle.weights.proofs.Table.{weight-low}
-use Rattle.charge.specs.Charge.{charged, stopped}
-use Rattle.charge.proofs.Bounds.{charged-frame, charged-vd}
+use Rattle.context.specs.Charge.{charged, stopped}
+use Rattle.context.proofs.Bounds.{charged-frame, charged-vd}
 use Rattle.percpu.specs.Cpu.{Cpu}
 use Rattle.percpu.specs.With.{cpu-total-weight}
 use Rattle.machine.specs.Shape.{ContextFits, CpuFits}

@@ -11,8 +11,8 @@ use Rattle.context.specs.declared.Context.{Context}
 use Rattle.context.specs.Status.{is-runnable}
 use Rattle.weights.specs.Weights.{weight}
 use Rattle.run_queue.specs.declared.Timer.{Timer}
-use Rattle.charge.specs.Charge.{charged, stopped, Chargeable}
-use Rattle.charge.proofs.Bounds.{charged-frame, charged-slice}
+use Rattle.context.specs.Charge.{charged, stopped, Chargeable}
+use Rattle.context.proofs.Bounds.{charged-frame, charged-slice}
 use Rattle.percpu.specs.declared.PercpuBlock.{PercpuBlock}
 use Rattle.percpu.specs.Cpu.{Cpu}
 use Rattle.percpu.specs.With.{block-total-weight, cpu-block}

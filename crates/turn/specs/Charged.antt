@@ -5,7 +5,7 @@ use Rattle.columns.specs.Common.{if_then_else_}
 use Rattle.context.specs.declared.Context.{Context}
 use Rattle.context.specs.Status.{is-runnable}
 use Rattle.weights.specs.Weights.{weight}
-use Rattle.charge.specs.Charge.{charged, stopped}
+use Rattle.context.specs.Charge.{charged, stopped}
 use Rattle.percpu.specs.declared.PercpuBlock.{PercpuBlock}
 use Rattle.percpu.specs.Cpu.{Cpu}
 use Rattle.percpu.specs.With.{block-total-weight, cpu-block}

@@ -5,7 +5,7 @@ use run_queue::Timer;
 ghost use mathlib.Core.Path.{_≡_};
 ghost use mathlib.Core.Bool.{Bool, false};
 ghost use Prim.Native.Nat.{ℕ, _<_, _≤_};
-ghost use Rattle.charge.specs.Charge.{Chargeable};
+ghost use Rattle.context.specs.Charge.{Chargeable};
 ghost use Rattle.machine.specs.Shape.{ContextFits, Image};
 ghost use Rattle.decision.specs.State.{State};
 ghost use Rattle.decision.specs.Charging.{charge-holder};
@@ -35,7 +35,7 @@ fn deactivate(m: &mut [u64], c: usize, n: usize, k: usize, x: usize, b: PercpuBl
 {
     let after = leave_weight(b, q);
     stages::store_block(m, c, n, k, after);
-    let stopped = charge::charge_stopped(q);
+    let stopped = q.charge_stopped();
     stages::store_context(m, c, n, k, x, stopped);
 }
 
@@ -85,7 +85,7 @@ fn charge_context(
 {
     let status = q.status;
     if status.is_runnable() {
-        let charged = charge::charge_runnable(q, b.v, elapsed);
+        let charged = q.charge_runnable(b.v, elapsed);
         stages::store_context(m, c, n, k, x, charged);
         return false;
     }

@@ -1,7 +1,7 @@
--- `charge::at_least` meets its contract. Assumes nothing.
+-- `charging::at_least` meets its contract. Assumes nothing.
 use borrow.Author.Needs.{needs}
-use Rattle.charge.proofs.at_least.Statement.{statement}
-use Rattle.charge.proofs.at_least.Tie as tie
+use Rattle.context.proofs.charging.at_least.Statement.{statement}
+use Rattle.context.proofs.charging.at_least.Tie as tie
 
 returns : tie.Need-returns
 returns c = search needs

@@ -5,13 +5,13 @@ use native.Mathlib.Omega.{arith}
 use native.Mathlib.Nat.{div-le-self}
 use lib.Dec.{ltb, eqb}
 use borrow.Author.Tests.{eqb-false}
 use Rattle.context.specs.declared.Context.{Context}
 use Rattle.context.specs.With.{with-vtime, with-vd, with-rem-slice}
 use Rattle.columns.proofs.Tests.{by-test}
 use Rattle.ticks.specs.Ticks.{ticks}
 use Rattle.weights.specs.Weights.{weight}
 use Rattle.weights.proofs.Table.{whole-slice-high}
-use Rattle.charge.specs.Charge.{charged}
+use Rattle.context.specs.Charge.{charged}
 
 module _ (v e : ℕ) (c : Context) where
   -- vtime, vd and rem_slice are all that changes

@@ -1,11 +1,11 @@
--- `charge::charge_runnable` meets its contract. Assumes nothing.
+-- `Context::charge_runnable` meets its contract. Assumes nothing.
 use mathlib.Core.Path.{_∙_}
 use native.Mathlib.Nat.{div-le-self}
 use native.Mathlib.Omega.{arith}
 use borrow.Author.Needs.{needs}
-use Rattle.charge.proofs.Charging.{charged-yield, charged-turn}
-use Rattle.charge.proofs.charge_runnable.Statement.{statement}
-use Rattle.charge.proofs.charge_runnable.Tie as tie
+use Rattle.context.proofs.Charged.{charged-yield, charged-turn}
+use Rattle.context.proofs.Context.charge_runnable.Statement.{statement}
+use Rattle.context.proofs.Context.charge_runnable.Tie as tie
 
 weight-of-requires : tie.Need-weight-of-requires
 weight-of-requires c κs = search needs
@@ -25,11 +25,11 @@ add-at-least c = omega (arith, div-le-self (c .before .before .elapsed-ticks .re
 at-least-requires : tie.Need-at-least-requires
 at-least-requires c κs = search needs
 
-div-c : tie.Need-div-c
-div-c c = omega arith
+div-self : tie.Need-div-self
+div-self c = omega arith
 
-add-c : tie.Need-add-c
-add-c c = omega (arith, div-le-self (c .before .before .before .before .elapsed-ticks .result) (c .before .before .before .before .before .weight-of .result), div-le-self (c .before .before .before .saturating-sub .result) (c .before .before .before .before .before .weight-of .result))
+add-self : tie.Need-add-self
+add-self c = omega (arith, div-le-self (c .before .before .before .before .elapsed-ticks .result) (c .before .before .before .before .before .weight-of .result), div-le-self (c .before .before .before .saturating-sub .result) (c .before .before .before .before .before .weight-of .result))
 
 renew-requires : tie.Need-renew-requires
 renew-requires c κs = (c .before .before .before .before .before .before .pre .prio, omega (arith, div-le-self (c .before .before .before .before .elapsed-ticks .result) (c .before .before .before .before .before .weight-of .result), div-le-self (c .before .before .before .saturating-sub .result) (c .before .before .before .before .before .weight-of .result)))
@@ -53,8 +53,8 @@ charge-runnable-spec =
     div-at-least
     add-at-least
     at-least-requires
-    div-c
-    add-c
+    div-self
+    add-self
     renew-requires
     returns
     renew-requires-2

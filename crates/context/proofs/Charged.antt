@@ -2,11 +2,11 @@
 use mathlib.Core.Path.{_≡_}
 use Prim.Native.Nat.{ℕ, _+_, _-_, _/_, _<_, _≤_, max}
 use borrow.Author.Tests.{lt-ltb, le-ltb}
 use Rattle.context.specs.declared.Context.{Context}
 use Rattle.context.specs.With.{with-vtime, with-rem-slice}
 use Rattle.ticks.specs.Ticks.{ticks}
 use Rattle.weights.specs.Weights.{weight}
-use Rattle.charge.specs.Charge.{charged, renewed}
+use Rattle.context.specs.Charge.{charged, renewed}
 
 -- in the code's words: the weight w, the ticks t, the slice left l, the vtime x
 module _ (c : Context) (v e w t l x : ℕ) (hw : w ≡ weight (c .prio)) (ht : t ≡ ticks e) (hl : l ≡ c .«rem_slice» - t) (hx : x ≡ max (c .vtime + t / w) v) where
