@@ -95,7 +95,7 @@ impl CpuStats {
     }
 
     pub fn add_context_switch(mut self, inside_syscall: bool) -> CpuStats
-        requires { ⌜ CountersBelow 4611686018427387904 self ⌝ }
+        requires { ⌜ CountersBelow 9223372036854775808 self ⌝ }
         ensures { λ r. ⌜ r ≡ switch-added «inside_syscall» self ⌝ }
     {
         self.context_switches += 1;

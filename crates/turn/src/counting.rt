@@ -11,7 +11,7 @@ ghost use Rattle.decision.specs.Charging.{add-context-switch, count-switch};
 ghost use Rattle.stages.specs.Stage.{Staged, Ranged};
 
 fn counted(b: PercpuBlock) -> PercpuBlock
-    requires { ⌜ CountersBelow 4611686018427387904 (b .stats) ⌝ }
+    requires { ⌜ CountersBelow 9223372036854775808 (b .stats) ⌝ }
     ensures { λ r. ⌜ r ≡ block-pit-ticks 0 (block-stats (add-context-switch (b .«inside_syscall») (b .stats)) b) ⌝ }
 {
     let s = b.stats;
@@ -24,7 +24,7 @@ fn counted(b: PercpuBlock) -> PercpuBlock
 pub fn count_switch(m: &mut [u64], c: usize, n: usize, k: usize)
     requires { ⌜ Image c n (now m) ⌝ }
     requires { ⌜ k < c ⌝ }
-    requires { ⌜ Ranged c n 4611686018427387903 4611686018427387903 (now m) ⌝ }
+    requires { ⌜ Ranged c n 4611686018427387904 4611686018427387903 (now m) ⌝ }
     ensures { λ r. ⌜ Staged c n k (now (m .entry)) (now (m .exit)) false (λ (s : State). on-cpu count-switch s) ⌝ }
 {
     let b = stages::load_block(m, c, n, k);

@@ -11,7 +11,7 @@ load-block-requires : tie.Need-load-block-requires
 load-block-requires c κs = search needs
 
 counted-requires : tie.Need-counted-requires
-counted-requires c κs = counters-below (c .before .before .before .args .k) 4611686018427387904 (omega arith) (c .before .before .before .pre .1 .1) (c .before .before .before .pre .1 .0) (c .load-block .ensures)
+counted-requires c κs = counters-below (c .before .before .before .args .k) 9223372036854775808 (omega arith) (c .before .before .before .pre .1 .1) (c .before .before .before .pre .1 .0) (c .load-block .ensures)
 
 store-block-requires : tie.Need-store-block-requires
 store-block-requires c κs = (c .before .before .before .before .before .pre .0, (c .before .before .before .before .before .pre .1 .0, counted-fits _ _ (c .before .counted .ensures) (block-fits (c .before .before .before .before .before .pre .0) _ (c .before .before .before .before .before .pre .1 .0) (c .before .before .load-block .ensures))))
