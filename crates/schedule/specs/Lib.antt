@@ -1,0 +1,5 @@
+pub mod Part
+pub mod Decides
+pub mod Begun
+pub mod Named
+pub mod Switched

@@ -1,0 +1,2 @@
+// The decisions: `schedule` and the calls that decide, over the stages.
+mod beginning;
