@@ -1,3 +1,4 @@
 pub mod Parts
 pub mod Robbing
 pub mod Start
+pub mod Chosen

@@ -1,2 +1,3 @@
 // The decisions: `schedule` and the calls that decide, over the stages.
 mod beginning;
+mod choosing;
