@@ -2,3 +2,4 @@ pub mod Parts
 pub mod Robbing
 pub mod Start
 pub mod Chosen
+pub mod Picked

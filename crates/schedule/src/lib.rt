@@ -1,3 +1,4 @@
 // The decisions: `schedule` and the calls that decide, over the stages.
 mod beginning;
 mod choosing;
+mod selecting;

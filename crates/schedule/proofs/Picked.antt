@@ -1,0 +1,106 @@
+-- From the choice to who gets the slice. Assumes nothing.
+use mathlib.Core.Path.{_≡_, refl, sym, ap, _∙_, subst}
+use mathlib.Core.Bool.{Bool, true, false}
+use mathlib.Core.List.{List}
+use mathlib.Core.Option.{Option, none, some}
+use Prim.Native.Nat.{ℕ, _<_, _≤_}
+use native.Mathlib.Omega.{arith}
+use lib.ListN.{set}
+use Rattle.ticks.specs.Ticks.{ticks}
+use Rattle.percpu.specs.Cpu.{Cpu}
+use Rattle.machine.specs.Machine.{Machine, cpu-at}
+use Rattle.machine.specs.Encode.{encode}
+use Rattle.machine.specs.Shape.{Fits, Image}
+use Rattle.decision.specs.State.{State, state-of, is-some, prev-runnable}
+use Rattle.decision.specs.Charging.{charge-holder}
+use Rattle.decision.specs.Choice.{choice}
+use Rattle.decision.specs.Steal.{Stealing}
+use Rattle.decision.specs.SwitchTo.{next-context}
+use Rattle.decision.specs.Decision.{scanned, choose-and-steal, settled, selected, select-next-context}
+use Rattle.decision.proofs.NoRoom as no-room
+use Rattle.stages.specs.Stage.{Stage, Staged, Ranged}
+use Rattle.stages.proofs.Compose.{stage-then, stage-as}
+use Rattle.turn.proofs.Kept.{ranged-stage}
+use Rattle.turn.proofs.Bounded.{charge-below}
+use Rattle.turn.proofs.Reading.{unchanged-with}
+use Rattle.handover.specs.Handed.{settled-by}
+use Rattle.handover.proofs.Settled.{settled-is, settled-below}
+use Rattle.handover.proofs.Advanced.{next-below}
+use Rattle.schedule.specs.Part.{Result, of-stealing, of-selected, Part}
+use Rattle.schedule.specs.Named.{NamedBelow}
+use Rattle.schedule.proofs.Parts.{never, stage-part, stage-part-full, part-stage, part-as, part-full}
+
+-- the stealing found no room
+pub selected-unchosen : {c n k : ℕ} {m m' m'' : List ℕ} {w q : Option ℕ} (time elapsed : ℕ)
+    → Part c n k m m' true w (λ (cpus : List Cpu) (s : State). of-stealing (choose-and-steal k time cpus s))
+    → Part c n k m m'' true q (λ (cpus : List Cpu) (s : State). of-selected (selected k time elapsed cpus s))
+unfolding selected
+selected-unchosen {k = k} time elapsed t =
+    part-full (λ (cpus : List Cpu) (s : State). of-selected (selected k time elapsed cpus s)) t
+    (λ cpus s e. no-room.settled-full k time (prev-runnable s) (ticks elapsed) (choose-and-steal k time cpus s) e)
+
+-- t: chosen and stolen; u: V advanced and the holder sent back
+module _ {c n k : ℕ} {m m' : List ℕ} {w : Option ℕ} (time elapsed : ℕ) (won runs : Bool) (gained : ℕ) (h : k < c)
+    (t : Part c n k m m' false w (λ (cpus : List Cpu) (s : State). of-stealing (choose-and-steal k time cpus s)))
+    (hr : (M : Machine) → m ≡ encode M → Fits c n M → runs ≡ prev-runnable (state-of k M)) (hw : won ≡ is-some w) (hg : gained ≡ ticks elapsed) where
+  module _ (M : Machine) (e : m ≡ encode M) (o : Fits c n M) (cpus : List Cpu) (z : set cpus k (cpu-at M k) ≡ M .cpus) where
+    winner-is : w ≡ (choose-and-steal k time cpus (state-of k M)) .winner
+    winner-is = t .part M e o cpus z .answer refl
+
+    same-state : settled-by won runs gained ((choose-and-steal k time cpus (state-of k M)) .state) ≡ settled k time (prev-runnable (state-of k M)) (ticks elapsed) (choose-and-steal k time cpus (state-of k M))
+    same-state =
+        (λ i. settled-by ((hw ∙ ap is-some winner-is) i) (hr M e o i) (hg i) ((choose-and-steal k time cpus (state-of k M)) .state))
+        ∙ settled-is k time (prev-runnable (state-of k M)) (ticks elapsed) (choose-and-steal k time cpus (state-of k M))
+
+  pub selected-full : {m'' : List ℕ} {q : Option ℕ} → Staged c n k m' m'' true (λ (s : State). settled-by won runs gained s)
+      → Part c n k m m'' true q (λ (cpus : List Cpu) (s : State). of-selected (selected k time elapsed cpus s))
+  unfolding selected
+  selected-full u = part-as (part-stage h t u) (λ M e o cpus z. (same-state M e o cpus z, refl, λ y x. never y))
+
+  -- next: who gets the slice, as read after
+  module _ {m'' : List ℕ} (u : Staged c n k m' m'' false (λ (s : State). settled-by won runs gained s)) {next : Option ℕ}
+      (r : (M : Machine) → m'' ≡ encode M → Fits c n M → next ≡ next-context runs w (state-of k M)) where
+    pub selected-room : Part c n k m m'' false next (λ (cpus : List Cpu) (s : State). of-selected (selected k time elapsed cpus s))
+    unfolding selected
+    selected-room =
+        let v : Stage c n k m'' m'' false next (λ (s : State). s) (λ (s : State). next-context runs w s) = unchanged-with k (λ (s : State). s) (u .image refl) (λ M e o. (refl, r M e o))
+        in part-as (part-stage h t (stage-then h u v))
+        (λ M e o cpus z. (same-state M e o cpus z, refl, λ y x. x ∙ (λ i. next-context (hr M e o i) (winner-is M e o cpus z i) (same-state M e o cpus z i))))
+
+    pub selected-ranged : gained ≤ 2305843009213693952 → Ranged c n 4611686027017322496 9799832792379424766 m' → Ranged c n 4611686027017322496 12105675801593118718 m''
+    selected-ranged l a = ranged-stage (omega arith) (omega arith) h u (λ M o s. settled-below won runs gained (state-of k M) l (o .cpu k h) s) a
+
+    pub selected-named : NamedBelow n w → NamedBelow n next
+    selected-named f x e =
+        let i = u .image refl
+        in next-below (i .M) k (i .fits) h runs w f x (sym (r (i .M) (i .eq) (i .fits)) ∙ e)
+
+-- before the choice the holder is charged
+keeps-full : (k time elapsed : ℕ) (cpus : List Cpu) (s : State) → s .no-room ≡ true → ((selected k time elapsed cpus s) .state) .no-room ≡ true
+unfolding selected choose-and-steal
+keeps-full k time elapsed cpus s e =
+    no-room.settled-full k time (prev-runnable s) (ticks elapsed) (choose-and-steal k time cpus s)
+    (no-room.steal-full k (prev-runnable s) _ cpus _ _ (no-room.chosen-full (choice s (scanned k time s)) (scanned k time s) s e))
+
+module _ {c n k : ℕ} {m m' m'' : List ℕ} (time elapsed : ℕ) where
+  pub charged-full : {q : Option ℕ} → Staged c n k m m' true (λ (s : State). charge-holder elapsed s)
+      → Part c n k m m'' true q (λ (cpus : List Cpu) (s : State). of-selected (select-next-context k time elapsed cpus s))
+  unfolding select-next-context
+  charged-full t =
+      stage-part-full (λ (cpus : List Cpu) (s : State). of-selected (selected k time elapsed cpus s)) t (keeps-full k time elapsed)
+
+  pub charged-then : {q : Option ℕ} {full : Bool} → k < c → Staged c n k m m' false (λ (s : State). charge-holder elapsed s)
+      → Part c n k m' m'' full q (λ (cpus : List Cpu) (s : State). of-selected (selected k time elapsed cpus s))
+      → Part c n k m m'' full q (λ (cpus : List Cpu) (s : State). of-selected (select-next-context k time elapsed cpus s))
+  unfolding select-next-context
+  charged-then h t u = stage-part h t u
+
+pub charged-ranged : {c n k : ℕ} {m m' : List ℕ} (elapsed : ℕ) → k < c → elapsed ≤ 4503599627370495 → Staged c n k m m' false (λ (s : State). charge-holder elapsed s)
+    → Ranged c n 4611686027017322496 4611686019501129727 m → Ranged c n 4611686027017322496 4899916395652841471 m'
+charged-ranged {k = k} elapsed h l t a =
+    ranged-stage (omega arith) (omega arith) h t (λ M o s. charge-below (state-of k M) (o .cpu k h) (o .context) s elapsed l) a
+
+-- who gets the slice, by the winner in other words
+pub next-as : {c n : ℕ} {m : List ℕ} {next w' w : Option ℕ} (k : ℕ) (runs : Bool) → w' ≡ w → ((M : Machine) → m ≡ encode M → Fits c n M → next ≡ next-context runs w' (state-of k M))
+    → (M : Machine) → m ≡ encode M → Fits c n M → next ≡ next-context runs w (state-of k M)
+next-as k runs e r M z o = r M z o ∙ ap (λ (x : Option ℕ). next-context runs x (state-of k M)) e

@@ -1,0 +1,88 @@
+// `select_next_context`: who gets the slice.
+use crate::choosing;
+use handover::Picked;
+use steal_judge::Winner;
+ghost use mathlib.Core.Path.{_≡_};
+ghost use mathlib.Core.Bool.{Bool, true, false};
+ghost use mathlib.Core.List.{List};
+ghost use Prim.Native.Nat.{ℕ, _<_, _≤_};
+ghost use Rattle.percpu.specs.Cpu.{Cpu};
+ghost use Rattle.machine.specs.Shape.{Image};
+ghost use Rattle.decision.specs.State.{State};
+ghost use Rattle.decision.specs.Decision.{selected, select-next-context};
+ghost use Rattle.stages.specs.Stage.{Ranged};
+ghost use Rattle.steal_judge.specs.Names.{winner-of};
+ghost use Rattle.handover.specs.Handed.{picked-of};
+ghost use Rattle.schedule.specs.Part.{of-selected, Part};
+ghost use Rattle.schedule.specs.Named.{NamedBelow};
+
+pub struct Next {
+    // an insertion found no room
+    pub full: bool,
+    // nobody: the holder keeps the slice
+    pub context: Picked,
+}
+
+fn picked_of(w: Winner) -> Picked
+    ensures { λ r. ⌜ picked-of r ≡ winner-of w ⌝ }
+{
+    match w {
+        Winner::None => Picked::Nobody,
+        Winner::One(x) => Picked::Somebody(x),
+    }
+}
+
+pub fn no_room() -> Next
+    ensures { λ r. ⌜ r .full ≡ true ⌝ }
+{
+    Next {
+        full: true,
+        context: Picked::Nobody,
+    }
+}
+
+// After the holder is charged.
+fn selected(m: &mut [u64], c: usize, n: usize, k: usize, time: u64, elapsed: u64) -> Next
+    requires { ⌜ Image c n (now m) ⌝ }
+    requires { ⌜ (k < c) × (elapsed ≤ 4503599627370495) ⌝ }
+    requires { ⌜ Ranged c n 4611686027017322496 4899916395652841471 (now m) ⌝ }
+    ensures { λ r. ⌜ Part c n k (now (m .entry)) (now (m .exit)) (r .full) (picked-of (r .context)) (λ (cpus : List Cpu) (s : State). of-selected (selected k time elapsed cpus s)) ⌝ }
+    ensures { λ r. ⌜ (r .full ≡ false → NamedBelow n (picked-of (r .context)) × Ranged c n 4611686027017322496 12105675801593118718 (now (m .exit))) ⌝ }
+{
+    let runs = choosing::prev_runnable(m, c, n, k);
+    let moved = choosing::choose_and_steal(m, c, n, k, time, runs);
+    if moved.full {
+        return no_room();
+    }
+    let winner = moved.winner;
+    let won = steal_judge::is_some(winner);
+    let gained = ticks::elapsed_ticks(elapsed);
+    if handover::settle(m, c, n, k, gained, won, runs) {
+        return no_room();
+    }
+    let picked = picked_of(winner);
+    Next {
+        full: false,
+        context: handover::next_context(m, c, n, k, runs, picked),
+    }
+}
+
+pub fn select_next_context(
+    m: &mut [u64],
+    c: usize,
+    n: usize,
+    k: usize,
+    time: u64,
+    elapsed: u64,
+) -> Next
+    requires { ⌜ Image c n (now m) ⌝ }
+    requires { ⌜ (k < c) × (elapsed ≤ 4503599627370495) ⌝ }
+    requires { ⌜ Ranged c n 4611686027017322496 4611686019501129727 (now m) ⌝ }
+    ensures { λ r. ⌜ Part c n k (now (m .entry)) (now (m .exit)) (r .full) (picked-of (r .context)) (λ (cpus : List Cpu) (s : State). of-selected (select-next-context k time elapsed cpus s)) ⌝ }
+    ensures { λ r. ⌜ (r .full ≡ false → NamedBelow n (picked-of (r .context)) × Ranged c n 4611686027017322496 12105675801593118718 (now (m .exit))) ⌝ }
+{
+    if turn::charge_holder(m, c, n, k, elapsed) {
+        return no_room();
+    }
+    selected(m, c, n, k, time, elapsed)
+}
