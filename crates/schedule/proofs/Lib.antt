@@ -3,3 +3,4 @@ pub mod Robbing
 pub mod Start
 pub mod Chosen
 pub mod Picked
+pub mod Scheduled

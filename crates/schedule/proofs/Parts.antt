@@ -116,6 +116,21 @@ module _ {R S : Type 0} {c n k : ℕ} {m m' m'' : List ℕ} {r : R} {q : S} wher
             };
       }
 
+-- a part that finds no room
+pub no-part : {R : Type 0} {c n k : ℕ} {m m' : List ℕ} {r : R} {p : List Cpu → State → Result R}
+    → ((M : Machine) → m ≡ encode M → Fits c n M → (cpus : List Cpu) → set cpus k (cpu-at M k) ≡ M .cpus → (p cpus (state-of k M) .state) .no-room ≡ true) → Part c n k m m' true r p
+no-part h =
+    record {
+      image = λ e. never e;
+      part = λ M e o cpus z.
+          record {
+            room = sym (h M e o cpus z);
+            after = λ y. never y;
+            fits = λ y. never y;
+            answer = λ y. never y;
+          };
+    }
+
 -- the same part in other words
 pub part-as : {R S : Type 0} {c n k : ℕ} {m m' : List ℕ} {full : Bool} {r : R} {q : S} {p : List Cpu → State → Result R} {p' : List Cpu → State → Result S} → Part c n k m m' full r p
     → ((M : Machine) → m ≡ encode M → Fits c n M → (cpus : List Cpu) → set cpus k (cpu-at M k) ≡ M .cpus → (p cpus (state-of k M) .state ≡ p' cpus (state-of k M) .state)

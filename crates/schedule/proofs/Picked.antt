@@ -76,7 +76,7 @@ module _ {c n k : ℕ} {m m' : List ℕ} {w : Option ℕ} (time elapsed : ℕ) (
         in next-below (i .M) k (i .fits) h runs w f x (sym (r (i .M) (i .eq) (i .fits)) ∙ e)
 
 -- before the choice the holder is charged
-keeps-full : (k time elapsed : ℕ) (cpus : List Cpu) (s : State) → s .no-room ≡ true → ((selected k time elapsed cpus s) .state) .no-room ≡ true
+pub keeps-full : (k time elapsed : ℕ) (cpus : List Cpu) (s : State) → s .no-room ≡ true → ((selected k time elapsed cpus s) .state) .no-room ≡ true
 unfolding selected choose-and-steal
 keeps-full k time elapsed cpus s e =
     no-room.settled-full k time (prev-runnable s) (ticks elapsed) (choose-and-steal k time cpus s)

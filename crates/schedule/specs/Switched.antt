@@ -1,4 +1,5 @@
--- The end of `switch_inner` after `schedule`, in two parts: the state and the result. Assumes nothing.
+-- The ends of `schedule` and `switch_inner` by who was picked: the state and the result. Assumes nothing.
+use mathlib.Core.Bool.{Bool}
 use mathlib.Core.Option.{Option, none, some}
 use Prim.Native.Nat.{ℕ}
 use lib.Dec.{eqb}
@@ -8,11 +9,23 @@ use Rattle.cpu_stats.specs.With.{stats-state}
 use Rattle.percpu.specs.Cpu.{Cpu}
 use Rattle.percpu.specs.With.{cpu-stats}
 use Rattle.decision.specs.State.{State, on-cpu}
-use Rattle.decision.specs.SwitchTo.{switch-to}
+use Rattle.decision.specs.SwitchTo.{hand-over, switch-to}
+
+-- `picked-as`, the state of it
+unfoldable pub handed : (time : ℕ) (was-idle : Bool) → Option ℕ → State → State
+handed time was-idle none s = s
+handed time was-idle (some x) s = hand-over time was-idle x s
+
+-- `switch-as`, the state of it and the result
+abbrev pub marked-idle : State → State
+marked-idle s = on-cpu (λ (p : Cpu). cpu-stats (stats-state Idle (p .block .stats)) p) s
+
+abbrev pub switched-to : (k time : ℕ) → ℕ → State → State
+switched-to k time x s = if eqb (s .cpu .block .«current_ctxt») x then s else switch-to k time x s
 
 unfoldable pub switched : (k time : ℕ) → Option ℕ → State → State
-switched k time none s = on-cpu (λ (p : Cpu). cpu-stats (stats-state Idle (p .block .stats)) p) s
-switched k time (some x) s = if eqb (s .cpu .block .«current_ctxt») x then s else switch-to k time x s
+switched k time none s = marked-idle s
+switched k time (some x) s = switched-to k time x s
 
 unfoldable pub switch-result : Option ℕ → ℕ
 switch-result none = 2

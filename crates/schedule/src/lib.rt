@@ -1,4 +1,5 @@
 // The decisions: `schedule` and the calls that decide, over the stages.
 mod beginning;
 mod choosing;
+mod scheduling;
 mod selecting;
