@@ -4,3 +4,5 @@ pub mod Start
 pub mod Chosen
 pub mod Picked
 pub mod Scheduled
+pub mod Ending
+pub mod Inner

@@ -3,3 +3,4 @@ mod beginning;
 mod choosing;
 mod scheduling;
 mod selecting;
+mod switching;

@@ -1,0 +1,156 @@
+-- `switch_inner` from its parts. Assumes nothing.
+use mathlib.Core.Path.{_≡_, refl, sym, ap, _∙_, subst}
+use mathlib.Core.Logic.{_≢_}
+use mathlib.Core.Bool.{Bool, true, false, not, _&&_}
+use mathlib.Core.List.{List}
+use mathlib.Core.Option.{Option, none, some}
+use Prim.Native.Nat.{ℕ, _<_, _≤_}
+use native.Mathlib.Omega.{arith}
+use lib.Dec.{eqb}
+use borrow.Author.Tests.{eq-eqb, ne-eqb}
+use Rattle.columns.specs.Common.{if_then_else_}
+use Rattle.context.specs.Status.{is-runnable}
+use Rattle.cpu_stats.specs.declared.CpuState.the-variants.{Idle}
+use Rattle.cpu_stats.specs.declared.CpuStats.{CpuStats}
+use Rattle.cpu_stats.specs.With.{stats-state}
+use Rattle.percpu.specs.declared.PercpuBlock.{PercpuBlock}
+use Rattle.percpu.specs.Cpu.{Cpu}
+use Rattle.percpu.specs.With.{block-stats, cpu-block, cpu-stats}
+use Rattle.machine.specs.Machine.{Machine, cpu-at}
+use Rattle.machine.specs.Encode.{encode}
+use Rattle.machine.specs.Shape.{Fits, Image}
+use Rattle.machine.specs.Outcome.{Outcome}
+use Rattle.decision.specs.State.{State, state-of, at, is-some}
+use Rattle.decision.specs.SwitchTo.{switch-to, try-direct-switch-back}
+use Rattle.decision.specs.Decision.{Scheduled, finish, schedule, switch-as, after-schedule, switch-inner-by, switch-inner}
+use Rattle.decision.proofs.Cases.{pick}
+use Rattle.stages.specs.Stage.{Stage, Staged, Ranged}
+use Rattle.stages.specs.Read.{BlockFits}
+use Rattle.stages.proofs.Compose.{stage-as}
+use Rattle.turn.proofs.Reading.{unchanged}
+use Rattle.turn.proofs.Kept.{ranged-more}
+use Rattle.switch_to.specs.declared.direct.DirectSwitch.{DirectSwitch}
+use Rattle.switch_to.specs.Direct.{is-full, is-switched, or-same}
+use Rattle.schedule.specs.Begun.{CanBegin}
+use Rattle.schedule.specs.Part.{of-scheduled, Part}
+use Rattle.schedule.specs.Decides.{DecidesAt, Ends}
+use Rattle.schedule.specs.Switched.{marked-idle, switched-to, switched, switch-result}
+use Rattle.schedule.proofs.Parts.{never, part-stage}
+use Rattle.schedule.proofs.Start.{counting-ranged}
+use Rattle.schedule.proofs.Ending.{part-ends, no-end, stage-end, ends-as, none-is, same-image}
+
+-- the CPU marked Idle: b was loaded, b' is stored
+pub idle-as : (p : Cpu) (b b' : PercpuBlock) (t : CpuStats) → b ≡ p .block → t ≡ stats-state Idle (b .stats) → b' ≡ block-stats t b → cpu-block b' p ≡ cpu-stats (stats-state Idle (p .block .stats)) p
+idle-as p b b' t h e f =
+    ap (λ (x : PercpuBlock). cpu-block x p) (f ∙ ap (λ (y : CpuStats). block-stats y b) e ∙ ap (λ (x : PercpuBlock). block-stats (stats-state Idle (x .stats)) x) h)
+
+pub idle-fits : {n : ℕ} (b b' : PercpuBlock) (t : CpuStats) → b' ≡ block-stats t b → BlockFits n b → BlockFits n b'
+idle-fits {n} b b' t e o = subst (BlockFits n) (sym e) (record { current = o .current; sched = o .sched; idle = o .idle })
+
+-- x is current already, or is switched to; b: the block
+module _ {c n : ℕ} {m : List ℕ} (k time x : ℕ) (b : PercpuBlock) (hb : (M : Machine) → m ≡ encode M → Fits c n M → b ≡ cpu-at M k .block) where
+  current-is : (v : Bool) → eqb (b .«current_ctxt») x ≡ v → (M : Machine) → m ≡ encode M → Fits c n M → eqb (cpu-at M k .block .«current_ctxt») x ≡ v
+  current-is v z M e o = rw (hb M e o) at z
+
+  pub stays-current : b .«current_ctxt» ≡ x → Image c n m → Staged c n k m m false (λ (s : State). switched-to k time x s)
+  stays-current z i = unchanged k (λ (s : State). switched-to k time x s) i (λ M e o. rw (current-is true (eq-eqb _ _ z) M e o))
+
+  pub leaves-current : {m' : List ℕ} {full : Bool} → b .«current_ctxt» ≢ x → Staged c n k m m' full (λ (s : State). switch-to k time x s) → Staged c n k m m' full (λ (s : State). switched-to k time x s)
+  leaves-current z t = stage-as t (λ M e o. (rw (current-is false (ne-eqb _ _ z) M e o), λ f g. refl))
+
+-- the switch, by who was picked
+module _ {c n k : ℕ} {m m' : List ℕ} (time : ℕ) {w : Option ℕ} where
+  pub as-nobody : w ≡ none → Staged c n k m m' false (λ (s : State). marked-idle s) → Stage c n k m m' false 2 (λ (s : State). switched k time w s) (λ (s : State). switch-result w)
+  unfolding switched switch-result
+  as-nobody e t = rw e (stage-as t (λ M z o. (refl, λ f g. refl)))
+
+  pub as-somebody : {full : Bool} (x : ℕ) → w ≡ some x → Staged c n k m m' full (λ (s : State). switched-to k time x s)
+      → Stage c n k m m' full 1 (λ (s : State). switched k time w s) (λ (s : State). switch-result w)
+  unfolding switched switch-result
+  as-somebody x e t = rw e (stage-as t (λ M z o. (refl, λ f g. refl)))
+
+-- `after-schedule` by its parts, and where there is no room
+module _ (k time : ℕ) where
+  switch-is : (cpus : List Cpu) (o : Option ℕ) (s : State) → finish k cpus (switch-result o) (switched k time o s) ≡ switch-as k time s cpus o
+  unfolding switch-as switched switch-result
+  switch-is cpus none s = refl
+  switch-is cpus (some x) s = refl
+
+  switch-to-full : (x : ℕ) (s : State) → s .no-room ≡ true → (switch-to k time x s) .no-room ≡ true
+  unfolding switch-to
+  switch-to-full x s h =
+      let y = s .cpu .block .«current_ctxt»
+      in pick (λ (u : State). u .no-room ≡ true) (not (eqb (s .cpu .block .«sched_ctxt») y) && not ((at s y) .«has_queue_key») && is-runnable ((at s y) .status)) (λ t. rw h) (λ t. h)
+
+  as-full : (cpus : List Cpu) (o : Option ℕ) (s : State) → s .no-room ≡ true → ((switch-as k time s cpus o) .no-room ≡ true) × ((switch-as k time s cpus o) .interrupt ≡ false)
+  unfolding switch-as
+  as-full cpus none s h = (h, refl)
+  as-full cpus (some x) s h = (pick (λ (u : State). u .no-room ≡ true) (eqb (s .cpu .block .«current_ctxt») x) (λ t. h) (λ t. switch-to-full x s h), refl)
+
+module _ {c n k : ℕ} {m m' : List ℕ} (time : ℕ) {w : Option ℕ} where
+  pub decided-full : {m'' : List ℕ} {r : ℕ} → Part c n k m m' true w (λ (cpus : List Cpu) (s : State). of-scheduled (schedule k time cpus s))
+      → Ends c n k m m'' true r (λ (cpus : List Cpu) (s : State). after-schedule k time (schedule k time cpus s))
+  unfolding after-schedule
+  decided-full t =
+      no-end
+      (λ M e o cpus z.
+      let d = schedule k time cpus (state-of k M)
+      in as-full k time (d .cpus) (d .picked) (d .state) (sym (t .part M e o cpus z .room)))
+
+  pub decided : {m'' : List ℕ} {full : Bool} {r : ℕ} → k < c → Part c n k m m' false w (λ (cpus : List Cpu) (s : State). of-scheduled (schedule k time cpus s))
+      → Stage c n k m' m'' full r (λ (s : State). switched k time w s) (λ (s : State). switch-result w)
+      → Ends c n k m m'' full r (λ (cpus : List Cpu) (s : State). after-schedule k time (schedule k time cpus s))
+  unfolding after-schedule
+  decided h t u =
+      part-ends (part-stage h t u)
+      (λ M e o cpus z.
+      let d = schedule k time cpus (state-of k M)
+      in let y : w ≡ d .picked = t .part M e o cpus z .answer refl
+      in ap (λ (x : Option ℕ). finish k (d .cpus) (switch-result x) (switched k time x (d .state))) y ∙ switch-is k time (d .cpus) (d .picked) (d .state))
+
+-- the direct switch back, or the decision
+some-is : (s : State) (o : Option State) → true ≡ is-some o → some (or-same s o) ≡ o
+some-is s (some x) e = refl
+some-is s none e = never e
+
+pub back-ranged : {c n k : ℕ} {m : List ℕ} (time : ℕ) → CanBegin c n k time m → Ranged c n 9223372045444710400 12105675801593118718 m
+back-ranged time a = ranged-more (omega arith) (omega arith) (counting-ranged a)
+
+-- a state with room has none after: there was a switch
+back-full : (k time : ℕ) (cpus : List Cpu) (s : State) (d : Option State) → s .no-room ≡ false → true ≡ (or-same s d) .no-room
+    → ((switch-inner-by k time cpus s d) .no-room ≡ true) × ((switch-inner-by k time cpus s d) .interrupt ≡ false)
+unfolding switch-inner-by
+back-full k time cpus s none h e = never (e ∙ h)
+back-full k time cpus s (some x) h e = (sym e, refl)
+
+module _ {c n k : ℕ} {m m' : List ℕ} (time : ℕ) where
+  pub switched-back : {full : Bool} → Stage c n k m m' full true (λ (s : State). or-same s (try-direct-switch-back k time s)) (λ (s : State). is-some (try-direct-switch-back k time s))
+      → full ≡ false → Ends c n k m m' full 1 (λ (cpus : List Cpu) (s : State). switch-inner k time cpus s)
+  unfolding switch-inner switch-inner-by
+  switched-back {full} t f =
+      record {
+        ends = λ M e o cpus z.
+            let y = some-is (state-of k M) (try-direct-switch-back k time (state-of k M)) (t .stage M e o .answer f)
+            in subst (λ (d : Option State). DecidesAt c n m' full 1 (switch-inner-by k time cpus (state-of k M) d)) y (stage-end 1 t .ends M e o cpus z);
+      }
+
+  pub no-room-back : {q : Bool} {r : ℕ} {m'' : List ℕ} → Stage c n k m m' true q (λ (s : State). or-same s (try-direct-switch-back k time s)) (λ (s : State). is-some (try-direct-switch-back k time s))
+      → Ends c n k m m'' true r (λ (cpus : List Cpu) (s : State). switch-inner k time cpus s)
+  unfolding switch-inner
+  no-room-back t = no-end (λ M e o cpus z. back-full k time cpus (state-of k M) (try-direct-switch-back k time (state-of k M)) refl (t .stage M e o .room))
+
+  pub not-back : {m'' : List ℕ} {full : Bool} {r : ℕ} → Stage c n k m m' false false (λ (s : State). or-same s (try-direct-switch-back k time s)) (λ (s : State). is-some (try-direct-switch-back k time s))
+      → Image c n m → Ends c n k m' m'' full r (λ (cpus : List Cpu) (s : State). after-schedule k time (schedule k time cpus s)) → Ends c n k m m'' full r (λ (cpus : List Cpu) (s : State). switch-inner k time cpus s)
+  unfolding switch-inner switch-inner-by
+  not-back {m'' = m''} {full = full} {r = r} t i u =
+      ends-as (subst (λ (x : List ℕ). Ends c n k x m'' full r (λ (cpus : List Cpu) (s : State). after-schedule k time (schedule k time cpus s))) (same-image (try-direct-switch-back k time) t i) u)
+      (λ M e o cpus. ap (switch-inner-by k time cpus (state-of k M)) (none-is (try-direct-switch-back k time (state-of k M)) (t .stage M e o .answer refl)))
+
+-- what the code said of the direct switch
+pub direct-is : {c n k : ℕ} {m m' : List ℕ} {f : State → State} {g : State → Bool} {d : DirectSwitch} (d' : DirectSwitch) → d ≡ d' → Stage c n k m m' (is-full d) (is-switched d) f g
+    → Stage c n k m m' (is-full d') (is-switched d') f g
+direct-is {c} {n} {k} {m} {m'} {f} {g} d' e t = subst (λ (x : DirectSwitch). Stage c n k m m' (is-full x) (is-switched x) f g) e t
+
+pub begin-again : {c n k : ℕ} {m m' : List ℕ} (time : ℕ) (d : State → Option State) → Stage c n k m m' false false (λ (s : State). or-same s (d s)) (λ (s : State). is-some (d s)) → Image c n m
+    → CanBegin c n k time m → CanBegin c n k time m'
+begin-again {c} {n} {k} time d t i a = subst (CanBegin c n k time) (sym (same-image d t i)) a

@@ -1,0 +1,109 @@
+// `switch_inner`: a direct switch back, or a decision and its switch.
+use crate::scheduling;
+use cpu_stats::CpuState;
+use handover::Picked;
+use switch_to::DirectSwitch;
+ghost use mathlib.Core.Path.{_≡_};
+ghost use mathlib.Core.Bool.{Bool, false};
+ghost use mathlib.Core.List.{List};
+ghost use Prim.Native.Nat.{ℕ, _<_, _≤_};
+ghost use Rattle.percpu.specs.Cpu.{Cpu};
+ghost use Rattle.machine.specs.Shape.{Image};
+ghost use Rattle.decision.specs.State.{State};
+ghost use Rattle.decision.specs.Decision.{schedule, after-schedule, switch-inner};
+ghost use Rattle.stages.specs.Stage.{Stage, Staged, Ranged};
+ghost use Rattle.handover.specs.Handed.{picked-of};
+ghost use Rattle.schedule.specs.Begun.{CanBegin};
+ghost use Rattle.schedule.specs.Decides.{Ends};
+ghost use Rattle.schedule.specs.Named.{NamedBelow};
+ghost use Rattle.schedule.specs.Switched.{marked-idle, switched-to, switched, switch-result};
+
+// Whether an insertion found no room, and the result of the call.
+pub struct Decided {
+    pub full: bool,
+    pub result: u64,
+}
+
+fn mark_idle(m: &mut [u64], c: usize, n: usize, k: usize)
+    requires { ⌜ Image c n (now m) ⌝ }
+    requires { ⌜ k < c ⌝ }
+    ensures { λ r. ⌜ Staged c n k (now (m .entry)) (now (m .exit)) false (λ (s : State). marked-idle s) ⌝ }
+{
+    let b = stages::load_block(m, c, n, k);
+    let s = b.stats;
+    let stats = s.set_state(CpuState::Idle);
+    let after = turn::with_stats(b, stats);
+    stages::store_block(m, c, n, k, after);
+}
+
+fn switch_unless_current(m: &mut [u64], c: usize, n: usize, k: usize, time: u64, x: usize) -> bool
+    requires { ⌜ Image c n (now m) ⌝ }
+    requires { ⌜ (k < c) × (x < n) × (time ≤ 4611686018427387903) ⌝ }
+    requires { ⌜ Ranged c n 9223372045444710400 12105675801593118718 (now m) ⌝ }
+    ensures { λ r. ⌜ Staged c n k (now (m .entry)) (now (m .exit)) r (λ (s : State). switched-to k time x s) ⌝ }
+{
+    let b = stages::load_block(m, c, n, k);
+    if b.current_ctxt == machine::word(x) {
+        return false;
+    }
+    switch_to::switch_to(m, c, n, k, time, x)
+}
+
+// Keeping the holder answers 2 and marks the CPU Idle, though the holder may run.
+fn switch_as(m: &mut [u64], c: usize, n: usize, k: usize, time: u64, picked: Picked) -> Decided
+    requires { ⌜ Image c n (now m) ⌝ }
+    requires { ⌜ (k < c) × (time ≤ 4611686018427387903) × NamedBelow n (picked-of picked) ⌝ }
+    requires { ⌜ Ranged c n 9223372045444710400 12105675801593118718 (now m) ⌝ }
+    ensures { λ r. ⌜ Stage c n k (now (m .entry)) (now (m .exit)) (r .full) (r .result) (λ (s : State). switched k time (picked-of picked) s) (λ (s : State). switch-result (picked-of picked)) ⌝ }
+{
+    match picked {
+        Picked::Nobody => {
+            mark_idle(m, c, n, k);
+            Decided {
+                full: false,
+                result: 2,
+            }
+        }
+        Picked::Somebody(x) => Decided {
+            full: switch_unless_current(m, c, n, k, time, x),
+            result: 1,
+        },
+    }
+}
+
+fn decide(m: &mut [u64], c: usize, n: usize, k: usize, time: u64) -> Decided
+    requires { ⌜ Image c n (now m) ⌝ }
+    requires { ⌜ (k < c) × (time ≤ 4611686018427387903) ⌝ }
+    requires { ⌜ CanBegin c n k time (now m) ⌝ }
+    ensures { λ r. ⌜ Ends c n k (now (m .entry)) (now (m .exit)) (r .full) (r .result) (λ (cpus : List Cpu) (s : State). after-schedule k time (schedule k time cpus s)) ⌝ }
+{
+    let next = scheduling::schedule(m, c, n, k, time);
+    if next.full {
+        return Decided {
+            full: true,
+            result: 0,
+        };
+    }
+    let picked = next.context;
+    switch_as(m, c, n, k, time, picked)
+}
+
+pub fn switch_inner(m: &mut [u64], c: usize, n: usize, k: usize, time: u64) -> Decided
+    requires { ⌜ Image c n (now m) ⌝ }
+    requires { ⌜ (k < c) × (time ≤ 4611686018427387903) ⌝ }
+    requires { ⌜ CanBegin c n k time (now m) ⌝ }
+    ensures { λ r. ⌜ Ends c n k (now (m .entry)) (now (m .exit)) (r .full) (r .result) (λ (cpus : List Cpu) (s : State). switch-inner k time cpus s) ⌝ }
+{
+    let back = switch_to::try_direct_switch_back(m, c, n, k, time);
+    match back {
+        DirectSwitch::NoRoom => Decided {
+            full: true,
+            result: 0,
+        },
+        DirectSwitch::Switched => Decided {
+            full: false,
+            result: 1,
+        },
+        DirectSwitch::NotSwitched => decide(m, c, n, k, time),
+    }
+}
