@@ -108,49 +108,57 @@ module _ {c n k : ℕ} {m m' : List ℕ} (time : ℕ) {w : Option ℕ} where
       in let y : w ≡ d .picked = t .part M e o cpus z .answer refl
       in ap (λ (x : Option ℕ). finish k (d .cpus) (switch-result x) (switched k time x (d .state))) y ∙ switch-is k time (d .cpus) (d .picked) (d .state))
 
--- the direct switch back, or the decision
-some-is : (s : State) (o : Option State) → true ≡ is-some o → some (or-same s o) ≡ o
-some-is s (some x) e = refl
-some-is s none e = never e
+-- a stage that makes the direct switch d, or changes nothing; q: whether it was made
+abbrev pub Directs : (c n k : ℕ) (m m' : List ℕ) (full q : Bool) → (State → Option State) → Type 0
+Directs c n k m m' full q d = Stage c n k m m' full q (λ (s : State). or-same s (d s)) (λ (s : State). is-some (d s))
 
+-- a direct switch d, or the rest of the call where none is made
+module _ (k : ℕ) (d : State → Option State) (by : List Cpu → State → Option State → Outcome) (hs : (cpus : List Cpu) (s s' : State) → finish k cpus 1 s' ≡ by cpus s (some s')) where
+  some-is : (cpus : List Cpu) (s : State) (o : Option State) → true ≡ is-some o → finish k cpus 1 (or-same s o) ≡ by cpus s o
+  some-is cpus s (some x) e = hs cpus s x
+  some-is cpus s none e = never e
+
+  pub direct-made : {c n : ℕ} {m m' : List ℕ} → Directs c n k m m' false true d → Ends c n k m m' false 1 (λ (cpus : List Cpu) (s : State). by cpus s (d s))
+  direct-made t = ends-as (stage-end 1 t) (λ M e o cpus. some-is cpus (state-of k M) (d (state-of k M)) (t .stage M e o .answer refl))
+
+  -- a state with room that has none after was switched from
+  full-is : (cpus : List Cpu) (s : State) (o : Option State) → s .no-room ≡ false → true ≡ (or-same s o) .no-room → ((by cpus s o) .no-room ≡ true) × ((by cpus s o) .interrupt ≡ false)
+  full-is cpus s none h e = never (e ∙ h)
+  full-is cpus s (some x) h e = (sym (ap (λ (o : Outcome). o .no-room) (hs cpus s x)) ∙ sym e, sym (ap (λ (o : Outcome). o .interrupt) (hs cpus s x)))
+
+  pub direct-full : {c n : ℕ} {m m' : List ℕ} {q : Bool} {r : ℕ} → Directs c n k m m' true q d → Ends c n k m m' true r (λ (cpus : List Cpu) (s : State). by cpus s (d s))
+  direct-full t = no-end (λ M e o cpus z. full-is cpus (state-of k M) (d (state-of k M)) refl (t .stage M e o .room))
+
+  pub direct-not : {c n : ℕ} {m m' m'' : List ℕ} {full : Bool} {r : ℕ} (rest : List Cpu → State → Outcome) → ((cpus : List Cpu) (s : State) → rest cpus s ≡ by cpus s none)
+      → Directs c n k m m' false false d → Image c n m → Ends c n k m' m'' full r rest → Ends c n k m m'' full r (λ (cpus : List Cpu) (s : State). by cpus s (d s))
+  direct-not {c} {n} {m'' = m''} {full = full} {r = r} rest hn t i u =
+      ends-as (subst (λ (x : List ℕ). Ends c n k x m'' full r rest) (same-image d t i) u)
+      (λ M e o cpus. hn cpus (state-of k M) ∙ ap (by cpus (state-of k M)) (none-is (d (state-of k M)) (t .stage M e o .answer refl)))
+
+-- the direct switch back, or the decision
 pub back-ranged : {c n k : ℕ} {m : List ℕ} (time : ℕ) → CanBegin c n k time m → Ranged c n 9223372045444710400 12105675801593118718 m
 back-ranged time a = ranged-more (omega arith) (omega arith) (counting-ranged a)
 
--- a state with room has none after: there was a switch
-back-full : (k time : ℕ) (cpus : List Cpu) (s : State) (d : Option State) → s .no-room ≡ false → true ≡ (or-same s d) .no-room
-    → ((switch-inner-by k time cpus s d) .no-room ≡ true) × ((switch-inner-by k time cpus s d) .interrupt ≡ false)
-unfolding switch-inner-by
-back-full k time cpus s none h e = never (e ∙ h)
-back-full k time cpus s (some x) h e = (sym e, refl)
-
 module _ {c n k : ℕ} {m m' : List ℕ} (time : ℕ) where
-  pub switched-back : {full : Bool} → Stage c n k m m' full true (λ (s : State). or-same s (try-direct-switch-back k time s)) (λ (s : State). is-some (try-direct-switch-back k time s))
-      → full ≡ false → Ends c n k m m' full 1 (λ (cpus : List Cpu) (s : State). switch-inner k time cpus s)
+  pub switched-back : Directs c n k m m' false true (try-direct-switch-back k time) → Ends c n k m m' false 1 (λ (cpus : List Cpu) (s : State). switch-inner k time cpus s)
   unfolding switch-inner switch-inner-by
-  switched-back {full} t f =
-      record {
-        ends = λ M e o cpus z.
-            let y = some-is (state-of k M) (try-direct-switch-back k time (state-of k M)) (t .stage M e o .answer f)
-            in subst (λ (d : Option State). DecidesAt c n m' full 1 (switch-inner-by k time cpus (state-of k M) d)) y (stage-end 1 t .ends M e o cpus z);
-      }
+  switched-back t = direct-made k (try-direct-switch-back k time) (switch-inner-by k time) (λ cpus s x. refl) t
 
-  pub no-room-back : {q : Bool} {r : ℕ} {m'' : List ℕ} → Stage c n k m m' true q (λ (s : State). or-same s (try-direct-switch-back k time s)) (λ (s : State). is-some (try-direct-switch-back k time s))
-      → Ends c n k m m'' true r (λ (cpus : List Cpu) (s : State). switch-inner k time cpus s)
-  unfolding switch-inner
-  no-room-back t = no-end (λ M e o cpus z. back-full k time cpus (state-of k M) (try-direct-switch-back k time (state-of k M)) refl (t .stage M e o .room))
-
-  pub not-back : {m'' : List ℕ} {full : Bool} {r : ℕ} → Stage c n k m m' false false (λ (s : State). or-same s (try-direct-switch-back k time s)) (λ (s : State). is-some (try-direct-switch-back k time s))
-      → Image c n m → Ends c n k m' m'' full r (λ (cpus : List Cpu) (s : State). after-schedule k time (schedule k time cpus s)) → Ends c n k m m'' full r (λ (cpus : List Cpu) (s : State). switch-inner k time cpus s)
+  pub no-room-back : {q : Bool} {r : ℕ} → Directs c n k m m' true q (try-direct-switch-back k time) → Ends c n k m m' true r (λ (cpus : List Cpu) (s : State). switch-inner k time cpus s)
   unfolding switch-inner switch-inner-by
-  not-back {m'' = m''} {full = full} {r = r} t i u =
-      ends-as (subst (λ (x : List ℕ). Ends c n k x m'' full r (λ (cpus : List Cpu) (s : State). after-schedule k time (schedule k time cpus s))) (same-image (try-direct-switch-back k time) t i) u)
-      (λ M e o cpus. ap (switch-inner-by k time cpus (state-of k M)) (none-is (try-direct-switch-back k time (state-of k M)) (t .stage M e o .answer refl)))
+  no-room-back t = direct-full k (try-direct-switch-back k time) (switch-inner-by k time) (λ cpus s x. refl) t
+
+  pub not-back : {m'' : List ℕ} {full : Bool} {r : ℕ} → Directs c n k m m' false false (try-direct-switch-back k time) → Image c n m → Ends c n k m' m'' full r (λ (cpus : List Cpu) (s : State). after-schedule k time (schedule k time cpus s))
+      → Ends c n k m m'' full r (λ (cpus : List Cpu) (s : State). switch-inner k time cpus s)
+  unfolding switch-inner switch-inner-by
+  not-back t i u =
+      direct-not k (try-direct-switch-back k time) (switch-inner-by k time) (λ cpus s x. refl) (λ (cpus : List Cpu) (s : State). after-schedule k time (schedule k time cpus s)) (λ cpus s. refl) t i u
 
 -- what the code said of the direct switch
 pub direct-is : {c n k : ℕ} {m m' : List ℕ} {f : State → State} {g : State → Bool} {d : DirectSwitch} (d' : DirectSwitch) → d ≡ d' → Stage c n k m m' (is-full d) (is-switched d) f g
     → Stage c n k m m' (is-full d') (is-switched d') f g
 direct-is {c} {n} {k} {m} {m'} {f} {g} d' e t = subst (λ (x : DirectSwitch). Stage c n k m m' (is-full x) (is-switched x) f g) e t
 
-pub begin-again : {c n k : ℕ} {m m' : List ℕ} (time : ℕ) (d : State → Option State) → Stage c n k m m' false false (λ (s : State). or-same s (d s)) (λ (s : State). is-some (d s)) → Image c n m
+pub begin-again : {c n k : ℕ} {m m' : List ℕ} (time : ℕ) (d : State → Option State) → Directs c n k m m' false false d → Image c n m
     → CanBegin c n k time m → CanBegin c n k time m'
 begin-again {c} {n} {k} time d t i a = subst (CanBegin c n k time) (sym (same-image d t i)) a

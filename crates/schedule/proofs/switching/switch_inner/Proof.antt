@@ -32,7 +32,7 @@ same-length-2 : tie.Need-same-length-2
 same-length-2 c = search needs
 
 returns-2 : tie.Need-returns-2
-returns-2 c = switched-back (c .before .before .before .before .before .before .before .args .time) (direct-is Switched (c .enum-told2 .given .1) (c .before .before .before .before .try-direct-switch-back .ensures)) refl
+returns-2 c = switched-back (c .before .before .before .before .before .before .before .args .time) (direct-is Switched (c .enum-told2 .given .1) (c .before .before .before .before .try-direct-switch-back .ensures))
 
 same-length-3 : tie.Need-same-length-3
 same-length-3 c = search needs
