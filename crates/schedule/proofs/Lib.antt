@@ -6,3 +6,4 @@ pub mod Picked
 pub mod Scheduled
 pub mod Ending
 pub mod Inner
+pub mod Called

@@ -47,22 +47,17 @@ module _ (time : ℕ) where
   unfolding serve-wakeups
   turn-kept s = served-kept (wakeups time s) (drained time s)
 
+pub put-below : {c n t b : ℕ} (t' b' : ℕ) → t ≤ t' → b ≤ b' → (k : ℕ) (s : State) (M : Machine) → StateBelow n t' b' s → Below c n t b M → Below c n t' b' (put-state k s M)
+unfolding cpu-at
+put-below t' b' h g k s M a o = record { context = a .context; cpu = λ j i. getD-set (M .cpus) k j (s .cpu) no-cpu (CpuBelow t' b') (a .cpu) (cpu-more h g (o .cpu j i)) }
+
 -- through a stage that had room, by what it does to the one machine of the image
 pub ranged-at : {R : Type 0} {c n t b k : ℕ} {m m' : List ℕ} {r : R} {f : State → State} {q : State → R} (t' b' : ℕ) → t ≤ t' → b ≤ b' → k < c → Stage c n k m m' false r f q
     → (a : Ranged c n t b m) → StateBelow n t' b' (f (state-of k (a .M))) → Ranged c n t' b' m'
-unfolding cpu-at
 ranged-at {k = k} {f = f} t' b' h g l u a o =
     let z = u .stage (a .M) (a .eq) (a .fits)
     in let s = f (state-of k (a .M))
-    in record {
-      M = put-state k s (a .M);
-      eq = z .after refl;
-      fits = z .fits refl;
-      below = record {
-        context = o .context;
-        cpu = λ j i. getD-set (a .M .cpus) k j (s .cpu) no-cpu (CpuBelow t' b') (o .cpu) (cpu-more h g (a .below .cpu j i));
-      };
-    }
+    in record { M = put-state k s (a .M); eq = z .after refl; fits = z .fits refl; below = put-below t' b' h g k s (a .M) o (a .below) }
 
 abbrev pub counting-ranged : {c n k time : ℕ} {m : List ℕ} → CanBegin c n k time m → Ranged c n 4611686018427387904 4611686018427387903 m
 counting-ranged a = record { M = a .M; eq = a .eq; fits = a .fits; below = a .below }

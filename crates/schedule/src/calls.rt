@@ -1,0 +1,86 @@
+// Operations 1 to 3 on an image that refusals 1 to 8 let pass.
+use crate::switching;
+use crate::switching::Decided;
+use switch_to::DirectSwitch;
+ghost use mathlib.Core.Path.{_≡_};
+ghost use mathlib.Core.Bool.{Bool, false};
+ghost use Prim.Native.Nat.{ℕ, _+_, _<_, _≤_};
+ghost use Rattle.machine.specs.Machine.{Machine, cpu-at};
+ghost use Rattle.machine.specs.Encode.{encode};
+ghost use Rattle.machine.specs.Shape.{Image, Fits};
+ghost use Rattle.decision.specs.State.{State};
+ghost use Rattle.decision.specs.Charging.{elapsed};
+ghost use Rattle.decision.specs.Decision.{ticked, tick, switch, direct-switch-to};
+ghost use Rattle.stages.specs.Stage.{Stage, Ranged};
+ghost use Rattle.schedule.specs.Decides.{Decides};
+
+// The tick is counted, and the count returned.
+fn count_tick(m: &mut [u64], c: usize, n: usize, k: usize, time: u64) -> u64
+    requires { ⌜ Image c n (now m) ⌝ }
+    requires { ⌜ k < c ⌝ }
+    requires { ⌜ Ranged c n 4611686018427387903 4611686018427387903 (now m) ⌝ }
+    ensures { λ r. ⌜ Stage c n k (now (m .entry)) (now (m .exit)) false r (λ (s : State). ticked k time s) (λ (s : State). s .cpu .block .«pit_ticks» + 1) ⌝ }
+{
+    let mut b = stages::load_block(m, c, n, k);
+    let count = b.pit_ticks + 1;
+    b.pit_ticks = count;
+    stages::store_block(m, c, n, k, b);
+    count
+}
+
+pub fn tick(m: &mut [u64], c: usize, n: usize, k: usize, time: u64) -> Decided
+    requires { ⌜ Image c n (now m) ⌝ }
+    requires { ⌜ (k < c) × (time ≤ 4611686018427387903) ⌝ }
+    requires { ⌜ Ranged c n 4611686018427387903 4611686018427387903 (now m) ⌝ }
+    requires { ⌜ ((M : Machine) → now m ≡ encode M → Fits c n M → elapsed time (cpu-at M k) ≤ 4503599627370495) ⌝ }
+    ensures { λ r. ⌜ Decides c n (now (m .entry)) (now (m .exit)) (r .full) (r .result) (λ (M : Machine). tick k time M) ⌝ }
+{
+    let count = count_tick(m, c, n, k, time);
+    if count < 3 {
+        return Decided {
+            full: false,
+            result: 0,
+        };
+    }
+    switching::switch_inner(m, c, n, k, time)
+}
+
+pub fn switch(m: &mut [u64], c: usize, n: usize, k: usize, time: u64) -> Decided
+    requires { ⌜ Image c n (now m) ⌝ }
+    requires { ⌜ (k < c) × (time ≤ 4611686018427387903) ⌝ }
+    requires { ⌜ Ranged c n 4611686018427387903 4611686018427387903 (now m) ⌝ }
+    requires { ⌜ ((M : Machine) → now m ≡ encode M → Fits c n M → elapsed time (cpu-at M k) ≤ 4503599627370495) ⌝ }
+    ensures { λ r. ⌜ Decides c n (now (m .entry)) (now (m .exit)) (r .full) (r .result) (λ (M : Machine). switch k time M) ⌝ }
+{
+    switching::switch_inner(m, c, n, k, time)
+}
+
+pub fn direct_switch_to(m: &mut [u64], c: usize, n: usize, k: usize, time: u64, x: usize) -> Decided
+    requires { ⌜ Image c n (now m) ⌝ }
+    requires { ⌜ (k < c) × (x < n) × (time ≤ 4611686018427387903) ⌝ }
+    requires { ⌜ Ranged c n 4611686018427387903 4611686018427387903 (now m) ⌝ }
+    requires { ⌜ ((M : Machine) → now m ≡ encode M → Fits c n M → elapsed time (cpu-at M k) ≤ 4503599627370495) ⌝ }
+    ensures { λ r. ⌜ Decides c n (now (m .entry)) (now (m .exit)) (r .full) (r .result) (λ (M : Machine). direct-switch-to k time x M) ⌝ }
+{
+    let b = stages::load_block(m, c, n, k);
+    let name = machine::word(x);
+    if b.current_ctxt == name {
+        return Decided {
+            full: false,
+            result: 1,
+        };
+    }
+    let own = b.sched_ctxt == name;
+    let made = switch_to::direct_switch_by(m, c, n, k, time, x, own);
+    match made {
+        DirectSwitch::NoRoom => Decided {
+            full: true,
+            result: 0,
+        },
+        DirectSwitch::Switched => Decided {
+            full: false,
+            result: 1,
+        },
+        DirectSwitch::NotSwitched => switching::switch_inner(m, c, n, k, time),
+    }
+}
