@@ -27,6 +27,7 @@ fn main() -> ExitCode {
     let number = |text: &str| text.parse::<u64>().expect("a number");
     let good = match words[..] {
         ["run", seed, count] => run::run(number(seed), number(count)),
+        ["chain", seed, calls] => run::chain(number(seed), number(calls)),
         ["replay", list] if list.ends_with(".txt") => replay::text(list),
         ["replay", list] => replay::words(list),
         ["edit", list, root] => edit(list, root),

@@ -106,6 +106,7 @@ fn all(path: &str, cases: Vec<Recorded>) -> bool {
             kind: Kind::Recorded,
             image: recorded.image.clone(),
             call: recorded.call,
+            chained: false,
         };
         let want = (&recorded.answer, &recorded.after[..]);
         let kernel = match expected(&case.image, &case.call) {
