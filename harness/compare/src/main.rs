@@ -1,4 +1,4 @@
-//! The commands behind the scripts `run`, `branches`, `power` and `power-table`.
+//! The commands behind the scripts `run`, `lists`, `branches`, `power` and `power-table`.
 
 #[cfg(feature = "branches")]
 mod branches;
@@ -8,6 +8,7 @@ mod choose;
 mod edits;
 mod expected;
 mod generate;
+mod list;
 mod port;
 #[cfg(feature = "oracle")]
 mod power;
@@ -28,8 +29,9 @@ fn main() -> ExitCode {
     let good = match words[..] {
         ["run", seed, count] => run::run(number(seed), number(count)),
         ["chain", seed, calls] => run::chain(number(seed), number(calls)),
-        ["replay", list] if list.ends_with(".txt") => replay::text(list),
-        ["replay", list] => replay::words(list),
+        ["replay", list] => replay::replay(list),
+        ["calls", recorded, seed, each] => list::calls(recorded, number(seed), number(each)),
+        ["answers"] => list::answers(),
         ["edit", list, root] => edit(list, root),
         #[cfg(feature = "oracle")]
         ["answers", seed, count, to] => power::answers(number(seed), number(count), to),

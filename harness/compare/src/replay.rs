@@ -7,15 +7,24 @@ use crate::{
 };
 use image::{Answer, Call, length};
 
-struct Recorded {
-    call: Call,
-    image: Vec<u64>,
+pub struct Recorded {
+    pub call: Call,
+    pub image: Vec<u64>,
     answer: Answer,
     after: Vec<u64>,
 }
 
+/// A list, of text or of words.
+pub fn replay(path: &str) -> bool {
+    let cases = match path.ends_with(".txt") {
+        true => text(path),
+        false => words(path),
+    };
+    all(path, cases)
+}
+
 /// The list of words.
-pub fn words(path: &str) -> bool {
+pub fn words(path: &str) -> Vec<Recorded> {
     let bytes = std::fs::read(path).unwrap();
     let mut words = bytes
         .chunks_exact(8)
@@ -52,13 +61,12 @@ pub fn words(path: &str) -> bool {
             }
         })
         .collect();
-    let good = all(path, cases);
     assert_eq!(words.next(), None, "the list is too long");
-    good
+    cases
 }
 
 /// The list of text.
-pub fn text(path: &str) -> bool {
+fn text(path: &str) -> Vec<Recorded> {
     let text = std::fs::read_to_string(path).unwrap();
     let number = |text: &str| text.parse::<u64>().expect("a number");
     let fill = |image: &mut [u64], pairs: &str| {
@@ -94,7 +102,7 @@ pub fn text(path: &str) -> bool {
             after,
         }
     };
-    all(path, text.lines().map(case).collect())
+    text.lines().map(case).collect()
 }
 
 fn all(path: &str, cases: Vec<Recorded>) -> bool {
