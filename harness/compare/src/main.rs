@@ -17,6 +17,8 @@ mod record;
 mod replay;
 mod report;
 mod run;
+#[cfg(feature = "oracle")]
+mod times;
 
 use std::process::ExitCode;
 
@@ -33,6 +35,8 @@ fn main() -> ExitCode {
         ["calls", recorded, seed, each] => list::calls(recorded, number(seed), number(each)),
         ["answers"] => list::answers(),
         ["edit", list, root] => edit(list, root),
+        #[cfg(feature = "oracle")]
+        ["times"] => times::times(),
         #[cfg(feature = "oracle")]
         ["answers", seed, count, to] => power::answers(number(seed), number(count), to),
         #[cfg(feature = "oracle")]

@@ -4,7 +4,7 @@ mod aim;
 mod breakage;
 mod damage;
 mod full;
-mod machine;
+pub mod machine;
 pub mod rng;
 mod seats;
 #[cfg(test)]
