@@ -10,80 +10,39 @@ use crate::{
     replay,
 };
 use image::{Answer, Call, MAX_CONTEXTS, MAX_CPUS, OPERATIONS, length};
-use std::{
-    fmt::Write,
-    io::{Read, stdin},
-};
-
-/// A program's buffer holds the longest image, and one word more.
-fn longest() -> usize {
-    length(MAX_CPUS as usize, MAX_CONTEXTS as usize) + 1
-}
+use std::io::{Read, stdin};
 
 /// How many words of a generated image may be other than 0: the list stays short.
 const WORDS: usize = 160;
 
-/// The calls of a recorded list, and `each` generated ones of every operation.
-pub fn calls(recorded: &str, seed: u64, each: u64) -> bool {
-    let mut number = 0;
-    let mut print = |call: &Call, image: &[u64]| {
-        number += 1;
-        println!("# case {number}\n{}", case(call, image));
-    };
-    for recorded in replay::words(recorded) {
-        if recorded.image.len() <= longest() {
-            print(&recorded.call, &recorded.image);
-        }
-    }
-    let mut stream = Stream::new(seed);
-    let mut left = [each; OPERATIONS.len()];
-    while left.iter().any(|left| *left > 0) {
-        let next = stream.next();
-        let (call, image) = (&next.call, &next.image);
-        if let Ok(Expected::Known(_, after)) = expected(image, call) {
-            stream.answered(&after);
-        }
-        let short = image.len() <= longest() && nonzero(image).len() <= WORDS;
-        if short && (1..=7).contains(&call.operation) && left[call.operation as usize - 1] > 0 {
-            left[call.operation as usize - 1] -= 1;
-            print(call, image);
-        }
-    }
-    true
+/// A program's buffer holds the longest image, and one word more.
+fn fits(image: &[u64]) -> bool {
+    image.len() <= length(MAX_CPUS as usize, MAX_CONTEXTS as usize) + 1
 }
 
-fn case(call: &Call, image: &[u64]) -> String {
-    let words: Vec<(usize, u64)> = nonzero(image);
-    let mut line = format!(
-        "{} {} {} {} {} {}",
-        call.operation,
-        call.cpu,
-        call.time,
-        call.context,
-        image.len(),
-        words.len()
-    );
-    put_pairs(&mut line, &words);
-    line
+/// The numbers of a case.
+pub fn case(call: &Call, image: &[u64]) -> Vec<u64> {
+    let Call {
+        operation,
+        cpu,
+        time,
+        context,
+    } = *call;
+    let mut numbers = vec![operation, cpu, time, context, image.len() as u64];
+    put_pairs(&mut numbers, &nonzero(image));
+    numbers
 }
 
-fn answer(answer: &Answer, before: &[u64], after: &[u64]) -> String {
-    let changes = changes(before, after);
-    let mut line = format!(
-        "{} {} {} {}",
-        answer.refusal,
-        answer.result,
-        answer.interrupt,
-        changes.len()
-    );
-    put_pairs(&mut line, &changes);
-    line
+/// The numbers of an answer.
+pub fn answer(answer: &Answer, before: &[u64], after: &[u64]) -> Vec<u64> {
+    let mut numbers = vec![answer.refusal, answer.result, answer.interrupt];
+    put_pairs(&mut numbers, &changes(before, after));
+    numbers
 }
 
-fn put_pairs(line: &mut String, pairs: &[(usize, u64)]) {
-    for (place, value) in pairs {
-        write!(line, " {place} {value}").unwrap();
-    }
+fn put_pairs(numbers: &mut Vec<u64>, pairs: &[(usize, u64)]) {
+    numbers.push(pairs.len() as u64);
+    numbers.extend(pairs.iter().flat_map(|(i, v)| [*i as u64, *v]));
 }
 
 /// The words that the call changes, with their new values.
@@ -100,6 +59,61 @@ pub fn nonzero(image: &[u64]) -> Vec<(usize, u64)> {
     words.filter(|(_, word)| *word != 0).collect()
 }
 
+/// The case that the next numbers are.
+pub fn read_case(next: &mut impl FnMut() -> u64) -> (Call, Vec<u64>) {
+    let call = Call {
+        operation: next(),
+        cpu: next(),
+        time: next(),
+        context: next(),
+    };
+    let mut image = vec![0; next() as usize];
+    read_pairs(next, &mut image);
+    (call, image)
+}
+
+pub fn read_pairs(next: &mut impl FnMut() -> u64, image: &mut [u64]) {
+    for _ in 0..next() {
+        let place = next() as usize;
+        image[place] = next();
+    }
+}
+
+fn line(numbers: Vec<u64>) -> String {
+    let words: Vec<String> = numbers.iter().map(u64::to_string).collect();
+    words.join(" ")
+}
+
+/// Prints the calls of a recorded list, and `each` generated ones of every operation.
+pub fn calls(recorded: &str, seed: u64, each: u64) -> bool {
+    let mut number = 0;
+    let mut print = |call: &Call, image: &[u64]| {
+        number += 1;
+        println!("# case {number}\n{}", line(case(call, image)));
+    };
+    for recorded in replay::words(recorded) {
+        if fits(&recorded.image) {
+            print(&recorded.call, &recorded.image);
+        }
+    }
+    let mut stream = Stream::new(seed);
+    let mut left = [each; OPERATIONS.len()];
+    while left.iter().any(|left| *left > 0) {
+        let next = stream.next();
+        let (call, image) = (&next.call, &next.image);
+        if let Ok(Expected::Known(_, after)) = expected(image, call) {
+            stream.answered(&after);
+        }
+        let short = fits(image) && nonzero(image).len() <= WORDS;
+        let wanted = left.get_mut(call.operation.wrapping_sub(1) as usize);
+        if let Some(left) = wanted.filter(|left| short && **left > 0) {
+            *left -= 1;
+            print(call, image);
+        }
+    }
+    true
+}
+
 /// Answers the list on standard input.
 pub fn answers() -> bool {
     let mut text = String::new();
@@ -113,25 +127,15 @@ pub fn answers() -> bool {
     true
 }
 
-fn answered(line: &str) -> String {
-    let mut numbers = line
+fn answered(text: &str) -> String {
+    let mut numbers = text
         .split_whitespace()
         .map(|word| word.parse::<u64>().expect("a number"));
     let mut next = || numbers.next().expect("the line is cut off");
-    let call = Call {
-        operation: next(),
-        cpu: next(),
-        time: next(),
-        context: next(),
-    };
-    let mut image = vec![0; next() as usize];
-    for _ in 0..next() {
-        let place = next() as usize;
-        image[place] = next();
-    }
+    let (call, image) = read_case(&mut next);
     match expected(&image, &call) {
-        Ok(Expected::Known(got, after)) => answer(&got, &image, &after),
+        Ok(Expected::Known(got, after)) => line(answer(&got, &image, &after)),
         Ok(Expected::Passes) => "passes".into(),
-        Err(contradiction) => panic!("{}: {line}", contradiction.0),
+        Err(contradiction) => panic!("{}: {text}", contradiction.0),
     }
 }

@@ -1,4 +1,5 @@
-//! The commands behind the scripts `run`, `lists`, `branches`, `power` and `power-table`.
+//! The commands behind the scripts `run`, `lists`, `branches`, `power`, `power-table`, and
+//! `bench/switch`.
 
 #[cfg(feature = "branches")]
 mod branches;
@@ -46,7 +47,7 @@ fn main() -> ExitCode {
         #[cfg(feature = "branches")]
         ["small", seed, count] => record::small(number(seed), number(count) as usize),
         #[cfg(feature = "branches")]
-        ["record", seed, count, to] => record::list(number(seed), number(count) as usize, to),
+        ["record", seed, count, to] => record::words(number(seed), number(count) as usize, to),
         _ => {
             eprintln!("compare run SEED COUNT");
             false

@@ -3,7 +3,7 @@
 use crate::{
     choose::{Limits, choose},
     generate::Stream,
-    list::{changes, nonzero},
+    list::{self, changes, nonzero},
 };
 use std::{fs::File, io::Write};
 
@@ -43,7 +43,7 @@ pub fn small(seed: u64, cases: usize) -> bool {
 
 /// Words of 64 bits, lowest byte first: the number of cases, then for each its call,
 /// length, words that are not 0, answer and changed words.
-pub fn list(seed: u64, cases: usize, to: &str) -> bool {
+pub fn words(seed: u64, cases: usize, to: &str) -> bool {
     let limits = Limits {
         sizes: None,
         words: 0..=400,
@@ -61,16 +61,8 @@ pub fn list(seed: u64, cases: usize, to: &str) -> bool {
     chosen.extend(choose(Stream::new(seed), TRIES, &larger));
     let mut words = vec![chosen.len() as u64];
     for case in &chosen {
-        let (call, answer) = (&case.call, &case.answer);
-        words.extend([call.operation, call.cpu, call.time, call.context]);
-        words.push(case.image.len() as u64);
-        let pairs = |list: Vec<(usize, u64)>, words: &mut Vec<u64>| {
-            words.push(list.len() as u64);
-            words.extend(list.iter().flat_map(|(i, v)| [*i as u64, *v]));
-        };
-        pairs(nonzero(&case.image), &mut words);
-        words.extend([answer.refusal, answer.result, answer.interrupt]);
-        pairs(changes(&case.image, &case.after), &mut words);
+        words.extend(list::case(&case.call, &case.image));
+        words.extend(list::answer(&case.answer, &case.image, &case.after));
     }
     let bytes: Vec<u8> = words.iter().flat_map(|word| word.to_le_bytes()).collect();
     File::create(to).unwrap().write_all(&bytes).unwrap();

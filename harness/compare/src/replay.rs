@@ -3,6 +3,7 @@
 use crate::{
     expected::{Expected, expected},
     generate::{Case, Kind},
+    list::{read_case, read_pairs},
     port, report,
 };
 use image::{Answer, Call, length};
@@ -32,27 +33,14 @@ pub fn words(path: &str) -> Vec<Recorded> {
     let mut next = || words.next().expect("the list is cut off");
     let cases = (0..next())
         .map(|_| {
-            let call = Call {
-                operation: next(),
-                cpu: next(),
-                time: next(),
-                context: next(),
-            };
-            let mut image = vec![0; next() as usize];
-            for _ in 0..next() {
-                let index = next() as usize;
-                image[index] = next();
-            }
+            let (call, image) = read_case(&mut next);
             let answer = Answer {
                 refusal: next(),
                 result: next(),
                 interrupt: next(),
             };
             let mut after = image.clone();
-            for _ in 0..next() {
-                let index = next() as usize;
-                after[index] = next();
-            }
+            read_pairs(&mut next, &mut after);
             Recorded {
                 call,
                 image,
