@@ -137,8 +137,8 @@ const RULE: &str = "---|---|---|---|---|---|---|---|";
 
 /// Prints the tables of docs/BENCHMARKS.md.
 pub fn times() -> bool {
-    if !port::exports(2) {
-        println!("The port does not export the operation: there is nothing to time.");
+    if !port::THERE {
+        println!("There is no archive of the port: there is nothing to time.");
         return false;
     }
     let clock = Bench::new(vec![1, 1]).least(|_| (), |_| ());
