@@ -70,7 +70,8 @@ pub fn call(image: &mut [u64], call: &Call) -> Result<Answer, Fault> {
 const DUE: u64 = u64::MAX;
 
 fn run(image: &mut [u64], call: &Call) -> Result<Answer, Fault> {
-    let mut built = Built::new(image, call);
+    let mut built = Built::new(image);
+    built.connect(call);
     IN_KERNEL.store(true, Ordering::Relaxed);
     let outcome = catch_unwind(AssertUnwindSafe(|| built.call(call)));
     IN_KERNEL.store(false, Ordering::Relaxed);
@@ -83,20 +84,22 @@ fn run(image: &mut [u64], call: &Call) -> Result<Answer, Fault> {
     Ok(built.read_back(image, result))
 }
 
-/// A machine built from an image, which is the kernel's until it is dropped.
+/// A machine built from an image, for one call.
 pub struct Built(Machine);
 
 impl Built {
-    /// The machine before the call, with the CPU and the clock of the call.
-    pub fn new(image: &[u64], call: &Call) -> Self {
-        let mut machine = load::machine(View(image));
+    pub fn new(image: &[u64]) -> Self {
+        Self(load::machine(View(image)))
+    }
+    /// Makes it the kernel's machine, with the CPU and the clock of the call.
+    pub fn connect(&mut self, call: &Call) {
         ipi::take_wakeup();
         signal::take_called();
         time::set(call.time);
-        connect(&mut machine, call.cpu as usize);
-        Self(machine)
+        connect(&mut self.0, call.cpu as usize);
     }
-    /// The kernel's function alone; it unwinds where it has no answer.
+    /// The kernel's function alone, on the machine that is its own; it unwinds where it
+    /// has no answer.
     pub fn call(&self, call: &Call) -> u64 {
         operation(&self.0, call)
     }

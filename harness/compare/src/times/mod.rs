@@ -6,75 +6,74 @@ use crate::port;
 use image::{Answer, Call, NUMBER_MAX, View, check, tidy};
 use images::{CALL, Size};
 use kernel::oracle::{self, Built};
-use std::{
-    hint::black_box,
-    time::{Duration, Instant},
-};
+use std::{hint::black_box, time::Instant};
 
-const ROUNDS: usize = 15;
-const CALLS: u32 = 200;
+/// How many calls are timed together, and how often. Each call has an image and a machine
+/// of its own.
+const BATCH: usize = 32;
+const BATCHES: usize = 60;
 
-/// What a call is made on. Before each timed call both are made anew, so that all ways are
-/// timed with caches and branch predictor in the same condition.
+/// What is timed, on an image or on a machine.
+type Way = fn(&mut [u64], &mut Built);
+
 struct Bench {
     start: Vec<u64>,
-    image: Vec<u64>,
-    built: Option<Built>,
+    images: Vec<Vec<u64>>,
+    machines: Vec<Built>,
 }
 
 impl Bench {
     fn new(start: Vec<u64>) -> Self {
         Self {
-            image: start.clone(),
+            images: vec![start.clone(); BATCH],
+            machines: Vec::new(),
             start,
-            built: None,
         }
     }
-    fn copy(&mut self) {
-        self.image.copy_from_slice(black_box(&self.start));
+    /// All images and machines are again those before the call.
+    fn prepare(&mut self) {
+        self.machines.clear();
+        for _ in 0..BATCH {
+            self.machines.push(Built::new(black_box(&self.start)));
+        }
+        for image in &mut self.images {
+            image.copy_from_slice(black_box(&self.start));
+        }
     }
-    fn build(&mut self) {
-        // The old machine is the kernel's until it is dropped.
-        self.built = None;
-        self.built = Some(Built::new(black_box(&self.start), &CALL));
+    /// The mean of a batch, in ns a call.
+    fn batch(&mut self, way: Way) -> f64 {
+        self.prepare();
+        let clock = Instant::now();
+        for (image, machine) in self.images.iter_mut().zip(&mut self.machines) {
+            way(black_box(image), black_box(machine));
+        }
+        clock.elapsed().as_nanos() as f64 / BATCH as f64
     }
-    /// What is timed on the image has it last made, and the machine's memory free.
-    fn image_last(&mut self) {
-        self.build();
-        self.built = None;
-        self.copy();
-    }
-    fn machine_last(&mut self) {
-        self.copy();
-        self.build();
-    }
-    /// The least mean of the rounds, in ns.
-    fn least(&mut self, prepare: fn(&mut Self), timed: fn(&mut Self)) -> f64 {
-        let round = |bench: &mut Self| {
-            let mut sum = Duration::ZERO;
-            for _ in 0..CALLS {
-                prepare(bench);
-                let clock = Instant::now();
-                timed(black_box(bench));
-                sum += clock.elapsed();
+    /// The least of each way's batches. The ways take turns, so that other work on the
+    /// computer meets all of them alike.
+    fn least<const WAYS: usize>(&mut self, ways: [Way; WAYS]) -> [f64; WAYS] {
+        let mut least = [f64::MAX; WAYS];
+        for _ in 0..BATCHES {
+            for (least, way) in least.iter_mut().zip(ways) {
+                *least = least.min(self.batch(way));
             }
-            sum.as_nanos() as f64 / f64::from(CALLS)
-        };
-        (0..ROUNDS).map(|_| round(self)).fold(f64::MAX, f64::min)
+        }
+        least
     }
 }
 
-fn whole_call(bench: &mut Bench) {
-    black_box(port::call(&mut bench.image, &CALL));
+fn whole_call(image: &mut [u64], _: &mut Built) {
+    black_box(port::call(image, &CALL));
 }
 
 /// Refused by row 5, behind the check of the whole image.
-fn check_only(bench: &mut Bench) {
-    let no_such_cpu = Call {
-        cpu: u64::MAX,
-        ..CALL
-    };
-    black_box(port::call(&mut bench.image, &no_such_cpu));
+const NO_SUCH_CPU: Call = Call {
+    cpu: u64::MAX,
+    ..CALL
+};
+
+fn check_only(image: &mut [u64], _: &mut Built) {
+    black_box(port::call(image, &NO_SUCH_CPU));
 }
 
 /// Each word compared with one bound, up to the first that is over it.
@@ -82,19 +81,20 @@ fn plain(image: &[u64], bound: u64) -> bool {
     image.iter().all(|word| *word <= bound)
 }
 
-fn plain_pass(bench: &mut Bench) {
-    black_box(plain(&bench.image, black_box(NUMBER_MAX)));
+fn plain_pass(image: &mut [u64], _: &mut Built) {
+    black_box(plain(image, black_box(NUMBER_MAX)));
 }
 
-fn kernel_only(bench: &mut Bench) {
-    let built = bench.built.as_ref().expect("a machine");
-    black_box(built.call(&CALL));
+fn kernel_only(_: &mut [u64], machine: &mut Built) {
+    machine.connect(&CALL);
+    black_box(machine.call(&CALL));
 }
 
-fn kernel_with_image(bench: &mut Bench) {
-    let mut built = Built::new(&bench.image, &CALL);
-    let result = built.call(&CALL);
-    black_box(built.read_back(&mut bench.image, result));
+fn kernel_with_image(image: &mut [u64], _: &mut Built) {
+    let mut machine = Built::new(image);
+    machine.connect(&CALL);
+    let result = machine.call(&CALL);
+    black_box(machine.read_back(image, result));
 }
 
 /// The decision must be the one that is meant, and the port's the kernel's.
@@ -105,24 +105,24 @@ fn agrees(start: &[u64], result: u64) -> bool {
     assert_eq!((answer.refusal, answer.result), (0, result));
     assert!(tidy::holds(View(start)) || start[1] <= start[0]);
     assert!(plain(start, NUMBER_MAX));
-    let no_such_cpu = Call {
-        cpu: u64::MAX,
-        ..CALL
-    };
-    port::call(&mut ours, &no_such_cpu) == Some(Answer::refused(5))
+    port::call(&mut ours, &NO_SUCH_CPU) == Some(Answer::refused(5))
         && port::call(&mut ours, &CALL) == Some(answer)
         && ours == theirs
 }
 
-fn row(first: &str, start: Vec<u64>, result: u64, clock: f64) -> bool {
+fn row(first: &str, start: Vec<u64>, result: u64) -> bool {
     if !agrees(&start, result) {
         println!("the port does not answer as the kernel does: use run");
         return false;
     }
     let mut bench = Bench::new(start);
-    let [port, check, plain, both] = [whole_call, check_only, plain_pass, kernel_with_image]
-        .map(|timed| bench.least(Bench::image_last, timed) - clock);
-    let kernel = bench.least(Bench::machine_last, kernel_only) - clock;
+    let [port, kernel, both, check, plain] = bench.least([
+        whole_call,
+        kernel_only,
+        kernel_with_image,
+        check_only,
+        plain_pass,
+    ]);
     println!(
         "| {first} | {port:.0} | {kernel:.0} | {both:.0} | {check:.0} | {plain:.0} | {:.2} | {:.2} | {:.2} |",
         port / kernel,
@@ -141,7 +141,6 @@ pub fn times() -> bool {
         println!("There is no archive of the port: there is nothing to time.");
         return false;
     }
-    let clock = Bench::new(vec![1, 1]).least(|_| (), |_| ());
     println!("| CPUs | contexts | entries | {COLUMNS}\n|---|---|---|{RULE}");
     let mut good = true;
     for contexts in [2, 16, 64] {
@@ -157,7 +156,7 @@ pub fn times() -> bool {
                 let first = format!("{cpus} | {contexts} | {}", size.entries);
                 let result = if size.entries == 0 { 2 } else { 1 };
                 if last != Some(size.entries) {
-                    good &= row(&first, images::last_wins(&size).image(), result, clock);
+                    good &= row(&first, images::last_wins(&size).image(), result);
                 }
                 last = Some(size.entries);
             }
@@ -175,7 +174,7 @@ pub fn times() -> bool {
         ("8 wake-ups before it", images::woken(&size)),
         ("idle steals from the next CPU", images::stolen(&size)),
     ] {
-        good &= row(name, machine.image(), 1, clock);
+        good &= row(name, machine.image(), 1);
     }
     good
 }
