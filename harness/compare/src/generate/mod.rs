@@ -2,6 +2,7 @@
 
 mod aim;
 mod breakage;
+mod case;
 mod damage;
 mod full;
 pub mod machine;
@@ -13,50 +14,15 @@ mod tidy;
 mod untidy;
 mod values;
 
+#[cfg(feature = "branches")]
+pub use case::KINDS;
+pub use case::{Case, Kind};
+
+use case::Choice;
 use image::{Call, NUMBER_MAX, View, block as b, check};
 use rng::Rng;
 use tidy::Size;
 use values::Scale;
-
-#[derive(Clone, Copy, Debug, PartialEq, Eq)]
-pub enum Kind {
-    Tidy,
-    Untidy,
-    Full,
-    Damaged,
-    Chain,
-    /// Read from a recorded list, not generated.
-    Recorded,
-}
-
-#[cfg(feature = "branches")]
-pub const KINDS: [(Kind, &str); 5] = [
-    (Kind::Tidy, "tidy"),
-    (Kind::Untidy, "untidy"),
-    (Kind::Full, "full"),
-    (Kind::Damaged, "damaged"),
-    (Kind::Chain, "chain"),
-];
-
-#[derive(Clone)]
-pub struct Case {
-    pub kind: Kind,
-    pub image: Vec<u64>,
-    pub call: Call,
-    /// Whether the image is the one that the call before left.
-    pub chained: bool,
-}
-
-/// Which cases a stream has.
-#[derive(Clone, Copy, PartialEq, Eq)]
-enum Choice {
-    All,
-    /// Only machines of one or two CPUs and few contexts.
-    #[cfg_attr(not(feature = "branches"), allow(dead_code))]
-    Small,
-    /// Only chains, and long ones.
-    Chains,
-}
 
 pub struct Stream {
     rng: Rng,

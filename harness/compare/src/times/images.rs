@@ -23,13 +23,29 @@ pub struct Size {
 }
 
 impl Size {
+    /// Queues of 0, 8, 32 and 63 entries, as far as there are contexts that are neither
+    /// idle nor the holder.
+    pub fn all() -> Vec<Self> {
+        let mut all = Vec::new();
+        for (contexts, cpus) in [2, 16, 64]
+            .into_iter()
+            .flat_map(|n| [1, 2, 4].map(|c| (n, c)))
+        {
+            let size = |entries| Self {
+                cpus,
+                contexts,
+                entries,
+            };
+            let room = contexts - size(0).holder() - 1;
+            let mut entries = [0, 8, 32, 63].map(|wanted| room.min(wanted)).to_vec();
+            entries.dedup();
+            all.extend(entries.into_iter().map(size));
+        }
+        all
+    }
     /// Each CPU has its idle context where there are contexts enough.
     fn holder(&self) -> usize {
         self.cpus.min(self.contexts - 1)
-    }
-    /// How many contexts are neither idle nor the holder.
-    pub fn room(&self) -> usize {
-        self.contexts - self.holder() - 1
     }
 }
 

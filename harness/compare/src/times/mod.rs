@@ -142,39 +142,25 @@ pub fn times() -> bool {
         return false;
     }
     println!("| CPUs | contexts | entries | {COLUMNS}\n|---|---|---|{RULE}");
-    let mut good = true;
-    for contexts in [2, 16, 64] {
-        for cpus in [1, 2, 4] {
-            let mut last = None;
-            for wanted in [0, 8, 32, 63] {
-                let mut size = Size {
-                    cpus,
-                    contexts,
-                    entries: 0,
-                };
-                size.entries = wanted.min(size.room());
-                let first = format!("{cpus} | {contexts} | {}", size.entries);
-                let result = if size.entries == 0 { 2 } else { 1 };
-                if last != Some(size.entries) {
-                    good &= row(&first, images::last_wins(&size).image(), result);
-                }
-                last = Some(size.entries);
-            }
-        }
-    }
+    let good = Size::all().iter().all(|size| {
+        let first = format!("{} | {} | {}", size.cpus, size.contexts, size.entries);
+        // With an empty queue the holder stays.
+        let result = if size.entries == 0 { 2 } else { 1 };
+        row(&first, images::last_wins(size).image(), result)
+    });
     println!("\n| 4 CPUs, 64 contexts, 32 entries | {COLUMNS}\n|---|{RULE}");
     let size = Size {
         cpus: 4,
         contexts: 64,
         entries: 32,
     };
-    for (name, machine) in [
+    let others = [
         ("the last entry wins", images::last_wins(&size)),
         ("the first entry wins", images::first_wins(&size)),
         ("8 wake-ups before it", images::woken(&size)),
         ("idle steals from the next CPU", images::stolen(&size)),
-    ] {
-        good &= row(name, machine.image(), 1);
-    }
-    good
+    ];
+    good && others
+        .iter()
+        .all(|(name, machine)| row(name, machine.image(), 1))
 }
