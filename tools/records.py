@@ -141,27 +141,30 @@ def sized(words_fn, typ, n, extra=""):
         words_fn, typ, words_fn, n, words_fn, extra, words_fn)
 
 
+def pair(crate, typ, fields, fn, enum, setter, what, uses=()):
+    """Both files of a record that has one enum: `enum` names its type and the prefix of its number and inverse."""
+    own = "Rattle.%s.specs." % crate
+    words_fn, of_fn = fn + "-words", fn + "-of"
+    declared, (enum_typ, prefix) = own + "declared.%s.{%s}" % (typ, typ), enum
+    inverse = own + "%s.{%s-number, %s-of, %s-back}" % (prefix.capitalize(), prefix, prefix, prefix)
+    write("crates/%s/specs/Words.antt" % crate, what[0], [declared, inverse, *uses],
+          [words(words_fn, typ, fields), of(of_fn, typ, fields), back(of_fn, words_fn, typ, fields),
+           sized(words_fn, typ, len(fields))])
+    write("crates/%s/specs/With.antt" % crate, what[1], [declared, own + "declared.%s.{%s}" % (enum_typ, enum_typ)],
+          setters(setter, typ, fields, enum_typ))
+
+
 def main():
-    context = "Rattle.context.specs."
-    write("crates/context/specs/Words.antt", "The 26 words of a context's record, and the record of the words.",
-          [context + "declared.Context.{Context}", context + "Status.{status-number, status-of, status-back}",
-           "Rattle.columns.specs.Common.{mark, mark-back}"],
-          [words("context-words", "Context", CONTEXT), of("context-of", "Context", CONTEXT),
-           back("context-of", "context-words", "Context", CONTEXT), sized("context-words", "Context", 26)])
-    write("crates/context/specs/With.antt", "A context's record with one field changed.",
-          [context + "declared.Context.{Context}", context + "declared.Status.{Status}"],
-          setters("with", "Context", CONTEXT, "Status"))
-    stats = "Rattle.cpu_stats.specs."
-    write("crates/cpu_stats/specs/Words.antt", "The six words of a CPU's statistics, and the statistics of the words.",
-          [stats + "declared.CpuStats.{CpuStats}", stats + "State.{state-number, state-of, state-back}"],
-          [words("stats-words", "CpuStats", STATS), of("stats-of", "CpuStats", STATS),
-           back("stats-of", "stats-words", "CpuStats", STATS), sized("stats-words", "CpuStats", 6)])
-    write("crates/cpu_stats/specs/With.antt", "A CPU's statistics with one field changed.",
-          [stats + "declared.CpuStats.{CpuStats}", stats + "declared.CpuState.{CpuState}"],
-          setters("stats", "CpuStats", STATS, "CpuState"))
+    marks = "Rattle.columns.specs.Common.{mark, mark-back}"
+    pair("context", "Context", CONTEXT, "context", ("Status", "status"), "with",
+         ("The 26 words of a context's record, and the record of the words.",
+          "A context's record with one field changed."), [marks])
+    pair("cpu_stats", "CpuStats", STATS, "stats", ("CpuState", "state"), "stats",
+         ("The six words of a CPU's statistics, and the statistics of the words.",
+          "A CPU's statistics with one field changed."))
     percpu = "Rattle.percpu.specs."
     write("crates/percpu/specs/Words.antt", "The first 21 words of a CPU's block, and the scalars of the words.",
-          [percpu + "declared.PercpuBlock.{PercpuBlock}", "Rattle.columns.specs.Common.{mark, mark-back}",
+          [percpu + "declared.PercpuBlock.{PercpuBlock}", marks,
            "Rattle.columns.specs.Blocks.{part}", "Rattle.cpu_stats.specs.declared.CpuStats.{CpuStats}",
            "Rattle.cpu_stats.specs.Words.{stats-words, stats-of, stats-of-words}"],
           [words("block-words", "PercpuBlock", BLOCK), of("block-of", "PercpuBlock", BLOCK),

@@ -1,4 +1,4 @@
-// Document 01's cases that concern the image and operations 4 to 7.
+// Document 01's cases that are not starred, its traps, and its table of refused calls.
 fn main() {
     replay::run();
 }

@@ -1,4 +1,4 @@
-// The kernel's recorded answers (harness/recorded), for the operations that are there.
+// The kernel's answers to recorded and generated calls of every operation (harness/lists).
 fn main() {
     replay::run();
 }

@@ -8,16 +8,15 @@ use crate::{
 use image::{Answer, Call};
 
 pub struct Limits {
-    pub cpus: u64,
-    pub contexts: u64,
+    /// The most CPUs and contexts; without it also images whose length does not follow
+    /// from their sizes are taken.
+    pub sizes: Option<(u64, u64)>,
     /// How many words are not 0, before the call.
     pub words: std::ops::RangeInclusive<usize>,
     /// How often each feature is wanted, if there are such cases.
     pub times: u32,
     /// How often each refusal is wanted.
     pub refused: u32,
-    /// Whether images whose length does not follow from their sizes are taken.
-    pub any_length: bool,
     pub cases: usize,
 }
 
@@ -37,10 +36,10 @@ pub fn choose(mut stream: Stream, tries: u64, limits: &Limits) -> Vec<Chosen> {
     for _ in 0..tries {
         let seen = branches::next(&mut stream);
         let words = seen.case.image.iter().filter(|word| **word != 0).count();
-        let sized = match seen.answer.refusal {
-            1 | 2 => limits.any_length,
-            _ => seen.case.image[0] <= limits.cpus && seen.case.image[1] <= limits.contexts,
-        };
+        let sized = limits.sizes.is_none_or(|(cpus, contexts)| {
+            let image = &seen.case.image;
+            !matches!(seen.answer.refusal, 1 | 2) && image[0] <= cpus && image[1] <= contexts
+        });
         if sized && limits.words.contains(&words) {
             let chosen = features(seen, words);
             for feature in &chosen.features {
@@ -121,18 +120,4 @@ fn greedy(mut from: Vec<Chosen>, features: usize, limits: &Limits) -> Vec<Chosen
     }
     taken.sort_by_key(|case| (case.answer.refusal, case.call.operation, case.answer.result));
     taken
-}
-
-/// The words that the call changes, with their new values.
-pub fn changes(case: &Chosen) -> Vec<(usize, u64)> {
-    let pairs = case.image.iter().zip(&case.after).enumerate();
-    pairs
-        .filter(|(_, (before, after))| before != after)
-        .map(|(index, (_, after))| (index, *after))
-        .collect()
-}
-
-pub fn nonzero(case: &Chosen) -> Vec<(usize, u64)> {
-    let words = case.image.iter().copied().enumerate();
-    words.filter(|(_, word)| *word != 0).collect()
 }

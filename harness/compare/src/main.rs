@@ -1,4 +1,5 @@
-//! The commands behind the scripts `run`, `branches`, `power` and `power-table`.
+//! The commands behind the scripts `run`, `lists`, `branches`, `power`, `power-table`, and
+//! `bench/switch`.
 
 #[cfg(feature = "branches")]
 mod branches;
@@ -8,6 +9,7 @@ mod choose;
 mod edits;
 mod expected;
 mod generate;
+mod list;
 mod port;
 #[cfg(feature = "oracle")]
 mod power;
@@ -16,6 +18,8 @@ mod record;
 mod replay;
 mod report;
 mod run;
+#[cfg(feature = "oracle")]
+mod times;
 
 use std::process::ExitCode;
 
@@ -27,9 +31,13 @@ fn main() -> ExitCode {
     let number = |text: &str| text.parse::<u64>().expect("a number");
     let good = match words[..] {
         ["run", seed, count] => run::run(number(seed), number(count)),
-        ["replay", list] if list.ends_with(".txt") => replay::text(list),
-        ["replay", list] => replay::words(list),
+        ["chain", seed, calls] => run::chain(number(seed), number(calls)),
+        ["replay", list] => replay::replay(list),
+        ["calls", recorded, seed, each] => list::calls(recorded, number(seed), number(each)),
+        ["answers"] => list::answers(),
         ["edit", list, root] => edit(list, root),
+        #[cfg(feature = "oracle")]
+        ["times"] => times::times(),
         #[cfg(feature = "oracle")]
         ["answers", seed, count, to] => power::answers(number(seed), number(count), to),
         #[cfg(feature = "oracle")]
@@ -39,7 +47,7 @@ fn main() -> ExitCode {
         #[cfg(feature = "branches")]
         ["small", seed, count] => record::small(number(seed), number(count) as usize),
         #[cfg(feature = "branches")]
-        ["record", seed, count, to] => record::list(number(seed), number(count) as usize, to),
+        ["record", seed, count, to] => record::words(number(seed), number(count) as usize, to),
         _ => {
             eprintln!("compare run SEED COUNT");
             false

@@ -1,8 +1,9 @@
 //! Writes the recorded lists: one of words for programs, one of text for scripts.
 
 use crate::{
-    choose::{Limits, changes, choose, nonzero},
+    choose::{Limits, choose},
     generate::Stream,
+    list::{self, changes, nonzero},
 };
 use std::{fs::File, io::Write};
 
@@ -12,12 +13,10 @@ const TRIES: u64 = 400_000;
 /// the image's length is the one that its sizes give.
 pub fn small(seed: u64, cases: usize) -> bool {
     let limits = Limits {
-        cpus: 2,
-        contexts: 4,
+        sizes: Some((2, 4)),
         words: 0..=120,
         times: 12,
         refused: 2,
-        any_length: false,
         cases,
     };
     let pairs = |words: Vec<(usize, u64)>| {
@@ -32,11 +31,11 @@ pub fn small(seed: u64, cases: usize) -> bool {
             call.cpu,
             call.time,
             call.context,
-            pairs(nonzero(&case)),
+            pairs(nonzero(&case.image)),
             answer.refusal,
             answer.result,
             answer.interrupt,
-            pairs(changes(&case)),
+            pairs(changes(&case.image, &case.after)),
         );
     }
     true
@@ -44,14 +43,12 @@ pub fn small(seed: u64, cases: usize) -> bool {
 
 /// Words of 64 bits, lowest byte first: the number of cases, then for each its call,
 /// length, words that are not 0, answer and changed words.
-pub fn list(seed: u64, cases: usize, to: &str) -> bool {
+pub fn words(seed: u64, cases: usize, to: &str) -> bool {
     let limits = Limits {
-        cpus: 4,
-        contexts: 64,
+        sizes: None,
         words: 0..=400,
         times: 40,
         refused: 8,
-        any_length: true,
         cases,
     };
     let mut chosen = choose(Stream::small(seed), TRIES, &limits);
@@ -64,16 +61,8 @@ pub fn list(seed: u64, cases: usize, to: &str) -> bool {
     chosen.extend(choose(Stream::new(seed), TRIES, &larger));
     let mut words = vec![chosen.len() as u64];
     for case in &chosen {
-        let (call, answer) = (&case.call, &case.answer);
-        words.extend([call.operation, call.cpu, call.time, call.context]);
-        words.push(case.image.len() as u64);
-        let pairs = |list: Vec<(usize, u64)>, words: &mut Vec<u64>| {
-            words.push(list.len() as u64);
-            words.extend(list.iter().flat_map(|(i, v)| [*i as u64, *v]));
-        };
-        pairs(nonzero(case), &mut words);
-        words.extend([answer.refusal, answer.result, answer.interrupt]);
-        pairs(changes(case), &mut words);
+        words.extend(list::case(&case.call, &case.image));
+        words.extend(list::answer(&case.answer, &case.image, &case.after));
     }
     let bytes: Vec<u8> = words.iter().flat_map(|word| word.to_le_bytes()).collect();
     File::create(to).unwrap().write_all(&bytes).unwrap();

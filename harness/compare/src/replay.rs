@@ -3,19 +3,29 @@
 use crate::{
     expected::{Expected, expected},
     generate::{Case, Kind},
+    list::{read_case, read_pairs},
     port, report,
 };
 use image::{Answer, Call, length};
 
-struct Recorded {
-    call: Call,
-    image: Vec<u64>,
+pub struct Recorded {
+    pub call: Call,
+    pub image: Vec<u64>,
     answer: Answer,
     after: Vec<u64>,
 }
 
+/// A list, of text or of words.
+pub fn replay(path: &str) -> bool {
+    let cases = match path.ends_with(".txt") {
+        true => text(path),
+        false => words(path),
+    };
+    all(path, cases)
+}
+
 /// The list of words.
-pub fn words(path: &str) -> bool {
+pub fn words(path: &str) -> Vec<Recorded> {
     let bytes = std::fs::read(path).unwrap();
     let mut words = bytes
         .chunks_exact(8)
@@ -23,27 +33,14 @@ pub fn words(path: &str) -> bool {
     let mut next = || words.next().expect("the list is cut off");
     let cases = (0..next())
         .map(|_| {
-            let call = Call {
-                operation: next(),
-                cpu: next(),
-                time: next(),
-                context: next(),
-            };
-            let mut image = vec![0; next() as usize];
-            for _ in 0..next() {
-                let index = next() as usize;
-                image[index] = next();
-            }
+            let (call, image) = read_case(&mut next);
             let answer = Answer {
                 refusal: next(),
                 result: next(),
                 interrupt: next(),
             };
             let mut after = image.clone();
-            for _ in 0..next() {
-                let index = next() as usize;
-                after[index] = next();
-            }
+            read_pairs(&mut next, &mut after);
             Recorded {
                 call,
                 image,
@@ -52,13 +49,12 @@ pub fn words(path: &str) -> bool {
             }
         })
         .collect();
-    let good = all(path, cases);
     assert_eq!(words.next(), None, "the list is too long");
-    good
+    cases
 }
 
 /// The list of text.
-pub fn text(path: &str) -> bool {
+fn text(path: &str) -> Vec<Recorded> {
     let text = std::fs::read_to_string(path).unwrap();
     let number = |text: &str| text.parse::<u64>().expect("a number");
     let fill = |image: &mut [u64], pairs: &str| {
@@ -94,7 +90,7 @@ pub fn text(path: &str) -> bool {
             after,
         }
     };
-    all(path, text.lines().map(case).collect())
+    text.lines().map(case).collect()
 }
 
 fn all(path: &str, cases: Vec<Recorded>) -> bool {
@@ -106,6 +102,7 @@ fn all(path: &str, cases: Vec<Recorded>) -> bool {
             kind: Kind::Recorded,
             image: recorded.image.clone(),
             call: recorded.call,
+            chained: false,
         };
         let want = (&recorded.answer, &recorded.after[..]);
         let kernel = match expected(&case.image, &case.call) {

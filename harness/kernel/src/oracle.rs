@@ -70,34 +70,61 @@ pub fn call(image: &mut [u64], call: &Call) -> Result<Answer, Fault> {
 const DUE: u64 = u64::MAX;
 
 fn run(image: &mut [u64], call: &Call) -> Result<Answer, Fault> {
-    let mut machine = load::machine(View(image));
-    ipi::take_wakeup();
-    signal::take_called();
-    time::set(call.time);
-    connect(&mut machine, call.cpu as usize);
+    let mut built = Built::new(image);
+    built.connect(call);
     IN_KERNEL.store(true, Ordering::Relaxed);
-    let outcome = catch_unwind(AssertUnwindSafe(|| operation(&machine, call)));
+    let outcome = catch_unwind(AssertUnwindSafe(|| built.call(call)));
     IN_KERNEL.store(false, Ordering::Relaxed);
-    disconnect();
     let result = outcome.map_err(|payload| {
         if payload.is::<spin::WouldWait>() {
             return Fault::Waits;
         }
         Fault::Panics(format!("{:?}", payload.downcast_ref::<&str>()))
     })?;
-    for block in machine.blocks.iter_mut().flatten() {
-        let peaks = block.switch_internals.peaks();
-        if let Some(which) = peaks.iter().position(|peak| *peak > ROOM) {
-            branches::no_room(which);
-            return Ok(Answer::refused(9));
+    Ok(built.read_back(image, result))
+}
+
+/// A machine built from an image, for one call.
+pub struct Built(Machine);
+
+impl Built {
+    pub fn new(image: &[u64]) -> Self {
+        Self(load::machine(View(image)))
+    }
+    /// Makes it the kernel's machine, with the CPU and the clock of the call.
+    pub fn connect(&mut self, call: &Call) {
+        ipi::take_wakeup();
+        signal::take_called();
+        time::set(call.time);
+        connect(&mut self.0, call.cpu as usize);
+    }
+    /// The kernel's function alone, on the machine that is its own; it unwinds where it
+    /// has no answer.
+    pub fn call(&self, call: &Call) -> u64 {
+        operation(&self.0, call)
+    }
+    /// The answer of a call with this result; `image` becomes the image after it.
+    pub fn read_back(&mut self, image: &mut [u64], result: u64) -> Answer {
+        for block in self.0.blocks.iter_mut().flatten() {
+            let peaks = block.switch_internals.peaks();
+            if let Some(which) = peaks.iter().position(|peak| *peak > ROOM) {
+                branches::no_room(which);
+                return Answer::refused(9);
+            }
+        }
+        store::machine(&mut self.0, image);
+        Answer {
+            refusal: 0,
+            result,
+            interrupt: ipi::take_wakeup().into(),
         }
     }
-    store::machine(&mut machine, image);
-    Ok(Answer {
-        refusal: 0,
-        result,
-        interrupt: ipi::take_wakeup().into(),
-    })
+}
+
+impl Drop for Built {
+    fn drop(&mut self) {
+        disconnect();
+    }
 }
 
 fn operation(machine: &Machine, call: &Call) -> u64 {

@@ -5,32 +5,40 @@ use kernel::oracle;
 
 const SLICE: u64 = 9 << 30;
 
+const OTHER: usize = 2 + c::WORDS;
+const BLOCK: usize = 2 + 2 * c::WORDS;
+
+fn put(image: &mut [u64], at: usize, words: &[(usize, u64)]) {
+    for (word, value) in words {
+        image[at + word] = *value;
+    }
+}
+
 /// One CPU; context 0 is idle, current and in charge, context 1 waits in the queue.
 fn example() -> Vec<u64> {
+    let (vd, weight) = (9_437_184, 1024);
     let mut image = vec![0; length(1, 2)];
-    image[0] = 1;
-    image[1] = 2;
-    let (idle, other, block) = (2, 2 + c::WORDS, 2 + 2 * c::WORDS);
-    image[idle + c::CURRENTLY_SCHEDULED] = 1;
-    image[other + c::DEBUG_ID] = 1;
-    image[other + c::SCHED_AFFINITY] = u64::MAX;
-    image[other + c::USERSPACE] = 1;
-    image[other + c::PRIO] = 20;
-    image[other + c::VD] = 9_437_184;
-    image[other + c::REM_SLICE] = SLICE;
-    image[other + c::IS_ACTIVE] = 1;
-    image[other + c::HAS_KEY] = 1;
-    image[other + c::KEY_VD] = 9_437_184;
-    image[other + c::KEY_REM_SLICE] = SLICE;
-    image[block + b::PRESENT] = 1;
-    image[block + b::STEAL_COUNTER] = 1;
-    image[block + b::TOTAL_WEIGHT] = 1024;
-    image[block + b::QUEUE_COUNT] = 1;
-    image[block + b::KEY_VD] = 9_437_184;
-    image[block + b::KEY_REM_SLICE] = SLICE;
-    image[block + b::KEY_ID] = 1;
-    image[block + b::ENTRY_WEIGHT] = 1024;
-    image[block + b::ENTRY_CONTEXT] = 1;
+    put(&mut image, 0, &[(0, 1), (1, 2)]);
+    put(&mut image, 2, &[(c::CURRENTLY_SCHEDULED, 1)]);
+    let key = [(c::HAS_KEY, 1), (c::KEY_VD, vd), (c::KEY_REM_SLICE, SLICE)];
+    let may_run = [(c::SCHED_AFFINITY, u64::MAX), (c::USERSPACE, 1)];
+    let share = [(c::VD, vd), (c::REM_SLICE, SLICE), (c::IS_ACTIVE, 1)];
+    put(&mut image, OTHER, &[(c::DEBUG_ID, 1), (c::PRIO, 20)]);
+    put(&mut image, OTHER, &may_run);
+    put(&mut image, OTHER, &share);
+    put(&mut image, OTHER, &key);
+    let single = [(b::PRESENT, 1), (b::STEAL_COUNTER, 1)];
+    let queue = [(b::TOTAL_WEIGHT, weight), (b::QUEUE_COUNT, 1)];
+    let entry = [
+        (b::KEY_VD, vd),
+        (b::KEY_REM_SLICE, SLICE),
+        (b::KEY_ID, 1),
+        (b::ENTRY_WEIGHT, weight),
+        (b::ENTRY_CONTEXT, 1),
+    ];
+    put(&mut image, BLOCK, &single);
+    put(&mut image, BLOCK, &queue);
+    put(&mut image, BLOCK, &entry);
     image
 }
 
@@ -55,10 +63,9 @@ fn worked_example() {
     let switch = call(2, 2_250_000, 0);
     assert_eq!(check::refusal(&image, &switch), 0);
     assert_eq!(oracle::call(&mut image, &switch), answer(1));
-    let block = 2 + 2 * c::WORDS;
-    assert_eq!(image[block + b::SCHED_CTXT], 1);
-    assert_eq!(image[block + b::CURRENT_CTXT], 1);
-    assert_eq!(image[block + b::V], 1_048_576);
+    assert_eq!(image[BLOCK + b::SCHED_CTXT], 1);
+    assert_eq!(image[BLOCK + b::CURRENT_CTXT], 1);
+    assert_eq!(image[BLOCK + b::V], 1_048_576);
 }
 
 fn ticks() {
@@ -66,18 +73,18 @@ fn ticks() {
     assert_eq!(oracle::call(&mut image, &call(1, 2_250_000, 0)), answer(0));
     assert_eq!(oracle::call(&mut image, &call(1, 2_250_000, 0)), answer(0));
     assert_eq!(oracle::call(&mut image, &call(1, 2_250_000, 0)), answer(1));
-    assert_eq!(image[2 + 2 * c::WORDS + b::V], 1_048_576);
+    assert_eq!(image[BLOCK + b::V], 1_048_576);
 }
 
 fn records() {
     let mut image = example();
     assert_eq!(oracle::call(&mut image, &call(6, 0, 1)), answer(1));
-    assert_eq!(image[2 + c::WORDS + c::STATUS], c::BLOCKED);
+    assert_eq!(image[OTHER + c::STATUS], c::BLOCKED);
     assert_eq!(oracle::call(&mut image, &call(7, 0, 1)), answer(0));
     assert_eq!(oracle::call(&mut image, &call(4, 0, 1)), answer(1));
     assert_eq!(oracle::call(&mut image, &call(7, 0, 1)), answer(1));
-    assert_eq!(image[2 + c::WORDS + c::STATUS], c::STOPPED);
-    assert_eq!(image[2 + 2 * c::WORDS + b::LOCAL_COUNT], 1);
+    assert_eq!(image[OTHER + c::STATUS], c::STOPPED);
+    assert_eq!(image[BLOCK + b::LOCAL_COUNT], 1);
 }
 
 fn without_answer() {
@@ -88,7 +95,7 @@ fn without_answer() {
         oracle::call(&mut image, &direct),
         Err(oracle::Fault::Panics(_))
     ));
-    image[2 + c::WORDS + c::LOCK] = 1;
+    image[OTHER + c::LOCK] = 1;
     let block = call(6, 0, 1);
     assert_eq!(check::refusal(&image, &block), 6);
     assert_eq!(oracle::call(&mut image, &block), Err(oracle::Fault::Waits));

@@ -28,26 +28,17 @@ pub fn break_structure(rng: &mut Rng, image: &mut [u64]) {
             let at = block + b::KEY_ID + rng.below(queue);
             image[at] = rng.pick(&[image[at] ^ 1, image[at] + 1, 0]);
         }
-        4 if queue > 1 => {
-            let slot = rng.within(1, queue - 1);
-            swap(rng, image, block, b::COLUMNS[0].1, slot);
-        }
+        4 if queue > 1 => swap(rng, image, block, b::COLUMNS[0]),
         5 if queue > 1 => {
             // Equal deadlines: the larger slice must come first, then the smaller id.
             let slot = rng.within(1, queue - 1);
-            image[block + b::KEY_VD + slot] = image[block + b::KEY_VD + slot - 1];
+            repeat(image, block + b::KEY_VD + slot);
             if rng.once_in(2) {
-                image[block + b::KEY_REM_SLICE + slot] = image[block + b::KEY_REM_SLICE + slot - 1];
+                repeat(image, block + b::KEY_REM_SLICE + slot);
             }
         }
-        6 if timers > 1 => {
-            let slot = rng.within(1, timers - 1);
-            swap(rng, image, block, b::COLUMNS[1].1, slot);
-        }
-        7 if timers > 1 => {
-            let slot = rng.within(1, timers - 1);
-            image[block + b::TIMER_WAKE + slot] = image[block + b::TIMER_WAKE + slot - 1];
-        }
+        6 if timers > 1 => swap(rng, image, block, b::COLUMNS[1]),
+        7 if timers > 1 => repeat(image, block + b::TIMER_WAKE + rng.within(1, timers - 1)),
         _ => {
             let seat = rng.pick(&[b::CURRENT_CTXT, b::SCHED_CTXT, b::IDLE_CTXT]);
             if image[block + b::PRESENT] == 1 {
@@ -63,15 +54,21 @@ fn gone(record: &mut [u64]) {
     record[c::GONE] = 1;
 }
 
-/// Changes places with the item before, or becomes equal to it.
-fn swap(rng: &mut Rng, image: &mut [u64], block: usize, columns: &[usize], slot: usize) {
+/// An item changes places with the one before, or becomes equal to it.
+fn swap(rng: &mut Rng, image: &mut [u64], block: usize, (count, columns): (usize, &[usize])) {
+    let slot = rng.within(1, image[block + count] as usize - 1);
     let equal = rng.once_in(2);
     for column in columns {
         let at = block + column + slot;
         if equal {
-            image[at] = image[at - 1];
+            repeat(image, at);
         } else {
             image.swap(at, at - 1);
         }
     }
+}
+
+/// A word becomes equal to the one before.
+fn repeat(image: &mut [u64], at: usize) {
+    image[at] = image[at - 1];
 }

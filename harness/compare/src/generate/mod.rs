@@ -2,9 +2,10 @@
 
 mod aim;
 mod breakage;
+mod case;
 mod damage;
 mod full;
-mod machine;
+pub mod machine;
 pub mod rng;
 mod seats;
 #[cfg(test)]
@@ -13,59 +14,39 @@ mod tidy;
 mod untidy;
 mod values;
 
-use image::{Call, NUMBER_MAX, View, block as b};
+#[cfg(feature = "branches")]
+pub use case::KINDS;
+pub use case::{Case, Kind};
+
+use case::Choice;
+use image::{Call, NUMBER_MAX, View, block as b, check};
 use rng::Rng;
 use tidy::Size;
 use values::Scale;
 
-#[derive(Clone, Copy, Debug, PartialEq, Eq)]
-pub enum Kind {
-    Tidy,
-    Untidy,
-    Full,
-    Damaged,
-    Chain,
-    /// Read from a recorded list, not generated.
-    Recorded,
-}
-
-#[cfg(feature = "branches")]
-pub const KINDS: [(Kind, &str); 5] = [
-    (Kind::Tidy, "tidy"),
-    (Kind::Untidy, "untidy"),
-    (Kind::Full, "full"),
-    (Kind::Damaged, "damaged"),
-    (Kind::Chain, "chain"),
-];
-
-#[derive(Clone)]
-pub struct Case {
-    pub kind: Kind,
-    pub image: Vec<u64>,
-    pub call: Call,
-}
-
 pub struct Stream {
     rng: Rng,
-    small: bool,
+    choice: Choice,
     /// The image after the last call, and how many calls the chain still has.
     chain: Option<(Vec<u64>, Scale, usize)>,
 }
 
 impl Stream {
     pub fn new(seed: u64) -> Self {
-        Self {
-            rng: Rng::new(seed),
-            small: false,
-            chain: None,
-        }
+        Self::of(seed, Choice::All)
     }
-    /// Only machines of one or two CPUs and few contexts.
     #[cfg(feature = "branches")]
     pub fn small(seed: u64) -> Self {
+        Self::of(seed, Choice::Small)
+    }
+    pub fn chains(seed: u64) -> Self {
+        Self::of(seed, Choice::Chains)
+    }
+    fn of(seed: u64, choice: Choice) -> Self {
         Self {
-            small: true,
-            ..Self::new(seed)
+            rng: Rng::new(seed),
+            choice,
+            chain: None,
         }
     }
 
@@ -79,7 +60,11 @@ impl Stream {
                 kind: Kind::Chain,
                 image,
                 call,
+                chained: true,
             };
+        }
+        if self.choice == Choice::Chains {
+            return self.first(Kind::Chain);
         }
         let kind = match self.rng.below(20) {
             0..=4 => Kind::Tidy,
@@ -93,6 +78,11 @@ impl Stream {
 
     /// The image that the call left: the next one of a chain begins with it.
     pub fn answered(&mut self, after: &[u64]) {
+        // A number that the call raised over its range would end every further call.
+        let refused = || (1..=4).contains(&check::refusal(after, &Call::default()));
+        if self.choice == Choice::Chains && refused() {
+            self.chain = None;
+        }
         if let Some((image, scale, _)) = &mut self.chain {
             image.clear();
             image.extend(after);
@@ -106,10 +96,9 @@ impl Stream {
     fn first(&mut self, kind: Kind) -> Case {
         let rng = &mut self.rng;
         let scale = Scale::new(rng);
-        let size = if self.small {
-            Size::small(rng)
-        } else {
-            Size::any(rng)
+        let size = match self.choice {
+            Choice::Small => Size::small(rng),
+            _ => Size::any(rng),
         };
         let mut machine = tidy::machine(rng, &size, &scale);
         let spoiled = match kind {
@@ -152,10 +141,18 @@ impl Stream {
             damage::spoil(&mut self.rng, &mut image, &mut call);
         }
         if kind == Kind::Chain {
-            let left = self.rng.within(3, 15);
+            let left = match self.choice {
+                Choice::Chains => self.rng.within(30, 150),
+                _ => self.rng.within(3, 15),
+            };
             self.chain = Some((image.clone(), scale, left));
         }
-        Case { kind, image, call }
+        Case {
+            kind,
+            image,
+            call,
+            chained: false,
+        }
     }
 
     fn call(&mut self, image: &[u64], time: u64) -> Call {
@@ -174,6 +171,10 @@ impl Stream {
             22 => 6,
             _ => 7,
         };
+        if self.choice == Choice::Chains && operation == 7 && !rng.once_in(4) {
+            // Nothing ends a stop: a long chain would come to stand still.
+            operation = 4;
+        }
         let mut context = rng.below(view.contexts());
         let current = view.block(cpu, b::CURRENT_CTXT);
         if operation == 3 && rng.once_in(6) {

@@ -1,0 +1,43 @@
+//! A generated case, and the kinds of cases.
+
+use image::Call;
+
+#[derive(Clone, Copy, Debug, PartialEq, Eq)]
+pub enum Kind {
+    Tidy,
+    Untidy,
+    Full,
+    Damaged,
+    Chain,
+    /// Read from a recorded list, not generated.
+    Recorded,
+}
+
+#[cfg(feature = "branches")]
+pub const KINDS: [(Kind, &str); 5] = [
+    (Kind::Tidy, "tidy"),
+    (Kind::Untidy, "untidy"),
+    (Kind::Full, "full"),
+    (Kind::Damaged, "damaged"),
+    (Kind::Chain, "chain"),
+];
+
+#[derive(Clone)]
+pub struct Case {
+    pub kind: Kind,
+    pub image: Vec<u64>,
+    pub call: Call,
+    /// Whether the image is the one that the call before left.
+    pub chained: bool,
+}
+
+/// Which cases a stream has.
+#[derive(Clone, Copy, PartialEq, Eq)]
+pub enum Choice {
+    All,
+    /// Only machines of one or two CPUs and few contexts.
+    #[cfg_attr(not(feature = "branches"), allow(dead_code))]
+    Small,
+    /// Only chains, and long ones.
+    Chains,
+}
