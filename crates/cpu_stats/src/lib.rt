@@ -5,6 +5,8 @@ ghost use Rattle.cpu_stats.specs.State.{state-number, state-of};
 ghost use Rattle.cpu_stats.specs.With.{stats-state};
 ghost use Rattle.cpu_stats.specs.Counted.{time-added, switch-added, CountersBelow};
 
+pub mod lent;
+
 pub enum CpuState {
     Idle,
     Kernel,

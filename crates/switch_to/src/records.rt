@@ -1,6 +1,7 @@
 // The records that a switch changes, by value.
 use context::Context;
 use cpu_stats::CpuState;
+use cpu_stats::lent::Change;
 use percpu::PercpuBlock;
 ghost use mathlib.Core.Path.{_≡_};
 ghost use mathlib.Core.Bool.{Bool};
@@ -62,7 +63,8 @@ pub fn become_current(b: PercpuBlock, x: usize, q: Context) -> PercpuBlock
 {
     let state = state_in(q.userspace);
     let s = b.stats;
-    let stats = s.set_state(state);
+    let change = Change::State(state);
+    let stats = cpu_stats::lent::update(s, change);
     let mut r = turn::with_stats(b, stats);
     r.current_ctxt = machine::word(x);
     r.inside_syscall = q.inside_syscall;

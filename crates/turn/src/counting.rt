@@ -1,4 +1,5 @@
 // A decision is counted, and the tick count starts again.
+use cpu_stats::lent::Change;
 use percpu::PercpuBlock;
 ghost use mathlib.Core.Path.{_≡_};
 ghost use mathlib.Core.Bool.{Bool, false};
@@ -15,7 +16,8 @@ fn counted(b: PercpuBlock) -> PercpuBlock
     ensures { λ r. ⌜ r ≡ block-pit-ticks 0 (block-stats (add-context-switch (b .«inside_syscall») (b .stats)) b) ⌝ }
 {
     let s = b.stats;
-    let stats = s.add_context_switch(b.inside_syscall);
+    let change = Change::Switch(b.inside_syscall);
+    let stats = cpu_stats::lent::update(s, change);
     let mut r = crate::with_stats(b, stats);
     r.pit_ticks = 0;
     r

@@ -1,5 +1,6 @@
 // Times: the milliseconds since the CPU's last decision go to the state that it was in.
 use cpu_stats::CpuState;
+use cpu_stats::lent::Change;
 use percpu::PercpuBlock;
 ghost use mathlib.Core.Path.{_≡_};
 ghost use mathlib.Core.Bool.{Bool, false};
@@ -35,8 +36,8 @@ fn timed(b: PercpuBlock, time: u64, elapsed: u64) -> PercpuBlock
     ensures { λ r. ⌜ r ≡ block-schedule-time time (block-stats (add-time (elapsed / 1000000) (b .stats) (b .stats .state)) b) ⌝ }
 {
     let s = b.stats;
-    let a = s.add_time(elapsed / 1000000);
-    let stats = a.stats;
+    let change = Change::Time(elapsed / 1000000);
+    let stats = cpu_stats::lent::update(s, change);
     let mut r = crate::with_stats(b, stats);
     r.schedule_time = time;
     r

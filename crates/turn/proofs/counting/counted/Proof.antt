@@ -4,14 +4,14 @@ use Rattle.turn.proofs.Counted.{switch-is}
 use Rattle.turn.proofs.counting.counted.Statement.{statement}
 use Rattle.turn.proofs.counting.counted.Tie as tie
 
-add-context-switch-requires : tie.Need-add-context-switch-requires
-add-context-switch-requires c κs = search needs
+update-requires : tie.Need-update-requires
+update-requires c κs = search needs
 
 with-stats-requires : tie.Need-with-stats-requires
 with-stats-requires c κs = search needs
 
 returns : tie.Need-returns
-returns c = rw (c .with-stats .ensures, c .before .add-context-switch .ensures, switch-is (c .before .before .before .args .b .«inside_syscall») (c .before .before .before .args .b .stats))
+returns c = rw (c .with-stats .ensures, c .before .update .ensures, switch-is (c .before .before .before .args .b .«inside_syscall») (c .before .before .before .args .b .stats))
 
 pub counted-spec : {M : Type 1} → statement M
-counted-spec = tie.close (tie.spec add-context-switch-requires with-stats-requires returns)
+counted-spec = tie.close (tie.spec update-requires with-stats-requires returns)

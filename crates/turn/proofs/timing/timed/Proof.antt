@@ -4,14 +4,14 @@ use Rattle.turn.proofs.Counted.{time-is}
 use Rattle.turn.proofs.timing.timed.Statement.{statement}
 use Rattle.turn.proofs.timing.timed.Tie as tie
 
-add-time-requires : tie.Need-add-time-requires
-add-time-requires c κs = search needs
+update-requires : tie.Need-update-requires
+update-requires c κs = search needs
 
 with-stats-requires : tie.Need-with-stats-requires
 with-stats-requires c κs = search needs
 
 returns : tie.Need-returns
-returns c = rw (c .with-stats .ensures, c .before .before .add-time .ensures .0, time-is _ (c .before .before .before .before .args .b .stats))
+returns c = rw (c .with-stats .ensures, c .before .update .ensures, time-is _ (c .before .before .before .args .b .stats))
 
 pub timed-spec : {M : Type 1} → statement M
-timed-spec = tie.close (tie.spec add-time-requires with-stats-requires returns)
+timed-spec = tie.close (tie.spec update-requires with-stats-requires returns)
