@@ -13,9 +13,6 @@ use Rattle.stages.specs.Read.{BlockFits}
 use Rattle.admission.specs.Refusals.{is-locked, decision-locked, is-late}
 
 module _ {c n : ℕ} {m : List ℕ} {p : PercpuBlock} (k : ℕ) (hp : (M : Machine) → m ≡ encode M → Fits c n M → p ≡ cpu-at M k .block) where
-  pub names : Image c n m → k < c → BlockFits n p
-  names i h = let o = i .fits .cpu k h in rw (hp (i .M) (i .eq) (i .fits)) (record { current = o .current; sched = o .sched; idle = o .idle })
-
   pub late : (time : ℕ) {b r : Bool} → b ≡ ltb 4503599627370495 (time - p .«schedule_time») → b ≡ r → (M : Machine) → m ≡ encode M → Fits c n M → is-late time (cpu-at M k .block) ≡ r
   late time e t M a o = ap (λ (q : PercpuBlock). is-late time q) (sym (hp M a o)) ∙ sym e ∙ t
 

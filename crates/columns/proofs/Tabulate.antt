@@ -116,3 +116,9 @@ module _ (b : List ℕ) (s n : ℕ) (l : s + 64 ≤ length b) (h : n ≤ 64) (z 
   column-is =
       ext-getD 0 (pad 64 (tabulate n at)) (part b s 64) (length-pad 64 (tabulate n at) ∙ sym (length-part b s 64 l))
       (λ i g. same i (rw (length-pad) at g))
+
+-- there is no item i
+pub getD-past : {A : Type 0} (l : List A) (i : ℕ) (d : A) → length l ≤ i → getD l i d ≡ d
+getD-past [] i d h = refl
+getD-past (x ∷ xs) zero d h = absurd (omega arith)
+getD-past (x ∷ xs) (suc i) d h = getD-past xs i d (omega arith)

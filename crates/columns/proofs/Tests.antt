@@ -15,6 +15,9 @@ by-test false f g = g refl
 pub clash : {C : Type 0} {b : Bool} → b ≡ true → b ≡ false → C
 clash p q = let z : _≡_ {A = ℕ} 0 1 = cc in absurd (omega arith)
 
+pub never {ℓ} : {C : Type ℓ} → true ≡ false → C
+never e = let z : _≡_ {A = ℕ} 0 1 = cc in absurd (omega arith)
+
 pub and-both : (a b : Bool) → (a && b) ≡ true → (a ≡ true) × (b ≡ true)
 and-both true b e = (refl, e)
 and-both false b e = let z : _≡_ {A = ℕ} 0 1 = cc in absurd (omega arith)

@@ -31,7 +31,7 @@ put-back-full : (o : Option ℕ) (x : ℕ) (s : State) → Full s → Full (put-
 put-back-full none x s h = rw h
 put-back-full (some t) x s h = rw h
 
-serve-full : (s : State) (w : Wakeup) → Full s → Full (serve-wakeup s w)
+pub serve-full : (s : State) (w : Wakeup) → Full s → Full (serve-wakeup s w)
 unfolding serve-wakeup wake-as enter
 serve-full s w h =
     wakeup-cases s w (λ r. Full (wake-as s w r)) h (λ a. put-back-full (w .wake) (w .«context_ref») s h) (λ a l e. rw h) (λ a t. h)
@@ -105,7 +105,7 @@ settled-full k time runs n l h =
     pick Full (is-some (l .winner) && runs) (λ t. requeue-full (advance runs (l .winner) n (l .state)) (advance-full runs (l .winner) n (l .state) h))
     (λ t. advance-full runs (l .winner) n (l .state) h)
 
-switch-to-full : (k time x : ℕ) (s : State) → Full s → Full (switch-to k time x s)
+pub switch-to-full : (k time x : ℕ) (s : State) → Full s → Full (switch-to k time x s)
 unfolding switch-to
 switch-to-full k time x s h =
     pick Full

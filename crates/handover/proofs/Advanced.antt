@@ -23,7 +23,7 @@ use Rattle.decision.specs.SwitchTo.{advance, next-context}
 use Rattle.stages.specs.Stage.{Staged, Ranged}
 use Rattle.stages.specs.Read.{BlockFits}
 use Rattle.stages.proofs.Compose.{stage-as}
-use Rattle.turn.proofs.Reading.{stored-as}
+use Rattle.stages.proofs.Reading.{stored-as}
 use Rattle.handover.specs.declared.next.Picked.{Picked}
 use Rattle.handover.specs.declared.next.Picked.the-variants.{Nobody, Somebody}
 use Rattle.handover.specs.Handed.{advance-by, advanced-by, picked-of}

@@ -18,7 +18,7 @@ use Rattle.decision.specs.Steal.{mark-stealable}
 use Rattle.decision.specs.SwitchTo.{advance, requeue, hand-over}
 use Rattle.decision.proofs.Cases.{pick}
 use Rattle.stages.specs.Stage.{ContextBelow, CpuBelow, StateBelow}
-use Rattle.turn.proofs.Kept.{context-more, cpu-more, state-more, context-kept, entry-kept, removal-kept}
+use Rattle.stages.proofs.Kept.{context-more, cpu-more, state-more, context-kept, entry-kept, removal-kept}
 use Rattle.handover.specs.Handed.{given-up, taken}
 
 pub advance-below : {n t b : ℕ} (runs : Bool) (w : Option ℕ) (ticks : ℕ) (s : State) → ticks ≤ 2305843009213693952 → StateBelow n t b s → StateBelow n t (b + 2305843009213693952) (advance runs w ticks s)

@@ -20,7 +20,7 @@ use Rattle.decision.specs.Wakeups.{entry-of}
 use Rattle.decision.specs.SwitchTo.{requeue}
 use Rattle.stages.specs.Stage.{Staged}
 use Rattle.stages.proofs.Compose.{stage-then, stage-as}
-use Rattle.turn.proofs.Reading.{unchanged}
+use Rattle.stages.proofs.Reading.{unchanged}
 use Rattle.handover.specs.Handed.{taken-out-by, requeued-by}
 
 pub entry-as : (q : Context) (x w y : ℕ) → w ≡ weight (q .prio) → y ≡ x

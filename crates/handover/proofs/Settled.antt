@@ -15,7 +15,7 @@ use Rattle.decision.specs.Decision.{settled}
 use Rattle.decision.proofs.Cases.{pick}
 use Rattle.stages.specs.Stage.{Staged, StateBelow}
 use Rattle.stages.proofs.Compose.{stage-then, stage-full, stage-as}
-use Rattle.turn.proofs.Reading.{unchanged}
+use Rattle.stages.proofs.Reading.{unchanged}
 use Rattle.handover.specs.Handed.{advance-by, sent-back-by, settled-by}
 use Rattle.handover.proofs.Bounded.{advance-below, requeue-below, stealable-below}
 

@@ -16,7 +16,7 @@ use Rattle.operations.specs.declared.named.Named.the-variants.{Refused, 
 use Rattle.operations.specs.Named.{named}
 use Rattle.operations.proofs.Resolved.{found}
 use Rattle.operations.proofs.Waking.{local-count, ipi-count}
-use lib.Seq.{getD-set-same}
+use lib.Seq.{getD-set-same, set-getD}
 use Rattle.columns.specs.Common.{if_then_else_, mark}
 use Rattle.columns.proofs.Tests.{by-test}
 use Rattle.context.specs.declared.Context.{Context}
@@ -37,13 +37,8 @@ use Rattle.operations.specs.Operations.{unblock-context, drain-ipi-conte
 use Rattle.operations.specs.Reply.{Reply, reply, replied, reply-to, reply-on}
 
 -- a record stored where it was
-set-same : {A : Type 0} (l : List A) (i : ℕ) (d : A) → set l i (getD l i d) ≡ l
-set-same [] i d = refl
-set-same (x ∷ xs) zero d = refl
-set-same (x ∷ xs) (suc i) d = ap (λ (t : List _). x ∷ t) (set-same xs i d)
-
 pub store-same : (M : Machine) (x : ℕ) → set-context x (context-at (M .contexts) x) M ≡ M
-store-same M x = λ i. record { contexts = set-same (M .contexts) x no-context i; cpus = M .cpus }
+store-same M x = λ i. record { contexts = set-getD (M .contexts) x no-context i; cpus = M .cpus }
 
 -- the other CPU does not depend on the contexts
 other-same : (k w x : ℕ) (q : Context) (M : Machine) → other-cpu k w (set-context x q M) ≡ other-cpu k w M

@@ -25,8 +25,8 @@ use Rattle.decision.specs.Decision.{finish, switch-inner, ticked, tick, switch,
 use Rattle.stages.specs.Stage.{put-state, Stage, StateBelow, Ranged}
 use Rattle.stages.specs.Read.{BlockFits}
 use Rattle.stages.proofs.Compose.{state-put}
-use Rattle.turn.proofs.Kept.{context-more, cpu-more}
-use Rattle.turn.proofs.Reading.{unchanged}
+use Rattle.stages.proofs.Kept.{context-more, cpu-more}
+use Rattle.stages.proofs.Reading.{unchanged}
 use Rattle.turn.proofs.Bounded.{count-below}
 use Rattle.schedule.specs.Begun.{CanBegin}
 use Rattle.schedule.specs.Decides.{Decides, Ends}

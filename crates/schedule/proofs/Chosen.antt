@@ -22,7 +22,7 @@ use Rattle.decision.specs.Steal.{Stealing, steal}
 use Rattle.decision.specs.Decision.{scanned, locks, choose-and-steal}
 use Rattle.stages.specs.Stage.{put-state, Stage, StateBelow, Ranged}
 use Rattle.stages.proofs.Compose.{state-put}
-use Rattle.turn.proofs.Kept.{ranged-stage}
+use Rattle.stages.proofs.Kept.{ranged-stage}
 use Rattle.select.specs.declared.Winner as select
 use Rattle.select.specs.declared.Winner.the-variants.{Nobody, Is}
 use Rattle.select.specs.Values.{winner-below}
@@ -35,7 +35,7 @@ use Rattle.steal.specs.Moves.{machine-of, StealsAt, Steals}
 use Rattle.steal.proofs.Bounded.{steal-ranged}
 use Rattle.schedule.specs.Part.{Result, of-stealing, put-in, PartAt, Part}
 use Rattle.schedule.specs.Named.{NamedBelow}
-use Rattle.schedule.proofs.Parts.{set-set}
+use lib.Seq.{set-set}
 use Rattle.schedule.proofs.Robbing.{over, steal-over, steal-named, entries-fit}
 
 abbrev pub taken : (k time : ℕ) → State → State

@@ -15,11 +15,13 @@ use Rattle.decision.specs.State.{State, state-of, is-some}
 use Rattle.decision.specs.Decision.{finish}
 use Rattle.stages.specs.Stage.{put-state, Stage}
 use Rattle.stages.proofs.Compose.{state-put}
-use Rattle.turn.proofs.Reading.{put-same}
+use Rattle.stages.proofs.Reading.{put-same}
 use Rattle.switch_to.specs.Direct.{or-same}
 use Rattle.schedule.specs.Part.{Result, put-in, PartAt, Part}
 use Rattle.schedule.specs.Decides.{DecidesAt, Decides, Ends}
-use Rattle.schedule.proofs.Parts.{set-set, set-same, never, put-over}
+use lib.Seq.{set-set, set-getD}
+use Rattle.columns.proofs.Tests.{never}
+use Rattle.schedule.proofs.Parts.{put-over}
 
 -- a part whose answer is the call's result
 pub part-ends : {c n k : ℕ} {m m' : List ℕ} {full : Bool} {r : ℕ} {p : List Cpu → State → Result ℕ} {f : List Cpu → State → Outcome} → Part c n k m m' full r p
@@ -76,7 +78,7 @@ ends-as {c} {n} {m' = m'} {full = full} {r = r} t h = record { ends = λ M e o c
 -- the whole call
 pub ends-decides : {c n k : ℕ} {m m' : List ℕ} {full : Bool} {r : ℕ} {f : List Cpu → State → Outcome} → Ends c n k m m' full r f → Decides c n m m' full r (λ (M : Machine). f (M .cpus) (state-of k M))
 unfolding cpu-at
-ends-decides {k = k} t = record { decides = λ M e o. t .ends M e o (M .cpus) (set-same (M .cpus) k _) }
+ends-decides {k = k} t = record { decides = λ M e o. t .ends M e o (M .cpus) (set-getD (M .cpus) k _) }
 
 -- where no direct switch was made, nothing was stored
 pub none-is : (o : Option State) → false ≡ is-some o → none ≡ o

@@ -24,18 +24,20 @@ use Rattle.decision.specs.State.{State, state-of, at, is-some}
 use Rattle.decision.specs.SwitchTo.{switch-to, try-direct-switch-back}
 use Rattle.decision.specs.Decision.{Scheduled, finish, schedule, switch-as, after-schedule, switch-inner-by, switch-inner}
 use Rattle.decision.proofs.Cases.{pick}
+use Rattle.decision.proofs.NoRoom.{switch-to-full}
 use Rattle.stages.specs.Stage.{Stage, Staged, Ranged}
 use Rattle.stages.specs.Read.{BlockFits}
 use Rattle.stages.proofs.Compose.{stage-as}
-use Rattle.turn.proofs.Reading.{unchanged}
-use Rattle.turn.proofs.Kept.{ranged-more}
+use Rattle.stages.proofs.Reading.{unchanged}
+use Rattle.stages.proofs.Kept.{ranged-more}
 use Rattle.switch_to.specs.declared.direct.DirectSwitch.{DirectSwitch}
 use Rattle.switch_to.specs.Direct.{is-full, is-switched, or-same}
 use Rattle.schedule.specs.Begun.{CanBegin}
 use Rattle.schedule.specs.Part.{of-scheduled, Part}
 use Rattle.schedule.specs.Decides.{DecidesAt, Ends}
 use Rattle.schedule.specs.Switched.{marked-idle, switched-to, switched, switch-result}
-use Rattle.schedule.proofs.Parts.{never, part-stage}
+use Rattle.columns.proofs.Tests.{never}
+use Rattle.schedule.proofs.Parts.{part-stage}
 use Rattle.schedule.proofs.Start.{counting-ranged}
 use Rattle.schedule.proofs.Ending.{part-ends, no-end, stage-end, ends-as, none-is, same-image}
 
@@ -76,16 +78,10 @@ module _ (k time : ℕ) where
   switch-is cpus none s = refl
   switch-is cpus (some x) s = refl
 
-  switch-to-full : (x : ℕ) (s : State) → s .no-room ≡ true → (switch-to k time x s) .no-room ≡ true
-  unfolding switch-to
-  switch-to-full x s h =
-      let y = s .cpu .block .«current_ctxt»
-      in pick (λ (u : State). u .no-room ≡ true) (not (eqb (s .cpu .block .«sched_ctxt») y) && not ((at s y) .«has_queue_key») && is-runnable ((at s y) .status)) (λ t. rw h) (λ t. h)
-
   as-full : (cpus : List Cpu) (o : Option ℕ) (s : State) → s .no-room ≡ true → ((switch-as k time s cpus o) .no-room ≡ true) × ((switch-as k time s cpus o) .interrupt ≡ false)
   unfolding switch-as
   as-full cpus none s h = (h, refl)
-  as-full cpus (some x) s h = (pick (λ (u : State). u .no-room ≡ true) (eqb (s .cpu .block .«current_ctxt») x) (λ t. h) (λ t. switch-to-full x s h), refl)
+  as-full cpus (some x) s h = (pick (λ (u : State). u .no-room ≡ true) (eqb (s .cpu .block .«current_ctxt») x) (λ t. h) (λ t. switch-to-full k time x s h), refl)
 
 module _ {c n k : ℕ} {m m' : List ℕ} (time : ℕ) {w : Option ℕ} where
   pub decided-full : {m'' : List ℕ} {r : ℕ} → Part c n k m m' true w (λ (cpus : List Cpu) (s : State). of-scheduled (schedule k time cpus s))

@@ -5,7 +5,8 @@ use mathlib.Core.List.{List, [], _∷_}
 use Prim.Native.Nat.{ℕ, zero, suc, _<_}
 use native.Mathlib.Omega.{arith}
 use lib.ListN.{length, getD, set, length-set}
-use lib.Seq.{getD-set-same}
+use lib.Seq.{getD-set-same, set-getD, set-set}
+use Rattle.columns.proofs.Tests.{never}
 use Rattle.percpu.specs.Cpu.{Cpu}
 use Rattle.machine.specs.Machine.{Machine, cpu-at, no-cpu}
 use Rattle.machine.specs.Encode.{encode}
@@ -14,19 +15,6 @@ use Rattle.decision.specs.State.{State, state-of}
 use Rattle.stages.specs.Stage.{put-state, StageAt, Stage}
 use Rattle.stages.proofs.Compose.{state-put}
 use Rattle.schedule.specs.Part.{Result, put-in, PartAt, Part}
-
-pub set-set : {A : Type 0} (l : List A) (i : ℕ) (a b : A) → set (set l i a) i b ≡ set l i b
-set-set [] i a b = refl
-set-set (x ∷ xs) zero a b = refl
-set-set (x ∷ xs) (suc i) a b = ap (λ (t : List _). x ∷ t) (set-set xs i a b)
-
-pub set-same : {A : Type 0} (l : List A) (i : ℕ) (d : A) → set l i (getD l i d) ≡ l
-set-same [] i d = refl
-set-same (x ∷ xs) zero d = refl
-set-same (x ∷ xs) (suc i) d = ap (λ (t : List _). x ∷ t) (set-same xs i d)
-
-pub never {ℓ} : {C : Type ℓ} → true ≡ false → C
-never e = let z : _≡_ {A = ℕ} 0 1 = cc in absurd (omega arith)
 
 -- a stage or a part whose room is known
 pub full-is : {R : Type 0} {c n k : ℕ} {m m' : List ℕ} {full b : Bool} {r : R} {f : State → State} {g : State → R} → full ≡ b → Stage c n k m m' full r f g → Stage c n k m m' b r f g

@@ -20,15 +20,16 @@ use Rattle.decision.specs.Decision.{scanned, choose-and-steal, settled, selecte
 use Rattle.decision.proofs.NoRoom as no-room
 use Rattle.stages.specs.Stage.{Stage, Staged, Ranged}
 use Rattle.stages.proofs.Compose.{stage-then, stage-as}
-use Rattle.turn.proofs.Kept.{ranged-stage}
+use Rattle.stages.proofs.Kept.{ranged-stage}
 use Rattle.turn.proofs.Bounded.{charge-below}
-use Rattle.turn.proofs.Reading.{unchanged-with}
+use Rattle.stages.proofs.Reading.{unchanged-with}
 use Rattle.handover.specs.Handed.{settled-by}
 use Rattle.handover.proofs.Settled.{settled-is, settled-below}
 use Rattle.handover.proofs.Advanced.{next-below}
 use Rattle.schedule.specs.Part.{Result, of-stealing, of-selected, Part}
 use Rattle.schedule.specs.Named.{NamedBelow}
-use Rattle.schedule.proofs.Parts.{never, stage-part, stage-part-full, part-stage, part-as, part-full}
+use Rattle.columns.proofs.Tests.{never}
+use Rattle.schedule.proofs.Parts.{stage-part, stage-part-full, part-stage, part-as, part-full}
 
 -- the stealing found no room
 pub selected-unchosen : {c n k : ℕ} {m m' m'' : List ℕ} {w q : Option ℕ} (time elapsed : ℕ)

@@ -9,7 +9,8 @@ use native.Mathlib.Omega.{arith}
 use lib.Dec.{ltb}
 use borrow.Author.Tests.{ltb-true, ltb-false}
 use lib.ListN.{length, getD, set, length-set}
-use lib.Seq.{getD-set-other}
+use lib.Seq.{getD-set-other, set-comm}
+use Rattle.columns.proofs.Tabulate.{getD-past}
 use Rattle.columns.specs.Common.{if_then_else_, fold, All, In}
 use Rattle.run_queue.specs.declared.Entry.{Entry}
 use Rattle.percpu.specs.Cpu.{Cpu}
@@ -23,13 +24,6 @@ use Rattle.decision.proofs.Candidates.{target-is-other}
 use Rattle.stages.proofs.Fitting.{all-of}
 use Rattle.steal.proofs.Apart.{candidates-taken}
 use Rattle.schedule.specs.Named.{NamedBelow}
-
-set-comm : {A : Type 0} (l : List A) (i j : ℕ) (a b : A) → i ≢ j → set (set l i a) j b ≡ set (set l j b) i a
-set-comm [] i j a b h = refl
-set-comm (x ∷ xs) zero zero a b h = absurd (h refl)
-set-comm (x ∷ xs) zero (suc j) a b h = refl
-set-comm (x ∷ xs) (suc i) zero a b h = refl
-set-comm (x ∷ xs) (suc i) (suc j) a b h = ap (λ (t : List _). x ∷ t) (set-comm xs i j a b (λ e. h (ap suc e)))
 
 -- the same with another CPU k
 abbrev pub over : ℕ → Cpu → Stealing → Stealing
@@ -115,11 +109,6 @@ module _ (n : ℕ) (runs : Bool) where
     steal-named w s h =
         let l : Stealing = record { state = on-cpu count-steal s; cpus = cpus; winner = w; done = false }
         in by-test (should-steal s w) (λ e. rw e (all-named (targets k (length cpus)) l (record { winner = h; fresh = λ z. refl }) .winner)) (λ e. rw e h)
-
-getD-past : {A : Type 0} (l : List A) (i : ℕ) (d : A) → length l ≤ i → getD l i d ≡ d
-getD-past [] i d h = refl
-getD-past (x ∷ xs) zero d h = absurd (omega arith)
-getD-past (x ∷ xs) (suc i) d h = getD-past xs i d (omega arith)
 
 pub entries-fit : {c n : ℕ} (M : Machine) → Fits c n M → (j : ℕ) → All (EntryFits n) (getD (M .cpus) j no-cpu .queue)
 unfolding no-cpu cpu-at

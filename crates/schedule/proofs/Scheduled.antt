@@ -19,12 +19,13 @@ use Rattle.stages.specs.Stage.{Stage, Staged, Ranged}
 use Rattle.stages.proofs.Compose.{stage-as}
 use Rattle.turn.specs.declared.timing.Turn.{Turn}
 use Rattle.turn.specs.Turn.{turn-of}
-use Rattle.turn.proofs.Kept.{ranged-stage, ranged-more}
-use Rattle.turn.proofs.Reading.{unchanged}
+use Rattle.stages.proofs.Kept.{ranged-stage, ranged-more}
+use Rattle.stages.proofs.Reading.{unchanged}
 use Rattle.handover.proofs.Bounded.{hand-over-below}
 use Rattle.schedule.specs.Part.{Result, of-selected, of-scheduled, Part}
 use Rattle.schedule.specs.Switched.{handed}
-use Rattle.schedule.proofs.Parts.{never, stage-part, part-stage, part-as, part-full, no-part}
+use Rattle.columns.proofs.Tests.{never}
+use Rattle.schedule.proofs.Parts.{stage-part, part-stage, part-as, part-full, no-part}
 use Rattle.schedule.proofs.Picked.{keeps-full}
 
 module _ (k time : ℕ) where

@@ -19,11 +19,11 @@ use Rattle.stages.specs.Stage.{put-state, Stage, Staged, CpuBelow, StateBelow, 
 use Rattle.stages.proofs.Compose.{stage-then, stage-full, stage-as}
 use Rattle.turn.specs.declared.timing.Turn.{Turn}
 use Rattle.turn.specs.Turn.{turn-of}
-use Rattle.turn.proofs.Kept.{cpu-more}
+use Rattle.stages.proofs.Kept.{cpu-more}
 use Rattle.turn.proofs.Bounded.{times-below}
 use Rattle.wakeup.proofs.Bounded.{serve-wakeups-below}
 use Rattle.schedule.specs.Begun.{CanBegin}
-use Rattle.schedule.proofs.Parts.{never}
+use Rattle.columns.proofs.Tests.{never}
 
 -- wake-ups do not touch what a turn is measured by
 module _ (time : ℕ) where

@@ -6,6 +6,7 @@ use mathlib.Core.Option.{Option}
 use Prim.Native.Nat.{ℕ, zero, suc, _+_, _-_, _<_, _≤_}
 use native.Mathlib.Numerals.{add-one}
 use lib.ListN.{length, getD, set}
+use lib.Seq.{set-getD}
 use Rattle.columns.specs.Common.{if_then_else_}
 use Rattle.context.specs.declared.Context.{Context}
 use Rattle.run_queue.specs.declared.Key.{Key}
@@ -21,6 +22,7 @@ use Rattle.decision.specs.Scan.{Scan}
 use Rattle.decision.specs.Choice.{without-keys, cleaned-up, dequeued, taken-out}
 use Rattle.stages.specs.Stage.{put-state, Staged}
 use Rattle.stages.specs.Read.{BlockFits}
+use Rattle.stages.proofs.Reading.{stage-none}
 use Rattle.stages.proofs.Compose.{staged, stage-then, stage-as}
 use Rattle.select.specs.declared.Winner.{Winner}
 use Rattle.select.specs.Values.{winner-below}
@@ -29,23 +31,10 @@ use Rattle.select.specs.Cleaning.{lightened, remove-keys, cleaned}
 use Rattle.select.proofs.Judging.{other}
 use Rattle.select.proofs.Walking.{fold-append}
 
-set-same : {A : Type 0} (l : List A) (i : ℕ) (d : A) → set l i (getD l i d) ≡ l
-set-same [] i d = refl
-set-same (x ∷ xs) zero d = refl
-set-same (x ∷ xs) (suc i) d = ap (λ (t : List _). x ∷ t) (set-same xs i d)
-
 -- other contexts, and the CPU as it was
 pub put-contexts : (k : ℕ) (cs : List Context) (M : Machine) → record { contexts = cs; cpus = M .cpus } ≡ put-state k (record { contexts = cs; cpu = cpu-at M k; no-room = false }) M
 unfolding cpu-at
-put-contexts k cs M = λ j. record { contexts = cs; cpus = sym (set-same (M .cpus) k no-cpu) j }
-
--- nothing is done
-pub stage-none : {c n k : ℕ} {m : List ℕ} → Image c n m → Staged c n k m m false (λ (s : State). s)
-stage-none {k = k} i =
-    staged i
-    (λ M e o.
-    let z = put-contexts k (M .contexts) M
-    in record { room = refl; after = λ y. e ∙ ap encode z; fits = λ y. subst (Fits _ _) z o; answer = λ y. refl })
+put-contexts k cs M = λ j. record { contexts = cs; cpus = sym (set-getD (M .cpus) k no-cpu) j }
 
 -- the keys, one by one
 pub remove-none : {c n k : ℕ} {m : List ℕ} (d : List ℕ) → Image c n m → Staged c n k m m false (λ (s : State). remove-keys (keys-in d 0) s)

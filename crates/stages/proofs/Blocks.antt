@@ -8,6 +8,7 @@ use lib.Dec.{leb, ltb, eqb}
 use lib.ListN.{length, getD, set, take, drop, length-append}
 use borrow.Author.Tests.{lt-leb, le-leb}
 use borrow.Rule.Slice.PartMut.{putMid}
+use Rattle.columns.proofs.Tests.{never}
 use Rattle.columns.specs.Blocks.{part, flat}
 use Rattle.cpu_stats.specs.Words.{stats-words, stats-of}
 use Rattle.run_queue.specs.declared.Entry.{Entry}
@@ -52,6 +53,3 @@ local-full b p z h = sym (le-leb 64 (length (p .«local_wakeup_list»)) (rw (loc
 
 pub local-room : (b : List ℕ) (p : Cpu) → b ≡ cpu-words p → getD b 23 0 < 64 → false ≡ leb 64 (length (p .«local_wakeup_list»))
 local-room b p z h = sym (lt-leb 64 (length (p .«local_wakeup_list»)) (rw (local-count b p z) at h))
-
-pub never {ℓ} : {C : Type ℓ} → true ≡ false → C
-never e = let z : _≡_ {A = ℕ} 0 1 = cc in absurd (omega arith)

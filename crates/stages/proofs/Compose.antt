@@ -5,18 +5,14 @@ use Prim.Native.Nat.{ℕ, zero, suc, _<_}
 use native.Mathlib.Omega.{arith}
 use mathlib.Core.List.{List, [], _∷_}
 use lib.ListN.{length, getD, set, length-set}
-use lib.Seq.{getD-set-same}
+use lib.Seq.{getD-set-same, set-set}
+use Rattle.columns.proofs.Tests.{never}
 use Rattle.percpu.specs.Cpu.{Cpu}
 use Rattle.machine.specs.Machine.{Machine, cpu-at, no-cpu}
 use Rattle.machine.specs.Encode.{encode}
 use Rattle.machine.specs.Shape.{Fits, Image}
 use Rattle.decision.specs.State.{State, state-of}
 use Rattle.stages.specs.Stage.{put-state, StageAt, Stage, Staged}
-
-set-set : {A : Type 0} (l : List A) (i : ℕ) (a b : A) → set (set l i a) i b ≡ set l i b
-set-set [] i a b = refl
-set-set (x ∷ xs) zero a b = refl
-set-set (x ∷ xs) (suc i) a b = ap (λ (t : List _). x ∷ t) (set-set xs i a b)
 
 -- the state that was put back, and what is put back on top of it
 pub state-put : (k : ℕ) (s : State) (M : Machine) → k < length (M .cpus) → s .no-room ≡ false → state-of k (put-state k s M) ≡ s
@@ -50,9 +46,6 @@ stage-then {c = c} {k = k} {m'' = m''} {full = full} {q = q} {f = f} {f' = f'} {
             answer = λ y. b .answer y ∙ ap g' z;
           };
     }
-
-never {ℓ} : {C : Type ℓ} → true ≡ false → C
-never e = let z : _≡_ {A = ℕ} 0 1 = cc in absurd (omega arith)
 
 -- a stage that found no room, whatever follows
 pub stage-full : {R S : Type 0} {c n k : ℕ} {m m' m'' : List ℕ} {r : R} {q : S} {f : State → State} {g : State → R} (f' : State → State) (g' : State → S) → Stage c n k m m' true r f g

@@ -8,6 +8,7 @@ use lib.Dec.{leb, ltb, eqb}
 use lib.ListN.{length, getD, set, take, drop, length-append}
 use borrow.Author.Tests.{leb-true, leb-false, lt-ltb, le-ltb}
 use borrow.Rule.Slice.PartMut.{putMid}
+use lib.Seq.{set-getD}
 use Rattle.columns.specs.Common.{if_then_else_}
 use Rattle.columns.specs.Blocks.{part, part-is}
 use Rattle.columns.proofs.Tests.{by-test}
@@ -138,14 +139,9 @@ module _ {c n : ℕ} {m : List ℕ} (i : Image c n m) (k : ℕ) (h : k < c) (l :
           (λ t. t ∙ sym (lt-ltb 64 (length (l ++ (x ∷ []))) (rw (length-append) (let b : 64 ≤ length l = leb-true _ _ t in omega arith))))
           (λ t. t ∙ sym (le-ltb 64 (length (l ++ (x ∷ []))) (rw (length-append) (let b : length l < 64 = leb-false _ _ t in omega arith))))
 
-set-same : {A : Type 0} (l : List A) (i : ℕ) (d : A) → set l i (getD l i d) ≡ l
-set-same [] i d = refl
-set-same (x ∷ xs) zero d = refl
-set-same (x ∷ xs) (suc i) d = ap (λ (t : List _). x ∷ t) (set-same xs i d)
-
 same : (k x : ℕ) (q : Context) (M : Machine) → set-context x q M ≡ put-state k (put-context x q (state-of k M)) M
 unfolding cpu-at
-same k x q M = λ j. record { contexts = set (M .contexts) x q; cpus = sym (set-same (M .cpus) k no-cpu) j }
+same k x q M = λ j. record { contexts = set (M .contexts) x q; cpus = sym (set-getD (M .cpus) k no-cpu) j }
 
 -- a record stored
 pub staged-context : {c n : ℕ} {m m' : List ℕ} (k x : ℕ) (q : Context) → k < c → Went c n m m' (λ (M : Machine). set-context x q M) → Image c n m → Staged c n k m m' false (λ (s : State). put-context x q s)

@@ -2,3 +2,5 @@ pub mod Compose
 pub mod Blocks
 pub mod Fitting
 pub mod Lent
+pub mod Reading
+pub mod Kept

@@ -9,7 +9,7 @@ use native.Mathlib.Omega.{arith}
 use lib.ListN.{length, getD, set}
 use lib.Seq.{getD-set-other}
 use Rattle.columns.specs.Common.{fold, tabulate, All}
-use Rattle.columns.proofs.Tests.{by-test}
+use Rattle.columns.proofs.Tests.{by-test, never}
 use Rattle.context.specs.declared.Context.{Context}
 use Rattle.run_queue.specs.declared.Entry.{Entry}
 use Rattle.percpu.specs.Cpu.{Cpu}
@@ -110,9 +110,6 @@ pub record StealingBelow (c n t b : ℕ) (s l : Stealing) : Type 0 where
   pub cpu : CpuBelow t (2 * b + 1073741824) (l .state .cpu)
   pub cpus : (j : ℕ) → j < c → CpuBelow t (2 * b + 1073741824) (getD (l .cpus) j no-cpu)
   pub fresh : l .done ≡ false → l ≡ s
-
-never {ℓ} : {C : Type ℓ} → true ≡ false → C
-never e = let z : _≡_ {A = ℕ} 0 1 = cc in absurd (omega arith)
 
 fold-tabulate : {B : Type 0} (P : B → Type 0) (f : B → ℕ → B) (N : ℕ) (g : ℕ → ℕ) → ((y : B) (j : ℕ) → j < N → P y → P (f y (g j))) → (y : B) → P y → P (fold f y (tabulate N g))
 unfolding tabulate

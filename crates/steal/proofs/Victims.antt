@@ -6,7 +6,8 @@ use mathlib.Core.Logic.{_≢_}
 use Prim.Native.Nat.{ℕ, zero, suc, _<_}
 use native.Mathlib.Omega.{arith}
 use lib.ListN.{length, getD, set, length-set}
-use lib.Seq.{getD-set-same, getD-set-other, set-set}
+use lib.Seq.{getD-set-same, getD-set-other, set-set, set-getD}
+use Rattle.columns.proofs.Tests.{never}
 use Rattle.percpu.specs.Cpu.{Cpu}
 use Rattle.machine.specs.Machine.{Machine, cpu-at, no-cpu}
 use Rattle.machine.specs.Encode.{encode}
@@ -17,9 +18,6 @@ use Rattle.stages.specs.Stage.{Stage, Staged, put-state}
 use Rattle.steal_judge.specs.declared.Winner.{Winner}
 use Rattle.steal_judge.specs.Names.{winner-of}
 use Rattle.steal.specs.Moves.{moving-of, put-moving, Moves}
-
-pub never {ℓ} : {C : Type ℓ} → true ≡ false → C
-never e = let z : _≡_ {A = ℕ} 0 1 = cc in absurd (omega arith)
 
 pub set-other : {A : Type 0} (l : List A) (i j : ℕ) (a b : A) → j ≢ i → set (set l i a) j b ≡ set (set l j b) i a
 set-other [] i j a b h = refl
@@ -127,11 +125,6 @@ moves-none {c} {n} {k} {t} {m} {w} i =
       image = λ e. i;
       moves = λ M e o.
           let x : M ≡ put-moving k t (moving-of k t w M) M =
-          ap (λ (l : List Cpu). record { contexts = M .contexts; cpus = l }) (sym (set-same (M .cpus) k) ∙ ap (λ (l : List Cpu). set l k (cpu-at M k)) (sym (set-same (M .cpus) t))) in
+          ap (λ (l : List Cpu). record { contexts = M .contexts; cpus = l }) (sym (set-getD (M .cpus) k no-cpu) ∙ ap (λ (l : List Cpu). set l k (cpu-at M k)) (sym (set-getD (M .cpus) t no-cpu))) in
           record { room = refl; after = λ z. e ∙ ap encode x; fits = λ z. subst (Fits c n) x o; winner = λ z. refl };
     }
-  where
-    set-same : (l : List Cpu) (j : ℕ) → set l j (getD l j no-cpu) ≡ l
-    set-same [] j = refl
-    set-same (x ∷ xs) zero = refl
-    set-same (x ∷ xs) (suc j) = ap (λ (l : List Cpu). x ∷ l) (set-same xs j)

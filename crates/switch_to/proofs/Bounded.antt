@@ -18,7 +18,7 @@ use Rattle.decision.specs.State.{State, at, put-context, on-cpu, push-local}
 use Rattle.decision.specs.SwitchTo.{comes, switch-to, direct-switch-by, try-direct-switch-back}
 use Rattle.decision.proofs.Cases.{pick}
 use Rattle.stages.specs.Stage.{ContextBelow, CpuBelow, StateBelow}
-use Rattle.turn.proofs.Kept.{context-more, cpu-more, state-more, context-kept, name-kept}
+use Rattle.stages.proofs.Kept.{context-more, cpu-more, state-more, context-kept, name-kept}
 use Rattle.switch_to.specs.Switched.{is-lost, saved-by, left-by, current-by, entered, switched-by}
 use Rattle.switch_to.specs.Direct.{or-same}
 use Rattle.switch_to.proofs.Switching.{at-values}

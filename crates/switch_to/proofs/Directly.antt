@@ -24,7 +24,7 @@ use Rattle.decision.specs.SwitchTo.{switch-to, direct-switch-by, try-direct-swi
 use Rattle.decision.proofs.Cases.{pick}
 use Rattle.stages.specs.Stage.{Stage, Staged, ContextBelow, Ranged}
 use Rattle.stages.proofs.Compose.{stage-then, stage-as}
-use Rattle.turn.proofs.Reading.{unchanged-with}
+use Rattle.stages.proofs.Reading.{unchanged-with}
 use Rattle.switch_to.specs.Direct.{or-same}
 
 -- the record of a context that can be switched to is in its ranges

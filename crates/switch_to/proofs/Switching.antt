@@ -17,7 +17,7 @@ use Rattle.decision.specs.State.{State, at, state-of, put-context, on-cpu, push
 use Rattle.decision.specs.SwitchTo.{comes, switch-to}
 use Rattle.stages.specs.Stage.{Staged, Ranged}
 use Rattle.stages.proofs.Compose.{stage-then, stage-full, stage-as}
-use Rattle.turn.proofs.Reading.{unchanged}
+use Rattle.stages.proofs.Reading.{unchanged}
 use Rattle.switch_to.specs.Switched.{is-lost, saved-by, left-by, current-by, entered, switched-by}
 
 module _ {c n k : ℕ} {m m' : List ℕ} (y : ℕ) (b : PercpuBlock) (q : Context) where

@@ -25,7 +25,7 @@ use Rattle.decision.specs.State.{State, at, on-cpu, holder, is-idle}
 use Rattle.decision.specs.Charging.{count-switch, elapsed, add-time, times, inactive, holder-stopped, charge-holder}
 use Rattle.decision.proofs.Cases.{pick}
 use Rattle.stages.specs.Stage.{ContextBelow, CpuBelow, StateBelow}
-use Rattle.turn.proofs.Kept.{context-more, cpu-more, state-more, context-kept, timer-kept}
+use Rattle.stages.proofs.Kept.{context-more, cpu-more, state-more, context-kept, timer-kept}
 
 mark-small : (b : Bool) → mark b ≤ 1
 mark-small true = omega arith

@@ -25,7 +25,7 @@ use Rattle.stages.specs.Stage.{Stage, Staged, Ranged}
 use Rattle.stages.specs.Read.{BlockFits}
 use Rattle.stages.proofs.Compose.{stage-then, stage-as}
 use Rattle.turn.specs.Charged.{weight-left, left, stopped-by, charged-by}
-use Rattle.turn.proofs.Reading.{unchanged}
+use Rattle.stages.proofs.Reading.{unchanged}
 
 -- the total weight, where the context that stops has one in it and where it has not
 module _ (b : PercpuBlock) (q : Context) where

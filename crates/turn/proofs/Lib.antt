@@ -1,5 +1,3 @@
-pub mod Reading
 pub mod Counted
 pub mod Charged
-pub mod Kept
 pub mod Bounded

@@ -9,7 +9,7 @@ use Rattle.weights.specs.Weights.{weight}
 use Rattle.run_queue.specs.declared.Timer.{Timer}
 use Rattle.percpu.specs.Layout.{no-timer}
 use Rattle.machine.specs.Shape.{CpuFits}
-use Rattle.decision.specs.State.{State, at}
+use Rattle.decision.specs.State.{State, state-of, at}
 use Rattle.decision.specs.Wakeups.{Wakeup, is-due, serve-wakeup, drained, wakeups, serve-wakeups}
 use Rattle.stages.specs.Stage.{Staged, Ranged, StateBelow}
 use Rattle.stages.proofs.Fitting.{of-all}
@@ -17,7 +17,7 @@ use Rattle.wakeup_read.proofs.Draining.{all-keep}
 use Rattle.wakeup.specs.Paced.{Slow, Named}
 use Rattle.wakeup.proofs.Pacing.{slow-serve}
 use Rattle.wakeup.proofs.Listed.{WakeBelow, wakeups-named, wakeups-below, wakeups-few}
-use Rattle.wakeup.proofs.Higher.{state-more, ranged-by}
+use Rattle.stages.proofs.Kept.{state-more, ranged-stage}
 use Rattle.wakeup.proofs.BoundedOnce.{wakes-of, serve-below}
 
 -- all of them
@@ -62,4 +62,4 @@ serve-wakeups-below {n} {t} {b} time s c f =
 
 -- the image that `serve_wakeups` leaves
 pub serve-wakeups-ranged : {c n k t b : ℕ} {m m' : List ℕ} (time : ℕ) → k < c → Staged c n k m m' false (λ (s : State). serve-wakeups time s) → Ranged c n t b m → Ranged c n t (b + 1073741824) m'
-serve-wakeups-ranged time h u r = ranged-by (omega arith) (omega arith) h (λ s. serve-wakeups-below time s) u r
+serve-wakeups-ranged {k = k} time h u r = ranged-stage (omega arith) (omega arith) h u (λ M o. serve-wakeups-below time (state-of k M) (o .cpu k h)) r

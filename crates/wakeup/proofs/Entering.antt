@@ -6,6 +6,7 @@ use Prim.Native.Nat.{ℕ, zero, suc, _+_, _-_, _<_, _≤_}
 use native.Mathlib.Omega.{arith}
 use lib.ListN.{length, getD, set, take, drop}
 use borrow.Rule.Slice.PartMut.{putMid}
+use lib.Seq.{set-getD}
 use Rattle.columns.specs.Common.{if_then_else_}
 use Rattle.context.specs.declared.Context.{Context}
 use Rattle.weights.specs.Weights.{weight}
@@ -26,6 +27,7 @@ use Rattle.decision.specs.State.{State, state-of, on-cpu, put-context, insert-e
 use Rattle.decision.specs.Wakeups.{activated, without-old-key, entering, entry-of, enter}
 use Rattle.stages.specs.Stage.{put-state, Staged}
 use Rattle.stages.specs.Read.{BlockFits}
+use Rattle.stages.proofs.Reading.{stage-none}
 use Rattle.stages.proofs.Compose.{staged, stage-then, stage-as}
 use Rattle.stages.proofs.Fitting.{fits-removed}
 use Rattle.stages.proofs.Lent.{staged-cpu}
@@ -68,20 +70,6 @@ pub taken-staged : {c n : ℕ} {m : List ℕ} (i : Image c n m) (k : ℕ) (h : k
 taken-staged {n = n} i k h l key f =
     staged-cpu i k h l (λ (p : Cpu). cpu-queue (queue-remove key (p .queue)) p) (λ p o z. f p z (o .queue) (o .keys-rise) .1) (λ p o. fits-taken n key p o)
 
-set-same : {A : Type 0} (l : List A) (i : ℕ) (d : A) → set l i (getD l i d) ≡ l
-set-same [] i d = refl
-set-same (x ∷ xs) zero d = refl
-set-same (x ∷ xs) (suc i) d = ap (λ (t : List _). x ∷ t) (set-same xs i d)
-
-put-same : (k : ℕ) (M : Machine) → M ≡ put-state k (state-of k M) M
-unfolding cpu-at
-put-same k M = λ j. record { contexts = M .contexts; cpus = sym (set-same (M .cpus) k no-cpu) j }
-
--- nothing done
-pub staged-none : {c n : ℕ} {m : List ℕ} (k : ℕ) → Image c n m → Staged c n k m m false (λ (s : State). s)
-staged-none {c} {n} k i =
-    staged i (λ M e o. record { room = refl; after = λ y. e ∙ ap encode (put-same k M); fits = λ y. subst (Fits c n) (put-same k M) o; answer = λ y. refl })
-
 abbrev without : Context → Bool → State → State
 without q b s = on-cpu (λ (p : Cpu). cpu-queue (if b then queue-remove (queue-key q) (p .queue) else p .queue) p) s
 
@@ -97,7 +85,7 @@ module _ {c n : ℕ} {m : List ℕ} (k : ℕ) (q : Context) where
       ))
 
   pub no-old-key : Image c n m → q .«has_queue_key» ≡ false → Staged c n k m m false (λ (s : State). on-cpu (λ (p : Cpu). cpu-queue (without-old-key q (p .queue)) p) s)
-  no-old-key i h = stage-as (staged-none k i) (λ M z o. (ap (λ (y : Bool). without q y (state-of k M)) (sym h), λ y w. refl))
+  no-old-key i h = stage-as (stage-none i) (λ M z o. (ap (λ (y : Bool). without q y (state-of k M)) (sym h), λ y w. refl))
 
 -- the entry of the record e, in the code's values
 module _ (x name w prio : ℕ) (e : Context) (y : Entry) (hn : name ≡ x) (hw : (w ≡ weight prio) × (15 ≤ w) × (w ≤ 88761)) (hy : y ≡ entry-of name w e) where

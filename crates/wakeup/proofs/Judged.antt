@@ -23,7 +23,8 @@ use Rattle.wakeup_judge.specs.declared.WakeupResult.the-variants.{Dropped, Lock
 use Rattle.wakeup_judge.specs.Judge.{wake-of, wakeup-of, result-of, may-enter-at, judged}
 use Rattle.wakeup_judge.proofs.Judging.{judged-is}
 use Rattle.wakeup.specs.Paced.{Paced, RecordFits, ResultFits}
-use Rattle.wakeup.proofs.Entering.{Loaded, staged-none}
+use Rattle.stages.proofs.Reading.{stage-none}
+use Rattle.wakeup.proofs.Entering.{Loaded}
 
 -- put back, as the code found it
 abbrev back : Wakeup → Bool → State → State
@@ -42,7 +43,7 @@ module _ {c n k : ℕ} {m m' : List ℕ} {r : Bool} (w : Wakeup) where
 module _ {c n k : ℕ} {m : List ℕ} (w : Wakeup) (r : WakeupResult) where
   pub as-dropped : Image c n m → r ≡ Dropped → Staged c n k m m false (λ (s : State). wake-as s (wakeup-of w) (result-of r))
   unfolding wake-as
-  as-dropped i h = stage-as (staged-none k i) (λ M e o. (ap (λ (y : WakeupResult). wake-as (state-of k M) (wakeup-of w) (result-of y)) (sym h), λ y z. refl))
+  as-dropped i h = stage-as (stage-none i) (λ M e o. (ap (λ (y : WakeupResult). wake-as (state-of k M) (wakeup-of w) (result-of y)) (sym h), λ y z. refl))
 
   pub as-locked : {m' : List ℕ} {b : Bool} → r ≡ Locked → Staged c n k m m' b (λ (s : State). put-back (wake-of w) (w .«context_ref») s)
       → Staged c n k m m' b (λ (s : State). wake-as s (wakeup-of w) (result-of r))

@@ -3,6 +3,5 @@ pub mod Listed
 pub mod Entering
 pub mod Judged
 pub mod Serving
-pub mod Higher
 pub mod BoundedOnce
 pub mod Bounded

@@ -9,6 +9,7 @@ use native.Mathlib.Nat.{div-zero}
 use lib.Dec.{ltb}
 use lib.ListN.{length, getD}
 use borrow.Author.Tests.{ltb-true, ltb-false}
+use Rattle.columns.proofs.Tabulate.{getD-past}
 use Rattle.columns.specs.Common.{if_then_else_}
 use Rattle.columns.proofs.Tests.{by-test}
 use Rattle.context.specs.declared.Context.{Context}
@@ -20,11 +21,6 @@ use Rattle.decision.specs.State.{State, at, put-context}
 use Rattle.decision.specs.Wakeups.{Wakeup, waits-for, woken-by, put-back, enter, entering, wake-as, serve-wakeup}
 use Rattle.decision.proofs.WakeupCases.{wakeup-cases}
 use Rattle.wakeup.specs.Paced.{Slow}
-
-getD-past : {A : Type 0} (l : List A) (i : ℕ) (d : A) → length l ≤ i → getD l i d ≡ d
-getD-past [] i d h = refl
-getD-past (x ∷ xs) zero d h = absurd (omega arith)
-getD-past (x ∷ xs) (suc i) d h = getD-past xs i d (omega arith)
 
 weight-past : (p : ℕ) → 40 ≤ p → weight p ≡ 0
 unfolding weight weights

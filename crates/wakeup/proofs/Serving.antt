@@ -10,7 +10,7 @@ use lib.Dec.{ltb}
 use lib.ListN.{length}
 use borrow.Author.Tests.{ltb-true, ltb-false}
 use Rattle.columns.specs.Common.{fold}
-use Rattle.columns.proofs.Tests.{by-test}
+use Rattle.columns.proofs.Tests.{by-test, never}
 use Rattle.machine.specs.Machine.{Machine}
 use Rattle.machine.specs.Encode.{encode}
 use Rattle.machine.specs.Shape.{Fits, Image}
@@ -18,6 +18,7 @@ use Rattle.decision.specs.State.{State, state-of, at}
 use Rattle.decision.specs.Wakeups as definition
 use Rattle.decision.specs.Wakeups.{wakeups, drained, put-back, enter, wake-as, serve-wakeup, serve-wakeups}
 use Rattle.decision.proofs.WakeupCases.{wakeup-cases}
+use Rattle.decision.proofs.NoRoom.{serve-full}
 use Rattle.stages.specs.Stage.{put-state, Staged, Ranged}
 use Rattle.stages.proofs.Compose.{state-put, stage-then, stage-as}
 use Rattle.wakeup_judge.specs.declared.Wakeup.{Wakeup}
@@ -26,18 +27,8 @@ use Rattle.wakeup_read.specs.Read.{wakeup-at, wakeups-in}
 use Rattle.wakeup_read.proofs.Scratched.{wakeup-such}
 use Rattle.wakeup.specs.Paced.{Slow, Paced, Named}
 use Rattle.wakeup.proofs.Pacing.{slow-more, slow-serve}
-use Rattle.wakeup.proofs.Entering.{staged-none}
+use Rattle.stages.proofs.Reading.{stage-none}
 use Rattle.wakeup.proofs.Listed.{wakeups-named}
-
--- the mark stays
-put-back-full : (o : Option ℕ) (x : ℕ) (s : State) → s .no-room ≡ true → (put-back o x s) .no-room ≡ true
-put-back-full none x s h = rw h
-put-back-full (some t) x s h = rw h
-
-serve-full : (s : State) (w : definition.Wakeup) → s .no-room ≡ true → (serve-wakeup s w) .no-room ≡ true
-unfolding serve-wakeup wake-as enter
-serve-full s w h =
-    wakeup-cases s w (λ r. (wake-as s w r) .no-room ≡ true) h (λ a. put-back-full (w .wake) (w .«context_ref») s h) (λ a l e. rw h) (λ a t. h)
 
 -- the state after the first i wake-ups of the scratch
 abbrev pub after : List ℕ → ℕ → State → State
@@ -57,9 +48,6 @@ after-full d i (suc j) s h e =
     by-test (ltb i (suc j))
     (λ t. let b : i ≤ j = (let a : i < suc j = ltb-true i (suc j) t in omega arith) in rw (after-next d j s) (serve-full (after d j s) (wakeup-of (wakeup-at d j)) (after-full d i j s b e)))
     (λ t. let a : suc j ≤ i = ltb-false i (suc j) t in let z : i ≡ suc j = omega arith in rw z at e)
-
-never {ℓ} : {C : Type ℓ} → true ≡ false → C
-never e = let z : _≡_ {A = ℕ} 0 1 = cc in absurd (omega arith)
 
 -- a stage without room, and all that sets the mark where it does
 staged-full : {c n k : ℕ} {m m' m'' : List ℕ} {f f' : State → State} → Staged c n k m m' true f → ((s : State) → (f s) .no-room ≡ true → (f' s) .no-room ≡ true) → Staged c n k m m'' true f'
@@ -90,7 +78,7 @@ pub record ServeLoop (c n k len : ℕ) (m₀ m d : List ℕ) (i : ℕ) : Type 0 
 
 pub serve-start : {c n k : ℕ} {m : List ℕ} (len : ℕ) (d : List ℕ) → Image c n m → Paced c n k 4611686018427387903 4611686018427387903 m → ServeLoop c n k len m m d 0
 unfolding wakeups-in
-serve-start {k = k} len d i p = record { here = omega arith; same = refl; served = staged-none k i; paced = paced-more _ (omega arith) p }
+serve-start {k = k} len d i p = record { here = omega arith; same = refl; served = stage-none i; paced = paced-more _ (omega arith) p }
 
 module _ {c n k len : ℕ} {m₀ m d : List ℕ} {i : ℕ} (h : k < c) (l : ServeLoop c n k len m₀ m d i) (b : i < len) (w : Wakeup) (hw : w ≡ wakeup-at d i) where
   pub serve-named : Named n (wakeups-in d len) → w .«context_ref» < n

@@ -1,4 +1,5 @@
-use Rattle.admission.proofs.Refused.{names, locked}
+use Rattle.stages.proofs.Reading.{block-fits}
+use Rattle.admission.proofs.Refused.{locked}
 use borrow.Author.Needs.{needs}
 use Rattle.admission.proofs.decision_locked.Statement.{statement}
 use Rattle.admission.proofs.decision_locked.Tie as tie
@@ -10,19 +11,19 @@ index-requires : tie.Need-index-requires
 index-requires c κs = search needs
 
 load-requires : tie.Need-load-requires
-load-requires c κs = (c .before .before .before .pre .0, rw (c .index .ensures) (names (c .before .before .before .args .k) (c .before .load-block .ensures) (c .before .before .before .pre .0) (c .before .before .before .pre .1) .current))
+load-requires c κs = (c .before .before .before .pre .0, rw (c .index .ensures) (block-fits (c .before .before .before .pre .0) (c .before .before .before .args .k) (c .before .before .before .pre .1) (c .before .load-block .ensures) .current))
 
 index-requires-2 : tie.Need-index-requires-2
 index-requires-2 c κs = search needs
 
 load-requires-2 : tie.Need-load-requires-2
-load-requires-2 c κs = (c .before .before .before .before .before .pre .0, rw (c .index2 .ensures) (names (c .before .before .before .before .before .args .k) (c .before .before .before .load-block .ensures) (c .before .before .before .before .before .pre .0) (c .before .before .before .before .before .pre .1) .sched))
+load-requires-2 c κs = (c .before .before .before .before .before .pre .0, rw (c .index2 .ensures) (block-fits (c .before .before .before .before .before .pre .0) (c .before .before .before .before .before .args .k) (c .before .before .before .before .before .pre .1) (c .before .before .before .load-block .ensures) .sched))
 
 index-requires-3 : tie.Need-index-requires-3
 index-requires-3 c κs = search needs
 
 load-requires-3 : tie.Need-load-requires-3
-load-requires-3 c κs = (c .before .before .before .before .before .before .before .pre .0, rw (c .index3 .ensures) (names (c .before .before .before .before .before .before .before .args .k) (c .before .before .before .before .before .load-block .ensures) (c .before .before .before .before .before .before .before .pre .0) (c .before .before .before .before .before .before .before .pre .1) .idle))
+load-requires-3 c κs = (c .before .before .before .before .before .before .before .pre .0, rw (c .index3 .ensures) (block-fits (c .before .before .before .before .before .before .before .pre .0) (c .before .before .before .before .before .before .before .args .k) (c .before .before .before .before .before .before .before .pre .1) (c .before .before .before .before .before .load-block .ensures) .idle))
 
 is-locked-requires : tie.Need-is-locked-requires
 is-locked-requires c κs = search needs

@@ -2,7 +2,7 @@
 use mathlib.Core.Path.{refl}
 use native.Mathlib.Omega.{arith}
 use borrow.Author.Needs.{needs}
-use Rattle.turn.proofs.Reading.{context-fits}
+use Rattle.stages.proofs.Reading.{context-fits}
 use Rattle.switch_to.proofs.Switching.{entered-as}
 use Rattle.switch_to.proofs.Recorded.{comes-fits, current-fits}
 use Rattle.switch_to.proofs.enter.Statement.{statement}

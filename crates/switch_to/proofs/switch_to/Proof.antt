@@ -1,6 +1,6 @@
 -- `switch_to::switch_to` meets its contract. Assumes nothing.
 use borrow.Author.Needs.{needs}
-use Rattle.turn.proofs.Reading.{block-fits, context-fits}
+use Rattle.stages.proofs.Reading.{block-fits, context-fits}
 use Rattle.switch_to.proofs.Switching.{current-named, time-below, switched-as}
 use Rattle.switch_to.proofs.switch_to.Statement.{statement}
 use Rattle.switch_to.proofs.switch_to.Tie as tie

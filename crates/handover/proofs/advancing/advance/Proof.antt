@@ -1,6 +1,6 @@
 -- `handover::advancing::advance` meets its contract. Assumes nothing.
 use borrow.Author.Needs.{needs}
-use Rattle.turn.proofs.Reading.{block-fits}
+use Rattle.stages.proofs.Reading.{block-fits}
 use Rattle.handover.proofs.Advanced.{v-below, advanced-fits, advanced-stored}
 use Rattle.handover.proofs.advancing.advance.Statement.{statement}
 use Rattle.handover.proofs.advancing.advance.Tie as tie

@@ -1,6 +1,6 @@
 -- `handover::handing::hand_over` meets its contract. Assumes nothing.
 use borrow.Author.Needs.{needs}
-use Rattle.turn.proofs.Reading.{sched-named, block-fits, context-fits}
+use Rattle.stages.proofs.Reading.{sched-named, block-fits, context-fits}
 use Rattle.handover.proofs.Handed.{time-below, handed-as}
 use Rattle.handover.proofs.handing.hand_over.Statement.{statement}
 use Rattle.handover.proofs.handing.hand_over.Tie as tie

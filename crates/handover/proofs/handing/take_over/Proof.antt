@@ -1,7 +1,7 @@
 -- `handover::handing::take_over` meets its contract. Assumes nothing.
 use mathlib.Core.Path.{refl}
 use borrow.Author.Needs.{needs}
-use Rattle.turn.proofs.Reading.{context-fits}
+use Rattle.stages.proofs.Reading.{context-fits}
 use Rattle.handover.proofs.Handed.{taken-fits, sched-fits, taken-over-as}
 use Rattle.handover.proofs.handing.take_over.Statement.{statement}
 use Rattle.handover.proofs.handing.take_over.Tie as tie

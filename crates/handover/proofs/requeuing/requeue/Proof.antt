@@ -1,6 +1,6 @@
 -- `handover::requeuing::requeue` meets its contract. Assumes nothing.
 use borrow.Author.Needs.{needs}
-use Rattle.turn.proofs.Reading.{sched-named, context-fits}
+use Rattle.stages.proofs.Reading.{sched-named, context-fits}
 use Rattle.handover.proofs.Requeued.{requeued-as}
 use Rattle.handover.proofs.requeuing.requeue.Statement.{statement}
 use Rattle.handover.proofs.requeuing.requeue.Tie as tie

@@ -1,6 +1,7 @@
 -- `schedule::beginning::begin` meets its contract. Assumes nothing.
 use mathlib.Core.Path.{refl}
-use Rattle.schedule.proofs.Parts.{full-is, never}
+use Rattle.columns.proofs.Tests.{never}
+use Rattle.schedule.proofs.Parts.{full-is}
 use Rattle.schedule.proofs.Start.{counting-ranged, counted-ranged, begun-full, served-ranged, begun, begun-elapsed, begun-ranged}
 use borrow.Author.Needs.{needs}
 use Rattle.schedule.proofs.beginning.begin.Statement.{statement}

@@ -5,7 +5,7 @@ use native.Mathlib.Omega.{arith}
 use Rattle.percpu.specs.declared.PercpuBlock.{PercpuBlock}
 use Rattle.percpu.specs.Cpu.{Cpu}
 use Rattle.percpu.specs.With.{cpu-pit-ticks}
-use Rattle.turn.proofs.Reading.{block-fits, stored-with}
+use Rattle.stages.proofs.Reading.{block-fits, stored-with}
 use Rattle.schedule.proofs.Called.{pit-below, ticked-as, ticked-fits}
 use borrow.Author.Needs.{needs}
 use Rattle.schedule.proofs.calls.count_tick.Statement.{statement}

@@ -3,7 +3,7 @@ use mathlib.Core.Path.{refl, sym, ap, _∙_}
 use Prim.Native.Nat.{ℕ}
 use native.Mathlib.Omega.{arith}
 use lib.Dec.{eqb}
-use Rattle.turn.proofs.Kept.{ranged-more}
+use Rattle.stages.proofs.Kept.{ranged-more}
 use Rattle.switch_to.specs.declared.direct.DirectSwitch.the-variants.{NotSwitched, Switched, NoRoom}
 use Rattle.schedule.proofs.Inner.{direct-is, begin-again}
 use Rattle.schedule.proofs.Called.{can-begin, direct, direct-current, directly, directly-full, not-directly}

@@ -1,5 +1,5 @@
 -- `schedule::choosing::prev_runnable` meets its contract. Assumes nothing.
-use Rattle.turn.proofs.Reading.{sched-named}
+use Rattle.stages.proofs.Reading.{sched-named}
 use Rattle.schedule.proofs.Chosen.{runs-idle, runs-by}
 use borrow.Author.Needs.{needs}
 use Rattle.schedule.proofs.choosing.prev_runnable.Statement.{statement}

@@ -1,6 +1,7 @@
 -- `schedule::scheduling::schedule` meets its contract. Assumes nothing.
 use mathlib.Core.Path.{sym, _∙_}
-use Rattle.schedule.proofs.Parts.{full-is, part-full-is, never}
+use Rattle.columns.proofs.Tests.{never}
+use Rattle.schedule.proofs.Parts.{full-is, part-full-is}
 use Rattle.schedule.proofs.Scheduled.{schedule-unbegun, schedule-full, schedule-room}
 use borrow.Author.Needs.{needs}
 use Rattle.schedule.proofs.scheduling.schedule.Statement.{statement}

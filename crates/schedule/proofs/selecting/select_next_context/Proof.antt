@@ -1,6 +1,7 @@
 -- `schedule::selecting::select_next_context` meets its contract. Assumes nothing.
 use mathlib.Core.Path.{sym, _∙_}
-use Rattle.schedule.proofs.Parts.{full-is, part-full-is, never}
+use Rattle.columns.proofs.Tests.{never}
+use Rattle.schedule.proofs.Parts.{full-is, part-full-is}
 use Rattle.schedule.proofs.Picked.{charged-full, charged-then, charged-ranged}
 use borrow.Author.Needs.{needs}
 use Rattle.schedule.proofs.selecting.select_next_context.Statement.{statement}

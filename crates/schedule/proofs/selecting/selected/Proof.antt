@@ -1,7 +1,8 @@
 -- `schedule::selecting::selected` meets its contract. Assumes nothing.
 use mathlib.Core.Path.{sym, _∙_}
 use native.Mathlib.Omega.{arith}
-use Rattle.schedule.proofs.Parts.{full-is, part-full-is, never}
+use Rattle.columns.proofs.Tests.{never}
+use Rattle.schedule.proofs.Parts.{full-is, part-full-is}
 use Rattle.schedule.proofs.Picked.{selected-unchosen, selected-full, selected-room, selected-named, selected-ranged, next-as}
 use borrow.Author.Needs.{needs}
 use Rattle.schedule.proofs.selecting.selected.Statement.{statement}

@@ -3,7 +3,7 @@ use Rattle.cpu_stats.specs.declared.CpuState.the-variants.{Idle}
 use Rattle.cpu_stats.specs.With.{stats-state}
 use Rattle.percpu.specs.Cpu.{Cpu}
 use Rattle.percpu.specs.With.{cpu-stats}
-use Rattle.turn.proofs.Reading.{block-fits, stored-as}
+use Rattle.stages.proofs.Reading.{block-fits, stored-as}
 use Rattle.schedule.proofs.Inner.{idle-as, idle-fits}
 use borrow.Author.Needs.{needs}
 use Rattle.schedule.proofs.switching.mark_idle.Statement.{statement}

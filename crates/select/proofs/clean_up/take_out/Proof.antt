@@ -1,6 +1,7 @@
 use mathlib.Core.Path.{ap}
 use Rattle.select.specs.Values.{winner-of}
-use Rattle.select.proofs.Cleaning.{stage-none, taken-as, winner-at}
+use Rattle.stages.proofs.Reading.{stage-none}
+use Rattle.select.proofs.Cleaning.{taken-as, winner-at}
 use borrow.Author.Needs.{needs}
 use Rattle.select.proofs.clean_up.take_out.Statement.{statement}
 use Rattle.select.proofs.clean_up.take_out.Tie as tie

@@ -1,4 +1,5 @@
-use Rattle.stages.proofs.Blocks.{inserted, never}
+use Rattle.columns.proofs.Tests.{never}
+use Rattle.stages.proofs.Blocks.{inserted}
 use mathlib.Core.Path.{sym, _∙_}
 use borrow.Author.Needs.{needs}
 use Rattle.stages.proofs.block.insert_entry.Statement.{statement}

@@ -1,4 +1,5 @@
-use Rattle.stages.proofs.Blocks.{local-full, local-room, never}
+use Rattle.columns.proofs.Tests.{never}
+use Rattle.stages.proofs.Blocks.{local-full, local-room}
 use borrow.Author.Needs.{needs}
 use Rattle.stages.proofs.block.push_local.Statement.{statement}
 use Rattle.stages.proofs.block.push_local.Tie as tie

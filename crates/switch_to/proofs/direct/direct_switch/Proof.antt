@@ -3,7 +3,7 @@ use mathlib.Core.Bool.{true, false}
 use mathlib.Core.Path.{refl}
 use native.Mathlib.Omega.{arith}
 use borrow.Author.Needs.{needs}
-use Rattle.turn.proofs.Kept.{context-kept, ranged-stage}
+use Rattle.stages.proofs.Kept.{context-kept, ranged-stage}
 use Rattle.switch_to.proofs.Directly.{direct-done}
 use Rattle.switch_to.proofs.direct.direct_switch.Statement.{statement}
 use Rattle.switch_to.proofs.direct.direct_switch.Tie as tie

@@ -1,6 +1,6 @@
 -- `switch_to::direct::try_direct_switch_back` meets its contract. Assumes nothing.
 use borrow.Author.Needs.{needs}
-use Rattle.turn.proofs.Reading.{sched-named}
+use Rattle.stages.proofs.Reading.{sched-named}
 use Rattle.switch_to.proofs.Directly.{in-charge, switched-back}
 use Rattle.switch_to.proofs.direct.try_direct_switch_back.Statement.{statement}
 use Rattle.switch_to.proofs.direct.try_direct_switch_back.Tie as tie

@@ -1,7 +1,7 @@
 -- `turn::charging::charge_holder` meets its contract. Assumes nothing.
 use borrow.Author.Needs.{needs}
 use Rattle.turn.proofs.Charged.{charged-idle, chargeable, charged-held}
-use Rattle.turn.proofs.Reading.{block-fits, context-fits, sched-named}
+use Rattle.stages.proofs.Reading.{block-fits, context-fits, sched-named}
 use Rattle.turn.proofs.charging.charge_holder.Statement.{statement}
 use Rattle.turn.proofs.charging.charge_holder.Tie as tie
 

@@ -3,7 +3,7 @@ use native.Mathlib.Omega.{arith}
 use borrow.Author.Needs.{needs}
 use Rattle.decision.specs.Charging.{count-switch}
 use Rattle.turn.proofs.Counted.{counted-as, counted-fits}
-use Rattle.turn.proofs.Reading.{block-fits, counters-below, stored-as}
+use Rattle.stages.proofs.Reading.{block-fits, counters-below, stored-as}
 use Rattle.turn.proofs.counting.count_switch.Statement.{statement}
 use Rattle.turn.proofs.counting.count_switch.Tie as tie
 

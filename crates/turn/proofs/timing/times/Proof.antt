@@ -4,7 +4,7 @@ use borrow.Author.Needs.{needs}
 use Rattle.machine.specs.Machine.{cpu-at}
 use Rattle.decision.specs.Charging.{times}
 use Rattle.turn.proofs.Counted.{timed-as, timed-fits, turn-as}
-use Rattle.turn.proofs.Reading.{block-fits, counters-below, stored-with}
+use Rattle.stages.proofs.Reading.{block-fits, counters-below, stored-with}
 use Rattle.turn.proofs.timing.times.Statement.{statement}
 use Rattle.turn.proofs.timing.times.Tie as tie
 

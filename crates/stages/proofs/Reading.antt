@@ -5,6 +5,7 @@ use Prim.Native.Nat.{ℕ, zero, suc, _<_, _≤_}
 use native.Mathlib.Omega.{arith}
 use mathlib.Core.List.{List, [], _∷_}
 use lib.ListN.{length, getD, set}
+use lib.Seq.{set-getD}
 use Rattle.context.specs.declared.Context.{Context}
 use Rattle.cpu_stats.specs.Counted.{CountersBelow}
 use Rattle.percpu.specs.declared.PercpuBlock.{PercpuBlock}
@@ -57,14 +58,9 @@ module _ {c n : ℕ} {m : List ℕ} where
       → ((M : Machine) → m ≡ encode M → Fits c n M → cpu-block b (cpu-at M k) ≡ f (cpu-at M k)) → Staged c n k m m' false (λ (s : State). on-cpu f s)
   stored-as f t h = stored-with f t (λ M e o. (h M e o, refl))
 
-set-same : {A : Type 0} (l : List A) (i : ℕ) (d : A) → set l i (getD l i d) ≡ l
-set-same [] i d = refl
-set-same (x ∷ xs) zero d = refl
-set-same (x ∷ xs) (suc i) d = ap (λ (t : List _). x ∷ t) (set-same xs i d)
-
 pub put-same : (k : ℕ) (M : Machine) → put-state k (state-of k M) M ≡ M
 unfolding cpu-at
-put-same k M = λ j. record { contexts = M .contexts; cpus = set-same (M .cpus) k no-cpu j }
+put-same k M = λ j. record { contexts = M .contexts; cpus = set-getD (M .cpus) k no-cpu j }
 
 -- nothing was stored, where the definition changes nothing
 pub unchanged-with : {R : Type 0} {c n : ℕ} {m : List ℕ} {r : R} {g : State → R} (k : ℕ) (f : State → State) → Image c n m
@@ -83,3 +79,7 @@ unchanged-with {c = c} {n = n} k f i h =
 
 pub unchanged : {c n : ℕ} {m : List ℕ} (k : ℕ) (f : State → State) → Image c n m → ((M : Machine) → m ≡ encode M → Fits c n M → f (state-of k M) ≡ state-of k M) → Staged c n k m m false f
 unchanged k f i h = unchanged-with k f i (λ M e o. (h M e o, refl))
+
+-- a stage that does nothing
+pub stage-none : {c n k : ℕ} {m : List ℕ} → Image c n m → Staged c n k m m false (λ (s : State). s)
+stage-none {k = k} i = unchanged k (λ (s : State). s) i (λ M e o. refl)
