@@ -8,7 +8,7 @@ use base.Logic.{SProp, ent, guard}
 use base.Fml.{fsep, fat}
 use prog.Wp.{Heap}
 use ghost.Atoms.{Atoms, sem}
-use types.Kit.{Given, ‵, _$_, _∵_, !, qed, by, move, drop, use1, fsplit, fjoin, fpick, fpack, check, done}
+use types.Kit.{Given, ‵, _$_, _∵_, !, qed, move, drop, use1, fsplit, fjoin, fpick, fpack, check, done}
 use denote.RattleType.{RattleType}
 use denote.Laws.{Is, shows}
 use denote.Memory.{mem, cellAt, partOf}
