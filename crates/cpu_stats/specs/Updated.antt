@@ -1,5 +1,5 @@
 -- A change of a CPU's state or counters, and what it asks of their ranges. Assumes nothing.
-use Prim.Native.Nat.{ℕ, _<_}
+use Prim.Native.Nat.{_<_}
 use Rattle.cpu_stats.specs.declared.CpuStats.{CpuStats}
 use Rattle.cpu_stats.specs.declared.lent.Change.{Change}
 use Rattle.cpu_stats.specs.declared.lent.Change.the-variants.{State, Time, Switch}

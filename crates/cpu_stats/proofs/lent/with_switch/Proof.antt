@@ -16,7 +16,7 @@ use prog.Wp.{Heap, Calls, Loops, WpFn, Tables}
 use ghost.Atoms.{Atoms, sem}
 use contract.Monad.{Fun, fact}
 use contract.Running.{givenOf, tables, tablesOf}
-use types.Kit.{Given, ‵, raw, _⊛_, some, later, given, _$_, _∵_, !, qed, by, move, keep, drop, use1, use2, use3, split, join, pick, fsplit, fjoin, feqL, learn, suffices, frame, await, done}
+use types.Kit.{Given, ‵, raw, _⊛_, some, later, given, _$_, _∵_, !, qed, by, move, keep, use1, use2, use3, split, join, pick, fsplit, fjoin, feqL, learn, suffices, frame, await, done}
 use types.Tokens.{lft-new, lft-end}
 use types.Run.{look, init, forget, stop, from, load, and-then, no-more, of-opd, addr, assigns, land, returns, enter, alloc1, alloc0, params1, pass1, pass0, free1, free0}
 use types.SemTy.{Body}
@@ -71,7 +71,8 @@ stayed = (stay-none (λ _. R) yes, (stay-none (λ _. S) yes, tt))
 abbrev Lent : {M : Type 1} (𝓤 : URA M) (H : Heap 𝓤) (A : Atoms 𝓤) (at-mem : Memory → SProp 𝓤) (run : Routine → Fun 𝓤) → Contract 𝓤
 Lent 𝓤 H A at-mem run = tripleOf 𝓤 H A lent.signature (lent.spec 𝓤 H A at-mem run)
 
-module _ {M : Type 1} (𝓤 : URA M) (H : Heap 𝓤) (A : Atoms 𝓤) (W : Given 𝓤 H A) (at-mem : Memory → SProp 𝓤) (run : Routine → Fun 𝓤) (h : CpuStats) (x : X) (is-h : Is R h (value h ∷ [])) (is-x : Is S x (arg-value x ∷ [])) (ok : CountersBelow 9223372036854775808 h) where
+module _ {M : Type 1} (𝓤 : URA M) (H : Heap 𝓤) (A : Atoms 𝓤) (W : Given 𝓤 H A) (at-mem : Memory → SProp 𝓤) (run : Routine → Fun 𝓤) (h : CpuStats) (x : X) (is-h : Is R h (value h ∷ []))
+    (is-x : Is S x (arg-value x ∷ [])) (ok : CountersBelow 9223372036854775808 h) where
   abbrev a : CpuStats × (X × Unit {0})
   a = (h, (x, tt))
 
@@ -116,7 +117,8 @@ module _ {M : Type 1} (𝓤 : URA M) (H : Heap 𝓤) (A : Atoms 𝓤) (W : Given
         -- [what the call asks; the lender's part; _5; …; _4; …; what frees _3; _2; …; _1; …; room for _0; …; true; what the arguments own]
         calls-at ! fm (Lent 𝓤 H A at-mem run) known (to-lent l₃ ν δ) (and-then ! (load ! (from ! (stop !)) (look ! 2 refl)) (and-then ! (load ! (from ! (stop !)) (look ! 7 refl)) (no-more !))) (λ v.
         use1 W (later (some (λ (r : Unit {0}). ((‵ (flft (ν ∷ []) fullShare) ⊛ ‵ ftrue) ⊛ ‵ (unit .own r (v ∷ []))) ⊛ raw (ensured 𝓤 H A lent.ended (lent.clauses 𝓤 H A at-mem run) (ν ∷ [], tt) (ref l₃ δ, (x, tt)) tt r)))) (id⊢ 𝓤 _) $ await ! tt $ pick ! (λ r.
-        split ! $ move ! (1 ∷ []) $ use1 W (some (λ (ws : CpuStats × (Unit {0} × Unit {0})). ‵ (lasts lent.ended (ν ∷ [], tt) (ref l₃ δ, (x, tt)) ws) ⊛ raw (fact 𝓤 (ws .0 ≡ given-by x h)))) (id⊢ 𝓤 _) $ pick ! (λ ws.
+        split ! $ move ! (1 ∷ []) $
+        use1 W (some (λ (ws : CpuStats × (Unit {0} × Unit {0})). ‵ (lasts lent.ended (ν ∷ [], tt) (ref l₃ δ, (x, tt)) ws) ⊛ raw (fact 𝓤 (ws .0 ≡ given-by x h)))) (id⊢ 𝓤 _) $ pick ! (λ ws.
         split ! $ move ! (1 ∷ []) $ heard ! (ws .0 ≡ given-by x h) (λ e. fsplit ! $ move ! (2 ∷ []) $ split ! $ split ! $ move ! (2 ∷ []) $ feqL ! (λ u.
         -- [the token; true; the last value; true; the lender's part; _5; …; _4; …; what frees _3; _2; …; _1; …; room for _0; …; true; what the arguments own]
         land ! (from ! (stop !)) (init ! 7 refl (subst (λ (z : Val). Holds (hasTy tyUnit z) × WT z) (sym (ap only u)) (tt, tt))) $
@@ -126,11 +128,13 @@ module _ {M : Type 1} (𝓤 : URA M) (H : Heap 𝓤) (A : Atoms 𝓤) (W : Given
         -- [_3; true; true; _5; …; _4; …; what frees _3; _2; …; _1; …; room for _0; …; true; what the arguments own]
         assigns ! (of-opd ! (load ! (from ! (stop !)) (look ! 0 refl))) (from ! (stop !)) (init ! 12 refl (LL.lawful T.the-type T′.the-laws 𝓤 H A W .typed (ws .0) _ is .0)) $
         returns ! (look ! 12 refl) $ forget ! 0 refl $ forget ! 3 refl $ forget ! 5 refl $ forget ! 8 refl $ forget ! 10 refl $ forget ! 12 refl $
-        move ! (12 ∷ 13 ∷ []) $ free1 ! $ move ! (10 ∷ 11 ∷ []) $ free1 ! $ move ! (8 ∷ 9 ∷ []) $ free1 ! $ move ! (0 ∷ 7 ∷ []) $ free1 ! $ move ! (4 ∷ 5 ∷ []) $ free1 ! $ move ! (2 ∷ 3 ∷ []) $ free1 ! $ free0 ! $
+        move ! (12 ∷ 13 ∷ []) $ free1 ! $ move ! (10 ∷ 11 ∷ []) $ free1 ! $ move ! (8 ∷ 9 ∷ []) $ free1 ! $ move ! (0 ∷ 7 ∷ []) $ free1 ! $ move ! (4 ∷ 5 ∷ []) $ free1 ! $
+        move ! (2 ∷ 3 ∷ []) $ free1 ! $ free0 ! $
         keep ! (0 ∷ []) $ by ! (exits (ws .0) e is)))))))))))))))
 
 module _ {M : Type 1} (𝓤 : URA M) (H : Heap 𝓤) (A : Atoms 𝓤) (W : Given 𝓤 H A) (at-mem : Memory → SProp 𝓤) (run : Routine → Fun 𝓤) where
-  with-walks : (C : Calls 𝓤 H) (Λ : Loops 𝓤 H) → FmC 𝓤 H (W .laws) C → Triple 𝓤 (C #lent) (Lent 𝓤 H A at-mem run) → Walks 𝓤 H A with.ended stayed (WpFn 𝓤 H C Λ code.function) (with.clauses 𝓤 H A at-mem run)
+  with-walks : (C : Calls 𝓤 H) (Λ : Loops 𝓤 H) → FmC 𝓤 H (W .laws) C → Triple 𝓤 (C #lent) (Lent 𝓤 H A at-mem run)
+      → Walks 𝓤 H A with.ended stayed (WpFn 𝓤 H C Λ code.function) (with.clauses 𝓤 H A at-mem run)
   with-walks C Λ fm known = walked 𝓤 H A with.ended stayed (with.clauses 𝓤 H A at-mem run) (WpFn 𝓤 H C Λ code.function) (λ κs. (LL.vals T.the-type T′.the-laws, (bool-vals, tt))) (λ κs. (LL.tells T.the-type T′.the-laws, (bool-tells, tt)))
       (λ κs qs bounds a g are. needs 𝓤 (CountersBelow 9223372036854775808 (a .0)) _ (λ ok. walk 𝓤 H A W at-mem run (a .0) (a .1 .0) (are .0) (are .1 .0) ok C Λ fm known))
 
