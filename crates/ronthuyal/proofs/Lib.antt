@@ -1,1 +1,3 @@
 pub mod Called
+pub mod Demanded
+pub mod Dispatched
