@@ -32,14 +32,12 @@ use Rattle.ronthuyal.specs.declared.Checked.the-variants.{Refused, Passe
 use Rattle.ronthuyal.specs.Call.{check}
 use Rattle.ronthuyal.specs.Demand.{StandsFor, DemandMet}
 use Rattle.ronthuyal.proofs.Called.{is-refused, call-none, call-machine}
+use Rattle.ronthuyal.proofs.Accepts.{refused-not}
 
 -- what an accepted call says of the machine
 pub record WasAccepted (M : Machine) (k time : ℕ) (call : Call) : Type 0 where
   pub present : cpu-at M k .block .present ≡ true
   pub room : (outcome call k time M) .no-room ≡ false
-
-refused-not : {C : Type 0} {a : Answer} {m' : List ℕ} (r : ℕ) (m : List ℕ) → (r ≡ 0 → ⊥) → reply a m' ≡ refuse r m → a .refusal ≡ 0 → C
-refused-not r m n e z = absurd (n (sym (ap (λ (y : Reply). y .answer .refusal) e) ∙ z))
 
 module _ {a : Answer} {m' : List ℕ} (m : List ℕ) (M : Machine) (cpu time : ℕ) (z : a .refusal ≡ 0) where
   room-of : (o : Outcome) → reply a m' ≡ replied m o → o .no-room ≡ false
