@@ -43,13 +43,13 @@ decodes M o =
     in record { queue = f .queue; timers = f .timers; local = f .local; ipi = f .ipi })
 
 -- there was room
-pub accepted : {c n : ℕ} {m' : List ℕ} {r : ℕ} (m : List ℕ) (o : Outcome) {full : Bool} → full ≡ false → DecidesAt c n m' full r o
-    → Replies m' (record { refusal = 0; result = r; interrupt = 0 }) (replied m o) (o .machine)
+pub room : {c n : ℕ} {m' : List ℕ} {r : ℕ} {a : Answer} (m : List ℕ) (o : Outcome) {full : Bool} → full ≡ false → DecidesAt c n m' full r o
+    → a ≡ record { refusal = 0; result = r; interrupt = 0 } → Replies m' a (replied m o) (o .machine)
 unfolding replied
-accepted {m' = m'} {r = r} m o t d =
-    let room : o .no-room ≡ false = sym (d .room) ∙ t
+room {m' = m'} {r = r} m o t d h =
+    let e : o .no-room ≡ false = sym (d .room) ∙ t
     in record {
-      replies = rw (room, d .interrupt) (λ i. record { answer = record { refusal = 0; result = d .result t i; interrupt = 0 }; image = d .after t i });
+      replies = rw (e, d .interrupt, h) (λ i. record { answer = record { refusal = 0; result = d .result t i; interrupt = 0 }; image = d .after t i });
       leaves = λ z. ap decode (d .after t) ∙ decodes (o .machine) (d .fits t);
     }
 

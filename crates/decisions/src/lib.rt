@@ -25,6 +25,16 @@ pub enum Decision {
     DirectSwitchTo(usize),
 }
 
+fn accepted(result: u64) -> Answer
+    ensures { λ r. ⌜ r ≡ record { refusal = 0; result = result; interrupt = 0 } ⌝ }
+{
+    Answer {
+        refusal: 0,
+        result,
+        interrupt: 0,
+    }
+}
+
 // Follows the source. Where an insertion finds no room the image is left half-way.
 fn follow(m: &mut [u64], c: usize, n: usize, k: usize, time: u64, d: Decision) -> Decided
     requires { ⌜ Image c n (now m) ⌝ }
@@ -52,11 +62,7 @@ fn in_place(m: &mut [u64], c: usize, n: usize, k: usize, time: u64, d: Decision)
     ensures { λ r. ⌜ ((M : Machine) → now (m .entry) ≡ encode M → Fits c n M → Replies (now (m .exit)) r (replied (now (m .entry)) (outcome (call-of d) k time M)) ((outcome (call-of d) k time M) .machine)) ⌝ }
 {
     let r = follow(m, c, n, k, time, d);
-    Answer {
-        refusal: 0,
-        result: r.result,
-        interrupt: 0,
-    }
+    accepted(r.result)
 }
 
 // The words are kept until it is known that there was room, and put back if not.
@@ -70,17 +76,13 @@ fn with_copy(m: &mut [u64], c: usize, n: usize, k: usize, time: u64, d: Decision
 {
     let mut saved = [0u64; 4326];
     let len = m.len();
-    copy::copy(m, &mut saved[0..len]);
+    copy::copy(m, &mut saved, len);
     let r = follow(m, c, n, k, time, d);
     if r.full {
-        copy::copy(&saved[0..len], m);
+        copy::copy(&saved, m, len);
         return operations::refused(9);
     }
-    Answer {
-        refusal: 0,
-        result: r.result,
-        interrupt: 0,
-    }
+    accepted(r.result)
 }
 
 // Refusals 6 to 8.

@@ -1,17 +1,18 @@
-use lib.ListN.{length, take, length-set}
+use Rattle.decisions.proofs.Copied.{up-to}
+use lib.ListN.{length, take}
 use mathlib.Core.Path.{_≡_}
 use Prim.Native.Nat.{_-_, _≤_}
-use Rattle.decisions.proofs.Copied.{one-more, all-of-them}
+use Rattle.decisions.proofs.Copied.{one-more}
 use borrow.Author.Needs.{needs}
 use native.Mathlib.Omega.{arith}
 use Rattle.decisions.proofs.copy.copy.Statement.{statement}
 use Rattle.decisions.proofs.copy.copy.Tie as tie
 
 abbrev Inv-loop : tie.InvT-loop
-Inv-loop from to₀ i₀ to i = (i ≤ length from) × (length to ≡ length from) × (length to ≡ length to₀) × (take i to ≡ take i from)
+Inv-loop from to₀ len i₀ to i = (i ≤ len) × (length to ≡ length to₀) × (take i to ≡ take i from)
 
 abbrev μ-loop : tie.MeasureT-loop
-μ-loop from to₀ i₀ to i = length from - i
+μ-loop from to₀ len i₀ to i = len - i
 
 loop-holds : tie.Need-loop-holds Inv-loop μ-loop
 loop-holds c = search needs
@@ -35,13 +36,13 @@ loop-less : tie.Need-loop-less Inv-loop μ-loop
 loop-less c = search needs
 
 loop-again : tie.Need-loop-again Inv-loop μ-loop
-loop-again c = (omega arith, search needs, search needs, one-more _ _ _ (c .before .loop-test .taken) (c .before .before .loop .inv .1) (c .before .before .loop .inv .3))
+loop-again c = (omega arith, search needs, one-more (c .before .before .before .args .from .now) (c .before .before .loop .to) (c .before .before .loop .i) (omega arith) (omega arith) (c .before .before .loop .inv .2))
 
 same-length : tie.Need-same-length Inv-loop μ-loop
 same-length c = search needs
 
 returns : tie.Need-returns Inv-loop μ-loop
-returns c = all-of-them _ _ _ (c .loop-test .left) (c .before .loop .inv .1) (c .before .loop .inv .3)
+returns c = up-to (c .before .before .args .from .now) (c .before .loop .to) (c .before .loop .i) (c .before .before .args .len) (c .before .loop .inv .0) (c .loop-test .left) (c .before .loop .inv .2)
 
 pub copy-spec : {M : Type 1} → statement M
 copy-spec =
