@@ -7,18 +7,21 @@ use mathlib.Core.List.{List}
 use native.Mathlib.Omega.{arith}
 use Rattle.columns.proofs.Tests.{by-test}
 use lib.Dec.{eqb}
-use borrow.Author.Tests.{eqb-true, ne-eqb}
+use borrow.Author.Tests.{eqb-true, eqb-false, ne-eqb}
 use Rattle.columns.specs.Common.{if_then_else_}
 use Rattle.machine.specs.Machine.{Machine}
 use Rattle.machine.specs.Encode.{encode, decode}
 use Rattle.machine.specs.Shape.{Fits, Image}
 use Rattle.image.specs.Refusal.{size-c, size-n, image-refusal}
+use Rattle.image.specs.Ranges.{most}
 use Rattle.image.proofs.Admitted.{passed, decoded, decoded-fits, admitted}
+use Rattle.stages.specs.Stage.{Ranged}
+use Rattle.admission.proofs.Bounds.{ranged}
 use Rattle.operations.specs.declared.Answer.{Answer}
 use Rattle.operations.specs.Reply.{Reply, reply, refuse}
 use Rattle.ronthuyal.specs.declared.Checked.{Checked}
 use Rattle.ronthuyal.specs.declared.Checked.the-variants.{Refused, Passed}
-use Rattle.ronthuyal.specs.Call.{check, checked, checked-by}
+use Rattle.ronthuyal.specs.Call.{check, checked, checked-by, no-operation-call}
 
 -- the check, from its refusal r; c and n are the sizes as the code has them
 pub check-refused : (m : List ℕ) (time r : ℕ) → r ≡ image-refusal time m → (r ≡ 0 → ⊥) → Refused r ≡ check m time
@@ -50,6 +53,18 @@ is-passed m time c n e =
     no : Passed c n ≡ Refused (image-refusal time m) → IsPassed m time c n
     no q = let w : _≡_ {A = ℕ} 0 1 = cc in absurd (omega arith)
 
+-- what refusing says
+pub is-refused : (m : List ℕ) (time r : ℕ) → Refused r ≡ check m time → r ≡ 0 → ⊥
+unfolding check
+is-refused m time r e z =
+    by-test (eqb (image-refusal time m) 0) (λ t. yes (rw t at e)) (λ t. no (eqb-false (image-refusal time m) 0 t) (rw t at e))
+  where
+    yes : Refused r ≡ Passed (size-c m) (size-n m) → ⊥
+    yes q = let w : _≡_ {A = ℕ} 0 1 = cc in omega arith
+
+    no : (image-refusal time m ≡ 0 → ⊥) → Refused r ≡ Refused (image-refusal time m) → ⊥
+    no f q = let w : r ≡ image-refusal time m = cc in f (sym w ∙ z)
+
 -- w: what the code's check gave
 module _ (m : List ℕ) (time : ℕ) (w : Checked) (e : w ≡ check m time) where
   pub call-refused : {a : Answer} (r : ℕ) (f : Machine → Reply) → w ≡ Refused r → a ≡ record { refusal = r; result = 0; interrupt = 0 } → reply a m ≡ checked m time f
@@ -59,9 +74,27 @@ module _ (m : List ℕ) (time : ℕ) (w : Checked) (e : w ≡ check m time) wher
   pub call-image : (c n : ℕ) → w ≡ Passed c n → Image c n m
   call-image c n g = let p = is-passed m time c n (sym g ∙ e) in rw (p .cpus, p .names) (admitted m (passed time m (p .none)))
 
+  pub call-none : (c n : ℕ) → w ≡ Passed c n → image-refusal time m ≡ 0
+  call-none c n g = is-passed m time c n (sym g ∙ e) .none
+
+  pub call-time : (c n : ℕ) → w ≡ Passed c n → time ≤ most
+  call-time c n g = passed time m (call-none c n g) .words .time-most
+
+  pub call-ranged : (c n : ℕ) → w ≡ Passed c n → Ranged c n most most m
+  call-ranged c n g = let p = is-passed m time c n (sym g ∙ e) in rw (p .cpus, p .names) (ranged m (passed time m (p .none)))
+
+  pub call-machine : {A : Machine → Type 0} (c n : ℕ) → w ≡ Passed c n → ((M : Machine) → m ≡ encode M → Fits c n M → A M) → A (decode m)
+  call-machine c n g h =
+      let p = is-passed m time c n (sym g ∙ e)
+      in h (decode m) (decoded m (passed time m (p .none))) (rw (p .cpus, p .names) (decoded-fits m (passed time m (p .none))))
+
   pub call-done : {a : Answer} {m' : List ℕ} (c n : ℕ) (f : Machine → Reply) → w ≡ Passed c n
       → ((M : Machine) → m ≡ encode M → Fits c n M → reply a m' ≡ f M) → reply a m' ≡ checked m time f
   unfolding checked-by
   call-done c n f g h =
       let p = is-passed m time c n (sym g ∙ e)
       in rw (← e, g) (h (decode m) (decoded m (passed time m (p .none))) (rw (p .cpus, p .names) (decoded-fits m (passed time m (p .none)))))
+
+  pub call-no-operation : {a : Answer} (c n : ℕ) → w ≡ Passed c n → a ≡ record { refusal = 5; result = 0; interrupt = 0 } → reply a m ≡ no-operation-call m time
+  unfolding checked-by
+  call-no-operation c n g z = rw (← e, g) (ap (λ (b : Answer). reply b m) z)

@@ -1,1 +1,4 @@
 pub mod Called
+pub mod Accepts
+pub mod Demanded
+pub mod Dispatched

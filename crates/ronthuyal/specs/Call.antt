@@ -10,6 +10,8 @@ use Rattle.machine.specs.LookUp.{get-percpu-block}
 use Rattle.image.specs.Refusal.{size-c, size-n, image-refusal}
 use Rattle.ronthuyal.specs.declared.Checked.{Checked}
 use Rattle.ronthuyal.specs.declared.Checked.the-variants.{Refused, Passed}
+use Rattle.decision.specs.Accepted.{by-tick, by-switch}
+use Rattle.decisions.specs.Reply.{decide, direct-switch}
 use Rattle.operations.specs.Named.{named}
 use Rattle.operations.specs.Operations.{unblock-context, drain-ipi-context-wakeups, block, hard-block}
 use Rattle.operations.specs.Reply.{Reply, refuse, reply-to, reply-on}
@@ -26,6 +28,15 @@ checked-by m f (Passed c n) = f (decode m)
 abbrev pub checked : List ℕ → ℕ → (Machine → Reply) → Reply
 checked m time f = checked-by m f (check m time)
 
+abbrev pub tick-call : List ℕ → (cpu time : ℕ) → Reply
+tick-call m cpu time = checked m time (λ (M : Machine). decide m M cpu time by-tick)
+
+abbrev pub switch-call : List ℕ → (cpu time : ℕ) → Reply
+switch-call m cpu time = checked m time (λ (M : Machine). decide m M cpu time by-switch)
+
+abbrev pub direct-switch-to-call : List ℕ → (cpu time context : ℕ) → Reply
+direct-switch-to-call m cpu time context = checked m time (λ (M : Machine). direct-switch m M cpu time context)
+
 abbrev pub unblock-context-call : List ℕ → (cpu time context : ℕ) → Reply
 unblock-context-call m cpu time context =
     checked m time (λ (M : Machine). reply-to m (λ (k x : ℕ). unblock-context k x M) (named M cpu context))
@@ -40,3 +51,18 @@ block-call m cpu time context = checked m time (λ (M : Machine). reply-to m (λ
 abbrev pub hard-block-call : List ℕ → (cpu time context : ℕ) → Reply
 hard-block-call m cpu time context =
     checked m time (λ (M : Machine). reply-to m (λ (k x : ℕ). hard-block x M) (named M cpu context))
+
+-- no such operation
+abbrev pub no-operation-call : List ℕ → (time : ℕ) → Reply
+no-operation-call m time = checked m time (λ (M : Machine). refuse 5 m)
+
+-- any operation, by its number
+unfoldable pub call : List ℕ → (operation cpu time context : ℕ) → Reply
+call m operation cpu time context =
+    if eqb operation 1 then tick-call m cpu time else
+    if eqb operation 2 then switch-call m cpu time else
+    if eqb operation 3 then direct-switch-to-call m cpu time context else
+    if eqb operation 4 then unblock-context-call m cpu time context else
+    if eqb operation 5 then drain-ipi-context-wakeups-call m cpu time else
+    if eqb operation 6 then block-call m cpu time context else
+    if eqb operation 7 then hard-block-call m cpu time context else no-operation-call m time

@@ -2,7 +2,20 @@
 use operations::Answer;
 ghost use mathlib.Core.Path.{_≡_};
 ghost use Rattle.operations.specs.Reply.{reply};
-ghost use Rattle.ronthuyal.specs.Call.{check, unblock-context-call, drain-ipi-context-wakeups-call, block-call, hard-block-call};
+ghost use Rattle.machine.specs.Machine.{Machine};
+ghost use Rattle.ronthuyal.specs.Call.{
+  check,
+  tick-call,
+  switch-call,
+  direct-switch-to-call,
+  unblock-context-call,
+  drain-ipi-context-wakeups-call,
+  block-call,
+  hard-block-call,
+  no-operation-call,
+  call,
+};
+ghost use Rattle.ronthuyal.specs.Demand.{DemandMet};
 
 // What the check of an image gives: its refusal, or the counts of its CPUs and contexts.
 pub enum Checked {
@@ -18,6 +31,50 @@ pub fn check(image: &[u64], time: u64) -> Checked
         return Checked::Refused(number);
     }
     Checked::Passed(machine::index(image[0]), machine::index(image[1]))
+}
+
+// Operation 1. The result is 0 if no switch is due, else as in operation 2.
+#[no_mangle]
+pub extern "C" fn ronthuyal_tick(image: &mut [u64], cpu: u64, time: u64) -> Answer
+    ensures { λ r. ⌜ reply r (now (image .exit)) ≡ tick-call (now (image .entry)) cpu time ⌝ }
+    ensures { λ r. ⌜ DemandMet (now (image .entry)) (now (image .exit)) 1 cpu time 0 (r .refusal) ⌝ }
+{
+    let checked = check(image, time);
+    match checked {
+        Checked::Refused(number) => operations::refused(number),
+        Checked::Passed(c, n) => decisions::tick(image, c, n, cpu, time),
+    }
+}
+
+// Operation 2. The result is 1 for Switched, 2 for AllContextsIdle.
+#[no_mangle]
+pub extern "C" fn ronthuyal_switch(image: &mut [u64], cpu: u64, time: u64) -> Answer
+    ensures { λ r. ⌜ reply r (now (image .exit)) ≡ switch-call (now (image .entry)) cpu time ⌝ }
+    ensures { λ r. ⌜ DemandMet (now (image .entry)) (now (image .exit)) 2 cpu time 0 (r .refusal) ⌝ }
+{
+    let checked = check(image, time);
+    match checked {
+        Checked::Refused(number) => operations::refused(number),
+        Checked::Passed(c, n) => decisions::switch(image, c, n, cpu, time),
+    }
+}
+
+// Operation 3. The result is as in operation 2.
+#[no_mangle]
+pub extern "C" fn ronthuyal_direct_switch_to(
+    image: &mut [u64],
+    cpu: u64,
+    time: u64,
+    context: u64,
+) -> Answer
+    ensures { λ r. ⌜ reply r (now (image .exit)) ≡ direct-switch-to-call (now (image .entry)) cpu time context ⌝ }
+    ensures { λ r. ⌜ DemandMet (now (image .entry)) (now (image .exit)) 3 cpu time context (r .refusal) ⌝ }
+{
+    let checked = check(image, time);
+    match checked {
+        Checked::Refused(number) => operations::refused(number),
+        Checked::Passed(c, n) => decisions::direct_switch_to(image, c, n, cpu, time, context),
+    }
 }
 
 // Operation 4. The result is 1 if the context was soft-blocked.
@@ -79,5 +136,39 @@ pub extern "C" fn ronthuyal_hard_block(
     match checked {
         Checked::Refused(number) => operations::refused(number),
         Checked::Passed(c, n) => operations::hard_block(image, c, n, cpu, context),
+    }
+}
+
+fn no_operation(image: &[u64], time: u64) -> Answer
+    ensures { λ r. ⌜ reply r (now (image .entry)) ≡ no-operation-call (now (image .entry)) time ⌝ }
+{
+    let checked = check(image, time);
+    match checked {
+        Checked::Refused(number) => operations::refused(number),
+        Checked::Passed(_, _) => operations::refused(5),
+    }
+}
+
+// Any operation, by its number; operations 1, 2 and 5 leave the context aside.
+#[no_mangle]
+pub extern "C" fn ronthuyal_call(
+    image: &mut [u64],
+    operation: u64,
+    cpu: u64,
+    time: u64,
+    context: u64,
+) -> Answer
+    ensures { λ r. ⌜ reply r (now (image .exit)) ≡ call (now (image .entry)) operation cpu time context ⌝ }
+    ensures { λ r. ⌜ DemandMet (now (image .entry)) (now (image .exit)) operation cpu time context (r .refusal) ⌝ }
+{
+    match operation {
+        1 => ronthuyal_tick(image, cpu, time),
+        2 => ronthuyal_switch(image, cpu, time),
+        3 => ronthuyal_direct_switch_to(image, cpu, time, context),
+        4 => ronthuyal_unblock_context(image, cpu, time, context),
+        5 => ronthuyal_drain_ipi_context_wakeups(image, cpu, time),
+        6 => ronthuyal_block(image, cpu, time, context),
+        7 => ronthuyal_hard_block(image, cpu, time, context),
+        _ => no_operation(image, time),
     }
 }

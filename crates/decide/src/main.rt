@@ -1,0 +1,40 @@
+// Reads an operation, a CPU, a time, a context and an image from standard input, all words of 64 bits, lowest byte first. Prints the call's
+// refusal, its result and that CPU's in charge, current and V.
+mod answer;
+mod input;
+
+use answer::Line;
+use libc::STDIN_FILENO;
+use libc::STDOUT_FILENO;
+ghost use Prim.Native.Nat.{_≤_};
+ghost use lib.ListN.{length};
+
+fn show(n: u64) {
+    io::write_all(STDOUT_FILENO, b" ");
+    io::print_decimal(STDOUT_FILENO, n);
+}
+
+fn print(line: Line) {
+    io::print_decimal(STDOUT_FILENO, line.refusal);
+    show(line.result);
+    show(line.sched_ctxt);
+    show(line.current_ctxt);
+    show(line.v);
+    io::write_all(STDOUT_FILENO, b"\n");
+}
+
+fn run(bytes: &mut [u8], space: &mut [u8], image: &mut [u64])
+    requires { ⌜ 4327 ≤ length (now image) ⌝ }
+{
+    let have = io::read_full(STDIN_FILENO, bytes);
+    let over = input::read_on(space);
+    let line = answer::of_input(&bytes[..have], over, image);
+    print(line);
+}
+
+fn main() {
+    let mut bytes = io::large_buffer();
+    let mut space = io::large_buffer();
+    let mut image = [0u64; 4327];
+    run(&mut bytes, &mut space, &mut image);
+}

@@ -1,0 +1,170 @@
+// Operations 1 to 3 on an image that was checked: `tick`, `switch` and `direct_switch_to`.
+// In every function m is the image of a machine of c CPUs and n contexts.
+mod copy;
+
+use machine::CpuLookup;
+use machine::Lookup;
+use operations::Answer;
+use schedule::Decided;
+ghost use mathlib.Core.Path.{_≡_};
+ghost use mathlib.Core.Bool.{true, false};
+ghost use Prim.Native.Nat.{ℕ, _<_, _≤_};
+ghost use Rattle.machine.specs.Machine.{Machine, cpu-at};
+ghost use Rattle.machine.specs.Encode.{encode};
+ghost use Rattle.machine.specs.Shape.{Image, Fits};
+ghost use Rattle.stages.specs.Stage.{Ranged};
+ghost use Rattle.decision.specs.Charging.{elapsed};
+ghost use Rattle.decision.specs.Accepted.{by-tick, by-switch, by-direct-switch, outcome};
+ghost use Rattle.schedule.specs.Decides.{Decides};
+ghost use Rattle.operations.specs.Reply.{reply, replied};
+ghost use Rattle.decisions.specs.Reply.{call-of, refusal, decide-on, decide, direct-switch, Replies, TargetBelow};
+
+pub enum Decision {
+    Tick,
+    Switch,
+    DirectSwitchTo(usize),
+}
+
+fn accepted(result: u64) -> Answer
+    ensures { λ r. ⌜ r ≡ record { refusal = 0; result = result; interrupt = 0 } ⌝ }
+{
+    Answer {
+        refusal: 0,
+        result,
+        interrupt: 0,
+    }
+}
+
+// Follows the source. Where an insertion finds no room the image is left half-way.
+fn follow(m: &mut [u64], c: usize, n: usize, k: usize, time: u64, d: Decision) -> Decided
+    requires { ⌜ Image c n (now m) ⌝ }
+    requires { ⌜ (k < c) × (time ≤ 4611686018427387903) ⌝ }
+    requires { ⌜ TargetBelow n d ⌝ }
+    requires { ⌜ Ranged c n 4611686018427387903 4611686018427387903 (now m) ⌝ }
+    requires { ⌜ ((M : Machine) → now m ≡ encode M → Fits c n M → elapsed time (cpu-at M k) ≤ 4503599627370495) ⌝ }
+    ensures { λ r. ⌜ Decides c n (now (m .entry)) (now (m .exit)) (r .full) (r .result) (λ (M : Machine). outcome (call-of d) k time M) ⌝ }
+{
+    match d {
+        Decision::Tick => schedule::tick(m, c, n, k, time),
+        Decision::Switch => schedule::switch(m, c, n, k, time),
+        Decision::DirectSwitchTo(x) => schedule::direct_switch_to(m, c, n, k, time, x),
+    }
+}
+
+// Where there is room for certain.
+fn in_place(m: &mut [u64], c: usize, n: usize, k: usize, time: u64, d: Decision) -> Answer
+    requires { ⌜ Image c n (now m) ⌝ }
+    requires { ⌜ (k < c) × (time ≤ 4611686018427387903) ⌝ }
+    requires { ⌜ TargetBelow n d ⌝ }
+    requires { ⌜ Ranged c n 4611686018427387903 4611686018427387903 (now m) ⌝ }
+    requires { ⌜ ((M : Machine) → now m ≡ encode M → Fits c n M → elapsed time (cpu-at M k) ≤ 4503599627370495) ⌝ }
+    requires { ⌜ ((M : Machine) → now m ≡ encode M → Fits c n M → (outcome (call-of d) k time M) .no-room ≡ false) ⌝ }
+    ensures { λ r. ⌜ ((M : Machine) → now (m .entry) ≡ encode M → Fits c n M → Replies (now (m .exit)) r (replied (now (m .entry)) (outcome (call-of d) k time M)) ((outcome (call-of d) k time M) .machine)) ⌝ }
+{
+    let r = follow(m, c, n, k, time, d);
+    accepted(r.result)
+}
+
+// The words are kept until it is known that there was room, and put back if not.
+fn with_copy(m: &mut [u64], c: usize, n: usize, k: usize, time: u64, d: Decision) -> Answer
+    requires { ⌜ Image c n (now m) ⌝ }
+    requires { ⌜ (k < c) × (time ≤ 4611686018427387903) ⌝ }
+    requires { ⌜ TargetBelow n d ⌝ }
+    requires { ⌜ Ranged c n 4611686018427387903 4611686018427387903 (now m) ⌝ }
+    requires { ⌜ ((M : Machine) → now m ≡ encode M → Fits c n M → elapsed time (cpu-at M k) ≤ 4503599627370495) ⌝ }
+    ensures { λ r. ⌜ ((M : Machine) → now (m .entry) ≡ encode M → Fits c n M → Replies (now (m .exit)) r (replied (now (m .entry)) (outcome (call-of d) k time M)) ((outcome (call-of d) k time M) .machine)) ⌝ }
+{
+    let mut saved = [0u64; 4326];
+    let len = m.len();
+    copy::copy(m, &mut saved, len);
+    let r = follow(m, c, n, k, time, d);
+    if r.full {
+        copy::copy(&saved, m, len);
+        return operations::refused(9);
+    }
+    accepted(r.result)
+}
+
+// Refusals 6 to 8.
+fn refusal(m: &[u64], c: usize, n: usize, k: usize, time: u64, d: Decision) -> u64
+    requires { ⌜ Image c n (now m) ⌝ }
+    requires { ⌜ k < c ⌝ }
+    requires { ⌜ TargetBelow n d ⌝ }
+    ensures { λ r. ⌜ ((M : Machine) → now (m .entry) ≡ encode M → Fits c n M → r ≡ refusal (call-of d) M k time) ⌝ }
+{
+    match d {
+        Decision::Tick => admission::decision_refusal(m, c, n, k, time),
+        Decision::Switch => admission::decision_refusal(m, c, n, k, time),
+        Decision::DirectSwitchTo(x) => admission::direct_refusal(m, c, n, k, time, x),
+    }
+}
+
+// On CPU k, which is present.
+fn decide_on(m: &mut [u64], c: usize, n: usize, k: usize, time: u64, d: Decision) -> Answer
+    requires { ⌜ Image c n (now m) ⌝ }
+    requires { ⌜ (k < c) × (time ≤ 4611686018427387903) ⌝ }
+    requires { ⌜ TargetBelow n d ⌝ }
+    requires { ⌜ Ranged c n 4611686018427387903 4611686018427387903 (now m) ⌝ }
+    ensures { λ r. ⌜ ((M : Machine) → now (m .entry) ≡ encode M → Fits c n M → Replies (now (m .exit)) r (decide-on (now (m .entry)) M k time (call-of d)) ((outcome (call-of d) k time M) .machine)) ⌝ }
+{
+    let number = refusal(m, c, n, k, time, d);
+    if number != 0 {
+        return operations::refused(number);
+    }
+    with_copy(m, c, n, k, time, d)
+}
+
+fn decide(m: &mut [u64], c: usize, n: usize, cpu: u64, time: u64, d: Decision) -> Answer
+    requires { ⌜ Image c n (now m) ⌝ }
+    requires { ⌜ time ≤ 4611686018427387903 ⌝ }
+    requires { ⌜ TargetBelow n d ⌝ }
+    requires { ⌜ Ranged c n 4611686018427387903 4611686018427387903 (now m) ⌝ }
+    ensures { λ r. ⌜ ((M : Machine) → now (m .entry) ≡ encode M → Fits c n M → Replies (now (m .exit)) r (decide (now (m .entry)) M cpu time (call-of d)) ((outcome (call-of d) cpu time M) .machine)) ⌝ }
+{
+    let p = machine::get_percpu_block(m, c, n, cpu);
+    match p {
+        CpuLookup::Present(k) => decide_on(m, c, n, k, time, d),
+        CpuLookup::Absent => operations::refused(5),
+    }
+}
+
+// Operation 1.
+pub fn tick(m: &mut [u64], c: usize, n: usize, cpu: u64, time: u64) -> Answer
+    requires { ⌜ Image c n (now m) ⌝ }
+    requires { ⌜ time ≤ 4611686018427387903 ⌝ }
+    requires { ⌜ Ranged c n 4611686018427387903 4611686018427387903 (now m) ⌝ }
+    ensures { λ r. ⌜ ((M : Machine) → now (m .entry) ≡ encode M → Fits c n M → Replies (now (m .exit)) r (decide (now (m .entry)) M cpu time by-tick) ((outcome by-tick cpu time M) .machine)) ⌝ }
+{
+    decide(m, c, n, cpu, time, Decision::Tick)
+}
+
+// Operation 2.
+pub fn switch(m: &mut [u64], c: usize, n: usize, cpu: u64, time: u64) -> Answer
+    requires { ⌜ Image c n (now m) ⌝ }
+    requires { ⌜ time ≤ 4611686018427387903 ⌝ }
+    requires { ⌜ Ranged c n 4611686018427387903 4611686018427387903 (now m) ⌝ }
+    ensures { λ r. ⌜ ((M : Machine) → now (m .entry) ≡ encode M → Fits c n M → Replies (now (m .exit)) r (decide (now (m .entry)) M cpu time by-switch) ((outcome by-switch cpu time M) .machine)) ⌝ }
+{
+    decide(m, c, n, cpu, time, Decision::Switch)
+}
+
+// Operation 3.
+pub fn direct_switch_to(
+    m: &mut [u64],
+    c: usize,
+    n: usize,
+    cpu: u64,
+    time: u64,
+    context: u64,
+) -> Answer
+    requires { ⌜ Image c n (now m) ⌝ }
+    requires { ⌜ time ≤ 4611686018427387903 ⌝ }
+    requires { ⌜ Ranged c n 4611686018427387903 4611686018427387903 (now m) ⌝ }
+    ensures { λ r. ⌜ ((M : Machine) → now (m .entry) ≡ encode M → Fits c n M → Replies (now (m .exit)) r (direct-switch (now (m .entry)) M cpu time context) ((outcome (by-direct-switch context) cpu time M) .machine)) ⌝ }
+{
+    let l = machine::look_up(m, c, n, context);
+    let Lookup::Live(x) = l else {
+        return operations::refused(5);
+    };
+    decide(m, c, n, cpu, time, Decision::DirectSwitchTo(x))
+}
