@@ -32,15 +32,6 @@ fn clear(m: &mut [u64]) {
     }
 }
 
-fn call(m: &mut [u64], operation: u64, cpu: u64, time: u64, context: u64) -> Answer {
-    match operation {
-        4 => ronthuyal::ronthuyal_unblock_context(m, cpu, time, context),
-        5 => ronthuyal::ronthuyal_drain_ipi_context_wakeups(m, cpu, time),
-        6 => ronthuyal::ronthuyal_block(m, cpu, time, context),
-        _ => ronthuyal::ronthuyal_hard_block(m, cpu, time, context),
-    }
-}
-
 fn differ(m: &[u64], old: &[u64]) -> u64 {
     let mut count: u64 = 0;
     let mut i = 0;
@@ -136,9 +127,9 @@ fn prepare(s: &[u8], h: Head, m: &mut [u64], old: &mut [u64]) -> usize {
 fn play(m: &mut [u64], h: Head) -> Answer {
     let n = machine::index(h.length);
     if n <= m.len() {
-        return call(&mut m[0..n], h.operation, h.cpu, h.time, h.context);
+        return ronthuyal::ronthuyal_call(&mut m[0..n], h.operation, h.cpu, h.time, h.context);
     }
-    call(m, h.operation, h.cpu, h.time, h.context)
+    ronthuyal::ronthuyal_call(m, h.operation, h.cpu, h.time, h.context)
 }
 
 // One case, and where the text goes on.
