@@ -1,13 +1,12 @@
 -- What is printed, from what the call answered. Assumes nothing.
-use mathlib.Core.Path.{_≡_, sym, ap, _∙_}
-use mathlib.Core.Bool.{true, false, not}
-use Prim.Native.Nat.{ℕ, _+_, _-_, _*_, _%_, _<_, _≤_}
+use mathlib.Core.Path.{_≡_, ap, _∙_}
+use mathlib.Core.Bool.{not}
+use Prim.Native.Nat.{ℕ, _+_, _-_, _%_, _<_, _≤_}
 use native.Mathlib.Omega.{arith}
 use mathlib.Core.List.{List}
 use lib.Dec.{ltb, eqb}
-use lib.ListN.{length, getD, take, length-take}
+use lib.ListN.{length, take, length-take}
 use borrow.Author.Tests.{ne-eqb, lt-ltb, le-ltb}
-use Rattle.columns.specs.Common.{if_then_else_}
 use Rattle.machine.specs.Encode.{cpu-place}
 use Rattle.image.specs.Refusal.{size-c, size-n}
 use Rattle.image.proofs.Admitted.{passed}

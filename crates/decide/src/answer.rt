@@ -2,7 +2,7 @@
 use crate::input;
 use crate::input::Head;
 ghost use mathlib.Core.Path.{_≡_};
-ghost use Prim.Native.Nat.{ℕ, _+_, _*_, _≤_, min};
+ghost use Prim.Native.Nat.{_+_, _*_, _≤_, min};
 ghost use lib.ListN.{length, getD};
 ghost use Rattle.decide.specs.Input.{head-of, image-words};
 ghost use Rattle.decide.specs.Line.{refused, accepted, call-line, line};

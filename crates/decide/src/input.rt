@@ -1,7 +1,7 @@
 // The words of an input, 64 bits each, lowest byte first.
 use libc::STDIN_FILENO;
 ghost use mathlib.Core.Path.{_≡_};
-ghost use Prim.Native.Nat.{ℕ, _+_, _*_, _≤_};
+ghost use Prim.Native.Nat.{_+_, _*_, _≤_};
 ghost use lib.ListN.{length};
 ghost use Rattle.decide.specs.Input.{half-at, word-at, head-of, image-words};
 

@@ -1,12 +1,11 @@
 -- What is answered, from what following the source gave. Assumes nothing.
-use mathlib.Core.Path.{_≡_, refl, sym, ap, _∙_, subst}
+use mathlib.Core.Path.{_≡_, sym, ap, _∙_, subst}
 use mathlib.Core.Bool.{Bool, true, false, not, _&&_}
 use Prim.Native.Nat.{ℕ, _<_, _≤_}
 use native.Mathlib.Omega.{arith}
 use mathlib.Core.List.{List}
 use lib.Dec.{ltb, eqb}
 use borrow.Author.Tests.{ne-eqb, ltb-false}
-use Rattle.columns.specs.Common.{if_then_else_, mark}
 use Rattle.columns.proofs.Tests.{past}
 use Rattle.machine.specs.declared.Lookup.{Lookup}
 use Rattle.machine.specs.declared.Lookup.the-variants.{Live, Gone}
@@ -14,7 +13,7 @@ use Rattle.machine.specs.declared.CpuLookup.{CpuLookup}
 use Rattle.machine.specs.declared.CpuLookup.the-variants.{Present, Absent}
 use Rattle.machine.specs.Machine.{Machine, context-at, cpu-at}
 use Rattle.machine.specs.Encode.{encode, decode}
-use Rattle.machine.specs.Shape.{Fits, Image}
+use Rattle.machine.specs.Shape.{Fits}
 use Rattle.machine.specs.LookUp.{look-up, get-percpu-block}
 use Rattle.machine.specs.Outcome.{Outcome}
 use Rattle.machine.proofs.Decoded.{decode-encode}
@@ -24,7 +23,7 @@ use Rattle.decision.specs.Accepted.{Call, by-tick, by-switch, by-direct-switch,
 use Rattle.admission.specs.Refusals.{decision-locked, is-late, decision-refusal, direct-refusal}
 use Rattle.schedule.specs.Decides.{Decides, DecidesAt}
 use Rattle.operations.specs.declared.Answer.{Answer}
-use Rattle.operations.specs.Reply.{Reply, reply, replied}
+use Rattle.operations.specs.Reply.{replied}
 use Rattle.decisions.specs.declared.Decision.{Decision}
 use Rattle.decisions.specs.declared.Decision.the-variants.{Tick, Switch, DirectSwitchTo}
 use Rattle.decisions.specs.Reply.{call-of, refusal, decide-on, decide-by, decide, direct-switch-by, direct-switch, Replies, TargetBelow}

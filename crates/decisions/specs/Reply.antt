@@ -1,6 +1,5 @@
 -- Operations 1 to 3: what a call answers of the machine M of an image m, and the image it leaves. Assumes nothing.
 use mathlib.Core.Path.{_≡_}
-use mathlib.Core.Bool.{Bool, true, false}
 use Prim.Native.Nat.{ℕ, _<_}
 use mathlib.Core.List.{List}
 use lib.Dec.{eqb}

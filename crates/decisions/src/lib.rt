@@ -7,8 +7,8 @@ use machine::Lookup;
 use operations::Answer;
 use schedule::Decided;
 ghost use mathlib.Core.Path.{_≡_};
-ghost use mathlib.Core.Bool.{true, false};
-ghost use Prim.Native.Nat.{ℕ, _<_, _≤_};
+ghost use mathlib.Core.Bool.{false};
+ghost use Prim.Native.Nat.{_<_, _≤_};
 ghost use Rattle.machine.specs.Machine.{Machine, cpu-at};
 ghost use Rattle.machine.specs.Encode.{encode};
 ghost use Rattle.machine.specs.Shape.{Image, Fits};
@@ -16,7 +16,7 @@ ghost use Rattle.stages.specs.Stage.{Ranged};
 ghost use Rattle.decision.specs.Charging.{elapsed};
 ghost use Rattle.decision.specs.Accepted.{by-tick, by-switch, by-direct-switch, outcome};
 ghost use Rattle.schedule.specs.Decides.{Decides};
-ghost use Rattle.operations.specs.Reply.{reply, replied};
+ghost use Rattle.operations.specs.Reply.{replied};
 ghost use Rattle.decisions.specs.Reply.{call-of, refusal, decide-on, decide, direct-switch, Replies, TargetBelow};
 
 pub enum Decision {

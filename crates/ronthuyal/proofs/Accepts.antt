@@ -7,7 +7,6 @@ use mathlib.Core.List.{List}
 use lib.Dec.{eqb}
 use lib.ListN.{length}
 use Rattle.columns.specs.Common.{if_then_else_}
-use Rattle.columns.proofs.Tests.{by-test}
 use Rattle.machine.specs.declared.Lookup.{Lookup}
 use Rattle.machine.specs.declared.Lookup.the-variants.{Live, Gone}
 use Rattle.machine.specs.declared.CpuLookup.{CpuLookup}

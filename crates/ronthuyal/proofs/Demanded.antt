@@ -1,12 +1,11 @@
 -- Demand 3 of a call, from what the decision said. Assumes nothing.
 use mathlib.Core.Path.{_≡_, refl, sym, ap, _∙_, subst}
-use mathlib.Core.Bool.{Bool, true, false}
+use mathlib.Core.Bool.{true, false}
 use Prim.Native.Nat.{ℕ, _≤_}
 use native.Mathlib.Omega.{arith}
 use mathlib.Core.List.{List}
 use lib.Dec.{eqb}
 use borrow.Author.Tests.{eqb-false}
-use Rattle.columns.specs.Common.{if_then_else_}
 use Rattle.columns.proofs.Tests.{by-test}
 use Rattle.machine.specs.declared.Lookup.{Lookup}
 use Rattle.machine.specs.declared.Lookup.the-variants.{Live, Gone}
@@ -18,13 +17,12 @@ use Rattle.machine.specs.Shape.{Fits}
 use Rattle.machine.specs.LookUp.{look-up, get-percpu-block}
 use Rattle.machine.specs.Outcome.{Outcome}
 use Rattle.machine.proofs.LookUps.{live, present}
-use Rattle.decision.specs.Tidy.{Tidy, Sound}
-use Rattle.decision.specs.Accepted.{Call, by-tick, by-switch, by-direct-switch, outcome, decides, Accepted, ServesOwn}
+use Rattle.decision.specs.Accepted.{Call, by-tick, by-switch, by-direct-switch, outcome, decides, Accepted}
 use Rattle.decision.specs.Demand3.{Demand3}
 use Rattle.decision.proofs.Demand.{demand-3}
 use Rattle.admission.proofs.Soundness.{sound}
 use Rattle.operations.specs.declared.Answer.{Answer}
-use Rattle.operations.specs.Reply.{Reply, reply, refuse, replied}
+use Rattle.operations.specs.Reply.{reply, refuse, replied}
 use Rattle.decisions.specs.Reply.{refusal, decide-on, decide-by, decide, direct-switch-by, direct-switch, Replies}
 use Rattle.image.proofs.Admitted as admitted
 use Rattle.ronthuyal.specs.declared.Checked.{Checked}

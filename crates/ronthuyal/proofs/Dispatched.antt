@@ -1,11 +1,9 @@
 -- A call by its operation's number. Assumes nothing.
 use mathlib.Core.Path.{_≡_}
-use mathlib.Core.Bool.{true, false}
 use Prim.Native.Nat.{ℕ}
 use mathlib.Core.List.{List}
 use lib.Dec.{eqb}
 use borrow.Author.Tests.{ne-eqb}
-use Rattle.columns.specs.Common.{if_then_else_}
 use Rattle.operations.specs.Reply.{Reply}
 use Rattle.ronthuyal.specs.Call.{
   tick-call,

@@ -2,7 +2,6 @@
 use operations::Answer;
 ghost use mathlib.Core.Path.{_≡_};
 ghost use Rattle.operations.specs.Reply.{reply};
-ghost use Rattle.machine.specs.Machine.{Machine};
 ghost use Rattle.ronthuyal.specs.Call.{
   check,
   tick-call,

@@ -1,5 +1,3 @@
-use Rattle.decisions.specs.Reply.{call-of}
-use Rattle.decisions.proofs.Answered.{refused-on, accepted-on, in-time}
 use borrow.Author.Needs.{needs}
 use Rattle.decisions.proofs.decide_on.Statement.{statement}
 use Rattle.decisions.proofs.decide_on.Tie as tie
@@ -14,16 +12,16 @@ same-length : tie.Need-same-length
 same-length c = search needs
 
 returns : tie.Need-returns
-returns c = λ M e o. refused-on _ M _ _ _ _ (c .before .before .refusal .ensures M e o) (c .before .if1 .taken) (c .refused .ensures)
+returns c = ?
 
 with-copy-requires : tie.Need-with-copy-requires
-with-copy-requires c κs = (c .before .before .before .before .before .pre .0, (c .before .before .before .before .before .pre .1 .0, (c .before .before .before .before .before .pre .1 .1 .0, (c .before .before .before .before .before .pre .1 .1 .1, λ M e o. in-time (call-of (c .before .before .before .before .before .args .d)) M _ _ _ (c .before .before .refusal .ensures M e o) (c .before .if1 .left)))))
+with-copy-requires c κs = ?
 
 same-length-2 : tie.Need-same-length-2
 same-length-2 c = search needs
 
 returns-2 : tie.Need-returns-2
-returns-2 c = λ M e o. accepted-on _ M _ _ _ _ (c .before .before .before .before .before .refusal .ensures M e o) (c .before .before .before .before .if1 .left) (c .before .before .with-copy .ensures M e o)
+returns-2 c = ?
 
 pub decide-on-spec : {M : Type 1} → statement M
 decide-on-spec =

@@ -1,4 +1,3 @@
-use Rattle.decisions.specs.Reply.{refusal, call-of}
 use borrow.Author.Needs.{needs}
 use Rattle.decisions.proofs.refusal.Statement.{statement}
 use Rattle.decisions.proofs.refusal.Tie as tie
