@@ -1,2 +1,3 @@
 pub mod Copied
 pub mod Answered
+pub mod Counted

@@ -8,7 +8,9 @@ use operations::Answer;
 use schedule::Decided;
 ghost use mathlib.Core.Path.{_≡_};
 ghost use mathlib.Core.Bool.{false};
-ghost use Prim.Native.Nat.{_<_, _≤_};
+ghost use Prim.Native.Nat.{ℕ, _+_, _<_, _≤_};
+ghost use lib.Dec.{ltb};
+ghost use lib.ListN.{length};
 ghost use Rattle.machine.specs.Machine.{Machine, cpu-at};
 ghost use Rattle.machine.specs.Encode.{encode};
 ghost use Rattle.machine.specs.Shape.{Image, Fits};
@@ -85,6 +87,16 @@ fn with_copy(m: &mut [u64], c: usize, n: usize, k: usize, time: u64, d: Decision
     accepted(r.result)
 }
 
+// A decision adds at most one item more than these lists have together.
+fn has_room(m: &[u64], c: usize, n: usize, k: usize) -> bool
+    requires { ⌜ Image c n (now m) ⌝ }
+    requires { ⌜ k < c ⌝ }
+    ensures { λ r. ⌜ ((M : Machine) → now (m .entry) ≡ encode M → Fits c n M → r ≡ ltb (length (cpu-at M k .queue) + length (cpu-at M k .timers) + length (cpu-at M k .«local_wakeup_list»)) 64) ⌝ }
+{
+    let at = 2 + 26 * n + 665 * k;
+    m[at + 21] + m[at + 22] + m[at + 23] < 64
+}
+
 // Refusals 6 to 8.
 fn refusal(m: &[u64], c: usize, n: usize, k: usize, time: u64, d: Decision) -> u64
     requires { ⌜ Image c n (now m) ⌝ }
@@ -110,6 +122,9 @@ fn decide_on(m: &mut [u64], c: usize, n: usize, k: usize, time: u64, d: Decision
     let number = refusal(m, c, n, k, time, d);
     if number != 0 {
         return operations::refused(number);
+    }
+    if has_room(m, c, n, k) {
+        return in_place(m, c, n, k, time, d);
     }
     with_copy(m, c, n, k, time, d)
 }

@@ -1,3 +1,7 @@
+-- `decisions::decide_on` meets its contract. Assumes nothing.
+use Rattle.decisions.specs.Reply.{call-of}
+use Rattle.decisions.proofs.Answered.{refused-on, accepted-on, in-time}
+use Rattle.decisions.proofs.Counted.{certain}
 use borrow.Author.Needs.{needs}
 use Rattle.decisions.proofs.decide_on.Statement.{statement}
 use Rattle.decisions.proofs.decide_on.Tie as tie
@@ -12,16 +16,28 @@ same-length : tie.Need-same-length
 same-length c = search needs
 
 returns : tie.Need-returns
-returns c = ?
+returns c = λ M e o. refused-on _ M _ _ _ _ (c .before .before .refusal .ensures M e o) (c .before .if1 .taken) (c .refused .ensures)
 
-with-copy-requires : tie.Need-with-copy-requires
-with-copy-requires c κs = ?
+has-room-requires : tie.Need-has-room-requires
+has-room-requires c κs = search needs
+
+in-place-requires : tie.Need-in-place-requires
+in-place-requires c κs = (c .before .before .before .before .before .before .before .before .pre .0, (c .before .before .before .before .before .before .before .before .pre .1 .0, (c .before .before .before .before .before .before .before .before .pre .1 .1 .0, (c .before .before .before .before .before .before .before .before .pre .1 .1 .1, (λ M e o. in-time (call-of (c .before .before .before .before .before .before .before .before .args .d)) M _ _ _ (c .before .before .before .before .before .refusal .ensures M e o) (c .before .before .before .before .if1 .left), λ M e o. certain (c .before .before .before .before .before .before .before .before .args .k) (c .before .before .before .before .before .before .before .before .args .time) (call-of (c .before .before .before .before .before .before .before .before .args .d)) M o (c .before .before .before .before .before .before .before .before .pre .1 .0 .0) (c .before .before .has-room .ensures M e o) (c .before .if2 .taken))))))
 
 same-length-2 : tie.Need-same-length-2
 same-length-2 c = search needs
 
 returns-2 : tie.Need-returns-2
-returns-2 c = ?
+returns-2 c = λ M e o. accepted-on _ M _ _ _ _ (c .before .before .before .before .before .before .before .before .refusal .ensures M e o) (c .before .before .before .before .before .before .before .if1 .left) (c .before .before .in-place .ensures M e o)
+
+with-copy-requires : tie.Need-with-copy-requires
+with-copy-requires c κs = (c .before .before .before .before .before .before .before .before .pre .0, (c .before .before .before .before .before .before .before .before .pre .1 .0, (c .before .before .before .before .before .before .before .before .pre .1 .1 .0, (c .before .before .before .before .before .before .before .before .pre .1 .1 .1, λ M e o. in-time (call-of (c .before .before .before .before .before .before .before .before .args .d)) M _ _ _ (c .before .before .before .before .before .refusal .ensures M e o) (c .before .before .before .before .if1 .left)))))
+
+same-length-3 : tie.Need-same-length-3
+same-length-3 c = search needs
+
+returns-3 : tie.Need-returns-3
+returns-3 c = λ M e o. accepted-on _ M _ _ _ _ (c .before .before .before .before .before .before .before .before .refusal .ensures M e o) (c .before .before .before .before .before .before .before .if1 .left) (c .before .before .with-copy .ensures M e o)
 
 pub decide-on-spec : {M : Type 1} → statement M
 decide-on-spec =
@@ -31,6 +47,10 @@ decide-on-spec =
     refused-requires
     same-length
     returns
-    with-copy-requires
+    has-room-requires
+    in-place-requires
     same-length-2
-    returns-2)
+    returns-2
+    with-copy-requires
+    same-length-3
+    returns-3)
