@@ -1,6 +1,7 @@
 // `switch_inner`: a direct switch back, or a decision and its switch.
 use crate::scheduling;
 use cpu_stats::CpuState;
+use cpu_stats::lent::Change;
 use handover::Picked;
 use switch_to::DirectSwitch;
 ghost use mathlib.Core.Path.{_≡_};
@@ -31,7 +32,8 @@ fn mark_idle(m: &mut [u64], c: usize, n: usize, k: usize)
 {
     let b = stages::load_block(m, c, n, k);
     let s = b.stats;
-    let stats = s.set_state(CpuState::Idle);
+    let change = Change::State(CpuState::Idle);
+    let stats = cpu_stats::lent::update(s, change);
     let after = turn::with_stats(b, stats);
     stages::store_block(m, c, n, k, after);
 }

@@ -12,8 +12,8 @@ use Rattle.schedule.proofs.switching.mark_idle.Tie as tie
 load-block-requires : tie.Need-load-block-requires
 load-block-requires c κs = search needs
 
-set-state-requires : tie.Need-set-state-requires
-set-state-requires c κs = search needs
+update-requires : tie.Need-update-requires
+update-requires c κs = search needs
 
 with-stats-requires : tie.Need-with-stats-requires
 with-stats-requires c κs = search needs
@@ -25,14 +25,14 @@ same-length : tie.Need-same-length
 same-length c = search needs
 
 returns : tie.Need-returns
-returns c = stored-as (λ (p : Cpu). cpu-stats (stats-state Idle (p .block .stats)) p) (c .before .before .store-block .ensures) (λ M e o. idle-as _ _ _ _ (c .before .before .before .before .before .before .before .load-block .ensures M e o) (c .before .before .before .before .before .set-state .ensures) (c .before .before .before .before .with-stats .ensures))
+returns c = stored-as (λ (p : Cpu). cpu-stats (stats-state Idle (p .block .stats)) p) (c .before .before .store-block .ensures) (λ M e o. idle-as _ _ _ _ (c .before .before .before .before .before .before .before .load-block .ensures M e o) (c .before .before .before .before .before .update .ensures) (c .before .before .before .before .with-stats .ensures))
 
 pub mark-idle-spec : {M : Type 1} → statement M
 mark-idle-spec =
     tie.close
     (tie.spec
     load-block-requires
-    set-state-requires
+    update-requires
     with-stats-requires
     store-block-requires
     same-length
