@@ -22,13 +22,8 @@ fn fits(image: &[u64]) -> bool {
 
 /// The numbers of a case.
 pub fn case(call: &Call, image: &[u64]) -> Vec<u64> {
-    let Call {
-        operation,
-        cpu,
-        time,
-        context,
-    } = *call;
-    let mut numbers = vec![operation, cpu, time, context, image.len() as u64];
+    let mut numbers = vec![call.operation, call.cpu, call.time, call.context];
+    numbers.push(image.len() as u64);
     put_pairs(&mut numbers, &nonzero(image));
     numbers
 }

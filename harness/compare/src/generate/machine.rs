@@ -21,6 +21,19 @@ pub struct Cpu {
     pub ipi: Vec<usize>,
 }
 
+impl Cpu {
+    /// A CPU of these words, with nothing in its lists.
+    pub fn with(word: [u64; b::SINGLE]) -> Cpu {
+        Cpu {
+            word,
+            queue: Vec::new(),
+            timers: Vec::new(),
+            local: Vec::new(),
+            ipi: Vec::new(),
+        }
+    }
+}
+
 #[derive(Clone)]
 pub struct Machine {
     pub record: Vec<[u64; c::WORDS]>,

@@ -130,13 +130,7 @@ fn cpu(rng: &mut Rng, scale: &Scale, number: usize, machine: &mut Machine) -> Cp
     } else {
         scale.early(rng)
     };
-    Cpu {
-        word,
-        queue: Vec::new(),
-        timers: Vec::new(),
-        local: Vec::new(),
-        ipi: Vec::new(),
-    }
+    Cpu::with(word)
 }
 
 /// Puts the other contexts into queues, timers and lists.

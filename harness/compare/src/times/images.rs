@@ -144,13 +144,7 @@ fn cpu() -> Cpu {
     // The next decision does not steal.
     word[b::STEAL_COUNTER] = 1;
     word[b::V] = V;
-    Cpu {
-        word,
-        queue: Vec::new(),
-        timers: Vec::new(),
-        local: Vec::new(),
-        ipi: Vec::new(),
-    }
+    Cpu::with(word)
 }
 
 fn seat(machine: &mut Machine, cpu: usize, context: usize) {
