@@ -3,3 +3,4 @@ pub mod Risen
 pub mod InRange
 pub mod Structured
 pub mod Admitted
+pub mod Zeros

@@ -63,18 +63,18 @@ fn within(table: &[u64], w: &[u64], k: usize) -> bool
     true
 }
 
+// The words are taken together without leaving early, so that the compiler may take several at a time.
 fn zero_words(w: &[u64], k: usize) -> bool
     requires { ⌜ k ≤ length (now w) ⌝ }
     ensures { λ r. ⌜ r ≡ zero-words (now (w .entry)) k ⌝ }
 {
+    let mut all = 0;
     let mut i = 0;
     while i < k {
-        if w[i] != 0 {
-            return false;
-        }
+        all = all | w[i];
         i += 1;
     }
-    true
+    all == 0
 }
 
 fn used(a: &[u64], k: usize, low: u64, high: u64) -> bool
@@ -99,14 +99,13 @@ fn unused(a: &[u64], k: usize) -> bool
     requires { ⌜ (length (now a) ≡ 64) × (k ≤ 64) ⌝ }
     ensures { λ r. ⌜ r ≡ unused (now (a .entry)) k ⌝ }
 {
+    let mut all = 0;
     let mut i = 0;
     while i < 64 - k {
-        if a[k + i] != 0 {
-            return false;
-        }
+        all = all | a[k + i];
         i += 1;
     }
-    true
+    all == 0
 }
 
 fn wake_marked(w: &[u64]) -> bool

@@ -1,35 +1,30 @@
-use Rattle.image.specs.Ranges.{zero-words}
-use Rattle.columns.proofs.Tests.{every-none, every-next, every-no, every-end}
-use Rattle.columns.specs.Common.{every}
-use borrow.Author.Tests.{eq-eqb, ne-eqb}
-use lib.ListN.{length, getD}
-use lib.Dec.{eqb}
-use Prim.Native.Nat.{ℕ, _-_, _≤_}
-use mathlib.Core.Bool.{true}
-use mathlib.Core.Path.{_≡_, sym}
-use borrow.Author.Needs.{needs}
+-- `image::ranges::zero_words` meets its contract. Assumes nothing.
+use mathlib.Core.Path.{_≡_, refl}
+use Prim.Native.Nat.{ℕ, _+_, _-_, _≤_}
 use native.Mathlib.Omega.{arith}
+use borrow.Author.Needs.{needs}
+use lib.Dec.{eqb}
+use lib.ListN.{length, getD}
+use Rattle.columns.specs.Common.{every}
+use Rattle.image.specs.Ranges.{zero-words}
+use Rattle.image.proofs.Zeros.{zeros-none, zeros-next, zeros-all}
 use Rattle.image.proofs.ranges.zero_words.Statement.{statement}
 use Rattle.image.proofs.ranges.zero_words.Tie as tie
 
 abbrev Inv-loop : tie.InvT-loop
-Inv-loop w k i₀ i = (i ≤ k) × (k ≤ length w) × (every (λ (j : ℕ). eqb (getD w j 0) 0) i ≡ true)
+Inv-loop w k all₀ i₀ all i = (i ≤ k) × (k ≤ length w) × (eqb all 0 ≡ every (λ (j : ℕ). eqb (getD w j 0) 0) i)
 
 abbrev μ-loop : tie.MeasureT-loop
-μ-loop w k i₀ i = k - i
+μ-loop w k all₀ i₀ all i = k - i
 
 loop-holds : tie.Need-loop-holds Inv-loop μ-loop
-loop-holds c = (omega arith, omega arith, every-none _)
+loop-holds c = (omega arith, omega arith, zeros-none _)
 
-mul-if1 : tie.Need-mul-if1 Inv-loop μ-loop
-mul-if1 c = search needs
+mul-all : tie.Need-mul-all Inv-loop μ-loop
+mul-all c = search needs
 
-shared-slice-read-if1 : tie.Need-shared-slice-read-if1 Inv-loop μ-loop
-shared-slice-read-if1 c = search needs
-
-returns : tie.Need-returns Inv-loop μ-loop
-unfolding zero-words
-returns c = sym (every-no _ _ _ (c .before .before .loop-test .taken) (ne-eqb _ 0 (c .if1 .taken)))
+shared-slice-read-all : tie.Need-shared-slice-read-all Inv-loop μ-loop
+shared-slice-read-all c = search needs
 
 add-i : tie.Need-add-i Inv-loop μ-loop
 add-i c = search needs
@@ -38,11 +33,11 @@ loop-less : tie.Need-loop-less Inv-loop μ-loop
 loop-less c = search needs
 
 loop-again : tie.Need-loop-again Inv-loop μ-loop
-loop-again c = (omega arith, omega arith, every-next _ _ (c .before .before .before .loop .inv .2) (eq-eqb _ 0 (c .if1 .left)))
+loop-again c = (omega arith, omega arith, zeros-next _ (c .before .before .loop .all) _ _ (c .before .before .loop .inv .2) refl)
 
-returns-2 : tie.Need-returns-2 Inv-loop μ-loop
+returns : tie.Need-returns Inv-loop μ-loop
 unfolding zero-words
-returns-2 c = every-end _ _ _ (c .loop-test .left) (c .before .loop .inv .0) (c .before .loop .inv .2)
+returns c = zeros-all _ (c .before .loop .all) _ _ (c .loop-test .left) (c .before .loop .inv .0) (c .before .loop .inv .2)
 
 pub zero-words-spec : {M : Type 1} → statement M
 zero-words-spec =
@@ -51,10 +46,9 @@ zero-words-spec =
     Inv-loop
     μ-loop
     loop-holds
-    mul-if1
-    shared-slice-read-if1
-    returns
+    mul-all
+    shared-slice-read-all
     add-i
     loop-less
     loop-again
-    returns-2)
+    returns)
