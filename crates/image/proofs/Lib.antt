@@ -4,3 +4,4 @@ pub mod InRange
 pub mod Structured
 pub mod Admitted
 pub mod Zeros
+pub mod Together

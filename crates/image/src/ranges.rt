@@ -5,6 +5,7 @@ ghost use Prim.Native.Nat.{ℕ, _+_, _-_, _*_, _<_, _≤_};
 ghost use lib.ListN.{length, getD};
 ghost use Rattle.columns.specs.Common.{every};
 ghost use Rattle.percpu.specs.Layout.{counter};
+ghost use Rattle.image.specs.Singles.{single-words};
 ghost use Rattle.image.specs.Ranges.{within, zero-words, context-most, wake-marked, key-marked, context-in-range, block-most, array-least, array-most, used, unused, array-in-range, block-in-range, contexts-in-range, blocks-in-range};
 
 // 2^62 - 1: the greatest of a number that has no range of its own.
@@ -131,6 +132,54 @@ fn key_marked(w: &[u64]) -> bool
     false
 }
 
+// Words with a bound of their own.
+fn single_words(w: &[u64], c: u64) -> bool
+    requires { ⌜ length (now w) ≡ 26 ⌝ }
+    ensures { λ r. ⌜ r ≡ single-words c (now (w .entry)) ⌝ }
+{
+    if MOST_ID < w[1] {
+        return false;
+    }
+    if 5 < w[2] {
+        return false;
+    }
+    if c < w[5] {
+        return false;
+    }
+    if FREE < w[10] {
+        return false;
+    }
+    if 39 < w[16] {
+        return false;
+    }
+    if FULL_SLICE < w[19] {
+        return false;
+    }
+    if FULL_SLICE < w[23] {
+        return false;
+    }
+    if 2 < w[24] {
+        return false;
+    }
+    w[25] <= 2
+}
+
+// Words that share a bound of all ones are taken together: none is above it if all of them together are not.
+fn live_in_range(w: &[u64], c: u64) -> bool
+    requires { ⌜ length (now w) ≡ 26 ⌝ }
+    ensures { λ r. ⌜ r ≡ within (context-most c) (now (w .entry)) 26 ⌝ }
+{
+    let marks = w[0] | w[3] | w[4] | w[11] | w[12] | w[14] | w[15] | w[20] | w[21];
+    if 1 < marks {
+        return false;
+    }
+    let numbers = w[6] | w[7] | w[8] | w[9] | w[13] | w[17] | w[18] | w[22];
+    if MOST < numbers {
+        return false;
+    }
+    single_words(w, c)
+}
+
 pub fn context_in_range(w: &[u64], c: u64) -> bool
     requires { ⌜ length (now w) ≡ 26 ⌝ }
     ensures { λ r. ⌜ r ≡ context-in-range c (now (w .entry)) ⌝ }
@@ -139,35 +188,7 @@ pub fn context_in_range(w: &[u64], c: u64) -> bool
         let gone = GONE_MOST;
         return within(&gone, w, 26);
     }
-    let live = [
-        1,
-        MOST_ID,
-        5,
-        1,
-        1,
-        c,
-        MOST,
-        MOST,
-        MOST,
-        MOST,
-        FREE,
-        1,
-        1,
-        MOST,
-        1,
-        1,
-        39,
-        MOST,
-        MOST,
-        FULL_SLICE,
-        1,
-        1,
-        MOST,
-        FULL_SLICE,
-        2,
-        2,
-    ];
-    if !within(&live, w, 26) {
+    if !live_in_range(w, c) {
         return false;
     }
     if !wake_marked(w) {

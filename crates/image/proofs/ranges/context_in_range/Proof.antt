@@ -1,7 +1,7 @@
-use Rattle.image.specs.Ranges.{context-in-range, context-most, gone-most}
-use borrow.Author.Tests.{eq-eqb, ne-eqb, not-true, not-false}
-use Prim.Native.Nat.{_-_}
+-- `image::ranges::context_in_range` meets its contract. Assumes nothing.
 use mathlib.Core.Path.{sym, _∙_}
+use borrow.Author.Tests.{eq-eqb, ne-eqb, not-true, not-false}
+use Rattle.image.specs.Ranges.{context-in-range, gone-most}
 use borrow.Author.Needs.{needs}
 use Rattle.image.proofs.ranges.context_in_range.Statement.{statement}
 use Rattle.image.proofs.ranges.context_in_range.Tie as tie
@@ -19,29 +19,26 @@ returns : tie.Need-returns
 unfolding context-in-range gone-most
 returns c = rw (eq-eqb _ 1 (c .before .before .if1 .taken)) (c .within .ensures)
 
-slice-aggregate-within-2 : tie.Need-slice-aggregate-within-2
-slice-aggregate-within-2 c = search needs
-
-within-requires-2 : tie.Need-within-requires-2
-within-requires-2 c κs = search needs
+live-in-range-requires : tie.Need-live-in-range-requires
+live-in-range-requires c κs = search needs
 
 returns-2 : tie.Need-returns-2
-unfolding context-in-range context-most
-returns-2 c = rw (ne-eqb _ 1 (c .before .before .before .if1 .left), sym (c .before .within2 .ensures) ∙ not-true _ (c .if2 .taken))
+unfolding context-in-range
+returns-2 c = rw (ne-eqb _ 1 (c .before .before .if1 .left), sym (c .before .live-in-range .ensures) ∙ not-true _ (c .if2 .taken))
 
 wake-marked-requires : tie.Need-wake-marked-requires
 wake-marked-requires c κs = search needs
 
 returns-3 : tie.Need-returns-3
-unfolding context-in-range context-most
-returns-3 c = rw (ne-eqb _ 1 (c .before .before .before .before .before .if1 .left), sym (c .before .before .before .within2 .ensures) ∙ not-false _ (c .before .before .if2 .left), sym (c .before .wake-marked .ensures) ∙ not-true _ (c .if3 .taken))
+unfolding context-in-range
+returns-3 c = rw (ne-eqb _ 1 (c .before .before .before .before .if1 .left), sym (c .before .before .before .live-in-range .ensures) ∙ not-false _ (c .before .before .if2 .left), sym (c .before .wake-marked .ensures) ∙ not-true _ (c .if3 .taken))
 
 key-marked-requires : tie.Need-key-marked-requires
 key-marked-requires c κs = search needs
 
 returns-4 : tie.Need-returns-4
-unfolding context-in-range context-most
-returns-4 c = rw (ne-eqb _ 1 (c .before .before .before .before .before .before .if1 .left), sym (c .before .before .before .before .within2 .ensures) ∙ not-false _ (c .before .before .before .if2 .left), sym (c .before .before .wake-marked .ensures) ∙ not-false _ (c .before .if3 .left)) (c .key-marked .ensures)
+unfolding context-in-range
+returns-4 c = rw (ne-eqb _ 1 (c .before .before .before .before .before .if1 .left), sym (c .before .before .before .before .live-in-range .ensures) ∙ not-false _ (c .before .before .before .if2 .left), sym (c .before .before .wake-marked .ensures) ∙ not-false _ (c .before .if3 .left)) (c .key-marked .ensures)
 
 pub context-in-range-spec : {M : Type 1} → statement M
 context-in-range-spec =
@@ -51,8 +48,7 @@ context-in-range-spec =
     slice-aggregate-within
     within-requires
     returns
-    slice-aggregate-within-2
-    within-requires-2
+    live-in-range-requires
     returns-2
     wake-marked-requires
     returns-3
