@@ -24,9 +24,7 @@ use Rattle.stages.specs.Stage.{Staged, Ranged}
 use Rattle.stages.specs.Read.{BlockFits}
 use Rattle.stages.proofs.Compose.{stage-as}
 use Rattle.stages.proofs.Reading.{stored-as}
-use Rattle.handover.specs.declared.next.Picked.{Picked}
-use Rattle.handover.specs.declared.next.Picked.the-variants.{Nobody, Somebody}
-use Rattle.handover.specs.Handed.{advance-by, advanced-by, picked-of}
+use Rattle.handover.specs.Handed.{advance-by, advanced-by}
 
 -- the definition's words for `somebody`
 pub advance-is : (runs : Bool) (w : Option ℕ) (ticks : ℕ) (s : State) → advance-by (is-some w || runs) ticks s ≡ advance runs w ticks s
