@@ -3,9 +3,9 @@ use mathlib.Core.Path.{_≡_, refl, sym, ap, _∙_, subst}
 use mathlib.Core.Bool.{Bool, true, false}
 use mathlib.Core.List.{List, [], _∷_}
 use mathlib.Core.Option.{Option}
-use Prim.Native.Nat.{ℕ, zero, suc, _+_, _-_, _<_, _≤_}
+use Prim.Native.Nat.{ℕ, _+_, _-_, _<_, _≤_}
 use native.Mathlib.Numerals.{add-one}
-use lib.ListN.{length, getD, set}
+use lib.ListN.{length}
 use lib.Seq.{set-getD}
 use Rattle.columns.specs.Common.{if_then_else_}
 use Rattle.context.specs.declared.Context.{Context}
@@ -23,7 +23,7 @@ use Rattle.decision.specs.Choice.{without-keys, cleaned-up, dequeued, taken-out
 use Rattle.stages.specs.Stage.{put-state, Staged}
 use Rattle.stages.specs.Read.{BlockFits}
 use Rattle.stages.proofs.Reading.{stage-none}
-use Rattle.stages.proofs.Compose.{staged, stage-then, stage-as}
+use Rattle.stages.proofs.Compose.{stage-then, stage-as}
 use Rattle.picked.specs.declared.Picked.{Picked}
 use Rattle.select.specs.Values.{winner-below}
 use Rattle.select.specs.Scanning.{key-at, keys-in}

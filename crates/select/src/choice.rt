@@ -1,7 +1,7 @@
 // The choice, by value.
 ghost use mathlib.Core.Path.{_≡_};
 ghost use mathlib.Core.Bool.{_&&_, _||_, not};
-ghost use Prim.Native.Nat.{ℕ, _-_, _<_};
+ghost use Prim.Native.Nat.{ℕ, _<_};
 ghost use mathlib.Core.Option.{none, some};
 ghost use lib.Dec.{ltb, leb, eqb};
 ghost use Rattle.machine.specs.Machine.{Machine, context-at};

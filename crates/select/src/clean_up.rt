@@ -12,10 +12,10 @@ ghost use Rattle.picked.specs.Names.{picked-of};
 ghost use Rattle.select.specs.Values.{winner-below};
 ghost use Rattle.select.specs.Scanning.{key-at, keys-in};
 ghost use Rattle.select.specs.Cleaning.{lightened, remove-keys, cleaned};
-use picked::Picked;
 use crate::judge;
 use context::Context;
 use percpu::PercpuBlock;
+use picked::Picked;
 use run_queue::Key;
 
 // What is left of a weight.

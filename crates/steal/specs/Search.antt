@@ -4,7 +4,7 @@ use mathlib.Core.Bool.{Bool, false}
 use mathlib.Core.List.{List, []}
 use mathlib.Core.Logic.{_≢_}
 use mathlib.Core.Option.{Option}
-use Prim.Native.Nat.{ℕ, _+_, _-_, _%_, _<_}
+use Prim.Native.Nat.{ℕ, _+_, _%_, _<_}
 use lib.ListN.{getD}
 use Rattle.columns.specs.Common.{if_then_else_, fold, All}
 use Rattle.run_queue.specs.declared.Entry.{Entry}

@@ -5,8 +5,8 @@ mod moving;
 mod search;
 
 pub use moving::Moved;
-pub use search::Victim;
 use picked::Picked;
+pub use search::Victim;
 use steal_judge::Locked;
 ghost use mathlib.Core.Path.{_≡_};
 ghost use mathlib.Core.Bool.{false};
