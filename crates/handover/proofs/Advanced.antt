@@ -1,14 +1,14 @@
 -- Virtual time, the stealable word and who comes next, in the code's words. Assumes nothing.
-use mathlib.Core.Path.{_≡_, refl, sym, ap, _∙_, subst}
+use mathlib.Core.Path.{_≡_, refl, subst}
 use mathlib.Core.Bool.{Bool, true, false, not, _&&_, _||_}
 use mathlib.Core.Option.{Option, none, some}
 use mathlib.Core.List.{List, [], _∷_}
-use Prim.Native.Nat.{ℕ, _+_, _-_, _/_, _<_, _≤_}
+use Prim.Native.Nat.{ℕ, _+_, _/_, _<_, _≤_}
 use native.Mathlib.Omega.{arith}
 use lib.Dec.{eqb, ltb}
 use lib.ListN.{length}
 use borrow.Author.Tests.{eq-eqb, ne-eqb, lt-ltb}
-use Rattle.columns.specs.Common.{if_then_else_, is-empty}
+use Rattle.columns.specs.Common.{is-empty}
 use Rattle.columns.proofs.Tests.{by-test}
 use Rattle.run_queue.specs.declared.Entry.{Entry}
 use Rattle.percpu.specs.declared.PercpuBlock.{PercpuBlock}
@@ -16,17 +16,14 @@ use Rattle.percpu.specs.Cpu.{Cpu}
 use Rattle.percpu.specs.With.{block-v, block-stealable, cpu-block}
 use Rattle.machine.specs.Machine.{Machine, cpu-at}
 use Rattle.machine.specs.Encode.{encode}
-use Rattle.machine.specs.Shape.{Fits, Image}
+use Rattle.machine.specs.Shape.{Fits}
 use Rattle.decision.specs.State.{State, state-of, on-cpu, is-some}
 use Rattle.decision.specs.Steal.{mark-stealable}
 use Rattle.decision.specs.SwitchTo.{advance, next-context}
 use Rattle.stages.specs.Stage.{Staged, Ranged}
 use Rattle.stages.specs.Read.{BlockFits}
 use Rattle.stages.proofs.Compose.{stage-as}
-use Rattle.stages.proofs.Reading.{stored-as}
-use Rattle.handover.specs.declared.next.Picked.{Picked}
-use Rattle.handover.specs.declared.next.Picked.the-variants.{Nobody, Somebody}
-use Rattle.handover.specs.Handed.{advance-by, advanced-by, picked-of}
+use Rattle.handover.specs.Handed.{advance-by, advanced-by}
 
 -- the definition's words for `somebody`
 pub advance-is : (runs : Bool) (w : Option ℕ) (ticks : ℕ) (s : State) → advance-by (is-some w || runs) ticks s ≡ advance runs w ticks s

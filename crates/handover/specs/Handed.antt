@@ -1,6 +1,5 @@
 -- The end of a decision by the values that the code has read. Assumes nothing.
 use mathlib.Core.Bool.{Bool, true, false, not, _&&_, _||_}
-use mathlib.Core.Option.{Option, none, some}
 use Prim.Native.Nat.{ℕ, _+_, _-_, _/_}
 use lib.Dec.{eqb}
 use Rattle.columns.specs.Common.{if_then_else_}
@@ -14,8 +13,6 @@ use Rattle.decision.specs.State.{State, at, put-context, on-cpu, insert-entry, 
 use Rattle.decision.specs.Wakeups.{entry-of}
 use Rattle.decision.specs.Steal.{mark-stealable}
 use Rattle.decision.specs.SwitchTo.{requeue}
-use Rattle.handover.specs.declared.next.Picked.{Picked}
-use Rattle.handover.specs.declared.next.Picked.the-variants.{Nobody, Somebody}
 
 -- `advance` where `somebody` says whether somebody won or a runnable holder stays
 abbrev pub advance-by : Bool → ℕ → State → State
@@ -26,11 +23,6 @@ advance-by somebody ticks s =
 
 abbrev pub advanced-by : Bool → ℕ → PercpuBlock → PercpuBlock
 advanced-by somebody ticks b = if somebody && not (eqb (b .«total_weight») 0) then block-v (b .v + ticks / b .«total_weight») b else b
-
--- the winner, or the answer
-abbrev pub picked-of : Picked → Option ℕ
-picked-of Nobody = none
-picked-of (Somebody x) = some x
 
 -- q is the holder's record, and x its number
 abbrev pub taken-out-by : Context → State → State

@@ -9,7 +9,6 @@ mod settling;
 pub use advancing::advance;
 pub use advancing::mark_stealable;
 pub use handing::hand_over;
-pub use next::Picked;
 pub use next::next_context;
 pub use requeuing::requeue;
 pub use settling::settle;

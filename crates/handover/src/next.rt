@@ -1,19 +1,14 @@
-// Who gets the slice.
+// Who gets the slice. Nobody as an answer: the holder keeps it.
+use picked::Picked;
 ghost use mathlib.Core.Path.{_≡_};
 ghost use mathlib.Core.Option.{none};
-ghost use Prim.Native.Nat.{ℕ, _<_, _≤_};
+ghost use Prim.Native.Nat.{_<_};
 ghost use Rattle.machine.specs.Machine.{Machine};
 ghost use Rattle.machine.specs.Encode.{encode};
 ghost use Rattle.machine.specs.Shape.{Image, Fits};
 ghost use Rattle.decision.specs.State.{state-of};
 ghost use Rattle.decision.specs.SwitchTo.{next-context};
-ghost use Rattle.handover.specs.Handed.{picked-of};
-
-// Nobody as an answer: the holder keeps the slice.
-pub enum Picked {
-    Nobody,
-    Somebody(usize),
-}
+ghost use Rattle.picked.specs.Names.{picked-of};
 
 // Nobody won: a runnable holder keeps the slice, and so does the idle context.
 fn without_winner(m: &[u64], c: usize, n: usize, k: usize, runs: bool) -> Picked

@@ -1,8 +1,8 @@
 -- From the choice to who gets the slice. Assumes nothing.
-use mathlib.Core.Path.{_≡_, refl, sym, ap, _∙_, subst}
+use mathlib.Core.Path.{_≡_, refl, sym, ap, _∙_}
 use mathlib.Core.Bool.{Bool, true, false}
 use mathlib.Core.List.{List}
-use mathlib.Core.Option.{Option, none, some}
+use mathlib.Core.Option.{Option}
 use Prim.Native.Nat.{ℕ, _<_, _≤_}
 use native.Mathlib.Omega.{arith}
 use lib.ListN.{set}
@@ -10,23 +10,22 @@ use Rattle.ticks.specs.Ticks.{ticks}
 use Rattle.percpu.specs.Cpu.{Cpu}
 use Rattle.machine.specs.Machine.{Machine, cpu-at}
 use Rattle.machine.specs.Encode.{encode}
-use Rattle.machine.specs.Shape.{Fits, Image}
+use Rattle.machine.specs.Shape.{Fits}
 use Rattle.decision.specs.State.{State, state-of, is-some, prev-runnable}
 use Rattle.decision.specs.Charging.{charge-holder}
 use Rattle.decision.specs.Choice.{choice}
-use Rattle.decision.specs.Steal.{Stealing}
 use Rattle.decision.specs.SwitchTo.{next-context}
 use Rattle.decision.specs.Decision.{scanned, choose-and-steal, settled, selected, select-next-context}
 use Rattle.decision.proofs.NoRoom as no-room
 use Rattle.stages.specs.Stage.{Stage, Staged, Ranged}
-use Rattle.stages.proofs.Compose.{stage-then, stage-as}
+use Rattle.stages.proofs.Compose.{stage-then}
 use Rattle.stages.proofs.Kept.{ranged-stage}
 use Rattle.turn.proofs.Bounded.{charge-below}
 use Rattle.stages.proofs.Reading.{unchanged-with}
 use Rattle.handover.specs.Handed.{settled-by}
 use Rattle.handover.proofs.Settled.{settled-is, settled-below}
 use Rattle.handover.proofs.Advanced.{next-below}
-use Rattle.schedule.specs.Part.{Result, of-stealing, of-selected, Part}
+use Rattle.schedule.specs.Part.{of-stealing, of-selected, Part}
 use Rattle.schedule.specs.Named.{NamedBelow}
 use Rattle.columns.proofs.Tests.{never}
 use Rattle.schedule.proofs.Parts.{stage-part, stage-part-full, part-stage, part-as, part-full}
@@ -100,8 +99,3 @@ pub charged-ranged : {c n k : ℕ} {m m' : List ℕ} (elapsed : ℕ) → k < c �
     → Ranged c n 4611686027017322496 4611686019501129727 m → Ranged c n 4611686027017322496 4899916395652841471 m'
 charged-ranged {k = k} elapsed h l t a =
     ranged-stage (omega arith) (omega arith) h t (λ M o s. charge-below (state-of k M) (o .cpu k h) (o .context) s elapsed l) a
-
--- who gets the slice, by the winner in other words
-pub next-as : {c n : ℕ} {m : List ℕ} {next w' w : Option ℕ} (k : ℕ) (runs : Bool) → w' ≡ w → ((M : Machine) → m ≡ encode M → Fits c n M → next ≡ next-context runs w' (state-of k M))
-    → (M : Machine) → m ≡ encode M → Fits c n M → next ≡ next-context runs w (state-of k M)
-next-as k runs e r M z o = r M z o ∙ ap (λ (x : Option ℕ). next-context runs x (state-of k M)) e

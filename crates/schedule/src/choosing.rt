@@ -1,11 +1,10 @@
 // The choice and the stealing.
 use steal::Moved;
 use steal_judge::Locked;
-use steal_judge::Winner;
 ghost use mathlib.Core.Path.{_≡_};
-ghost use mathlib.Core.Bool.{Bool, false};
+ghost use mathlib.Core.Bool.{false};
 ghost use mathlib.Core.List.{List};
-ghost use Prim.Native.Nat.{ℕ, _<_, _≤_};
+ghost use Prim.Native.Nat.{_<_};
 ghost use Rattle.percpu.specs.Cpu.{Cpu};
 ghost use Rattle.machine.specs.Machine.{Machine};
 ghost use Rattle.machine.specs.Encode.{encode};
@@ -13,8 +12,7 @@ ghost use Rattle.machine.specs.Shape.{Image, Fits};
 ghost use Rattle.decision.specs.State.{State, state-of, prev-runnable};
 ghost use Rattle.decision.specs.Decision.{choose-and-steal};
 ghost use Rattle.stages.specs.Stage.{Ranged};
-ghost use Rattle.select.specs.Values as values;
-ghost use Rattle.steal_judge.specs.Names.{winner-of};
+ghost use Rattle.picked.specs.Names.{picked-of};
 ghost use Rattle.schedule.specs.Part.{of-stealing, Part};
 ghost use Rattle.schedule.specs.Named.{NamedBelow};
 
@@ -34,30 +32,19 @@ pub fn prev_runnable(m: &[u64], c: usize, n: usize, k: usize) -> bool
     status.is_runnable()
 }
 
-fn winner_of(w: select::Winner) -> Winner
-    ensures { λ r. ⌜ winner-of r ≡ values.winner-of w ⌝ }
-{
-    match w {
-        select::Winner::Nobody => Winner::None,
-        select::Winner::Is(x) => Winner::One(x),
-    }
-}
-
 pub fn choose_and_steal(m: &mut [u64], c: usize, n: usize, k: usize, time: u64, runs: bool) -> Moved
     requires { ⌜ Image c n (now m) ⌝ }
     requires { ⌜ k < c ⌝ }
     requires { ⌜ Ranged c n 4611686027017322496 4899916395652841471 (now m) ⌝ }
     requires { ⌜ ((M : Machine) → now m ≡ encode M → Fits c n M → runs ≡ prev-runnable (state-of k M)) ⌝ }
-    ensures { λ r. ⌜ Part c n k (now (m .entry)) (now (m .exit)) (r .full) (winner-of (r .winner)) (λ (cpus : List Cpu) (s : State). of-stealing (choose-and-steal k time cpus s)) ⌝ }
-    ensures { λ r. ⌜ (r .full ≡ false → NamedBelow n (winner-of (r .winner)) × Ranged c n 4611686027017322496 9799832792379424766 (now (m .exit))) ⌝ }
+    ensures { λ r. ⌜ Part c n k (now (m .entry)) (now (m .exit)) (r .full) (picked-of (r .winner)) (λ (cpus : List Cpu) (s : State). of-stealing (choose-and-steal k time cpus s)) ⌝ }
+    ensures { λ r. ⌜ (r .full ≡ false → NamedBelow n (picked-of (r .winner)) × Ranged c n 4611686027017322496 9799832792379424766 (now (m .exit))) ⌝ }
 {
     let b = stages::load_block(m, c, n, k);
     let mut keys = [0u64; 192];
     let s = select::select(m, c, n, k, time, &mut keys);
-    let kept = s.locked;
-    let best = winner_of(kept);
-    let found = s.winner;
-    let winner = winner_of(found);
+    let best = s.locked;
+    let winner = s.winner;
     let locked = Locked {
         sched_ctxt: machine::index(b.sched_ctxt),
         best,

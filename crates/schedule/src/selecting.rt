@@ -1,18 +1,16 @@
 // `select_next_context`: who gets the slice.
 use crate::choosing;
-use handover::Picked;
-use steal_judge::Winner;
+use picked::Picked;
 ghost use mathlib.Core.Path.{_≡_};
-ghost use mathlib.Core.Bool.{Bool, true, false};
+ghost use mathlib.Core.Bool.{true, false};
 ghost use mathlib.Core.List.{List};
-ghost use Prim.Native.Nat.{ℕ, _<_, _≤_};
+ghost use Prim.Native.Nat.{_<_, _≤_};
 ghost use Rattle.percpu.specs.Cpu.{Cpu};
 ghost use Rattle.machine.specs.Shape.{Image};
 ghost use Rattle.decision.specs.State.{State};
 ghost use Rattle.decision.specs.Decision.{selected, select-next-context};
 ghost use Rattle.stages.specs.Stage.{Ranged};
-ghost use Rattle.steal_judge.specs.Names.{winner-of};
-ghost use Rattle.handover.specs.Handed.{picked-of};
+ghost use Rattle.picked.specs.Names.{picked-of};
 ghost use Rattle.schedule.specs.Part.{of-selected, Part};
 ghost use Rattle.schedule.specs.Named.{NamedBelow};
 
@@ -21,15 +19,6 @@ pub struct Next {
     pub full: bool,
     // nobody: the holder keeps the slice
     pub context: Picked,
-}
-
-fn picked_of(w: Winner) -> Picked
-    ensures { λ r. ⌜ picked-of r ≡ winner-of w ⌝ }
-{
-    match w {
-        Winner::None => Picked::Nobody,
-        Winner::One(x) => Picked::Somebody(x),
-    }
 }
 
 pub fn no_room() -> Next
@@ -60,10 +49,9 @@ fn selected(m: &mut [u64], c: usize, n: usize, k: usize, time: u64, elapsed: u64
     if handover::settle(m, c, n, k, gained, won, runs) {
         return no_room();
     }
-    let picked = picked_of(winner);
     Next {
         full: false,
-        context: handover::next_context(m, c, n, k, runs, picked),
+        context: handover::next_context(m, c, n, k, runs, winner),
     }
 }
 

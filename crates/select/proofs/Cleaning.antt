@@ -3,9 +3,9 @@ use mathlib.Core.Path.{_≡_, refl, sym, ap, _∙_, subst}
 use mathlib.Core.Bool.{Bool, true, false}
 use mathlib.Core.List.{List, [], _∷_}
 use mathlib.Core.Option.{Option}
-use Prim.Native.Nat.{ℕ, zero, suc, _+_, _-_, _<_, _≤_}
+use Prim.Native.Nat.{ℕ, _+_, _-_, _<_, _≤_}
 use native.Mathlib.Numerals.{add-one}
-use lib.ListN.{length, getD, set}
+use lib.ListN.{length}
 use lib.Seq.{set-getD}
 use Rattle.columns.specs.Common.{if_then_else_}
 use Rattle.context.specs.declared.Context.{Context}
@@ -23,8 +23,8 @@ use Rattle.decision.specs.Choice.{without-keys, cleaned-up, dequeued, taken-out
 use Rattle.stages.specs.Stage.{put-state, Staged}
 use Rattle.stages.specs.Read.{BlockFits}
 use Rattle.stages.proofs.Reading.{stage-none}
-use Rattle.stages.proofs.Compose.{staged, stage-then, stage-as}
-use Rattle.select.specs.declared.Winner.{Winner}
+use Rattle.stages.proofs.Compose.{stage-then, stage-as}
+use Rattle.picked.specs.declared.Picked.{Picked}
 use Rattle.select.specs.Values.{winner-below}
 use Rattle.select.specs.Scanning.{key-at, keys-in}
 use Rattle.select.specs.Cleaning.{lightened, remove-keys, cleaned}
@@ -127,5 +127,5 @@ module _ {c n : ℕ} {m : List ℕ} (k x : ℕ) {q : Context} (h : k < c) (i : I
 pub taken-as : {c n k : ℕ} {m m' : List ℕ} {w w' : Option ℕ} → w ≡ w' → Staged c n k m m' false (λ (s : State). taken-out w' s) → Staged c n k m m' false (λ (s : State). taken-out w s)
 taken-as {c} {n} {k} {m} {m'} e t = subst (λ (y : Option ℕ). Staged c n k m m' false (λ (s : State). taken-out y s)) (sym e) t
 
-pub winner-at : (n : ℕ) {w w' : Winner} → w ≡ w' → winner-below n w → winner-below n w'
+pub winner-at : (n : ℕ) {w w' : Picked} → w ≡ w' → winner-below n w → winner-below n w'
 winner-at n e h = subst (winner-below n) e h

@@ -1,6 +1,5 @@
 -- What the code's values stand for in the definitions. Assumes nothing.
 use mathlib.Core.Bool.{false}
-use mathlib.Core.List.{List, [], _∷_}
 use mathlib.Core.Option.{Option, none, some}
 use Prim.Native.Nat.{ℕ, _<_}
 use Rattle.columns.specs.Common.{if_then_else_}
@@ -14,15 +13,16 @@ use Rattle.decision.specs.State.{without-key}
 use Rattle.decision.specs.Scan.{below, ineligible-min-vtime, is-eligible, pass, gone, blocked, no-addr-space, ready}
 use Rattle.decision.specs.Scan as scan
 use Rattle.decision.specs.Choice.{Choice}
+use Rattle.picked.specs.declared.Picked.{Picked}
+use Rattle.picked.specs.declared.Picked.the-variants.{Somebody}
+use Rattle.picked.specs.declared.Picked.the-variants as picked-variants
+use Rattle.picked.specs.Names.{picked-of, names-of}
 use Rattle.select.specs.declared.MinVtime.{MinVtime}
 use Rattle.select.specs.declared.MinVtime.the-variants.{At}
 use Rattle.select.specs.declared.MinVtime.the-variants as min-vtime
 use Rattle.select.specs.declared.Best.{Best}
 use Rattle.select.specs.declared.Best.the-variants.{Found}
 use Rattle.select.specs.declared.Best.the-variants as best
-use Rattle.select.specs.declared.Winner.{Winner}
-use Rattle.select.specs.declared.Winner.the-variants.{Is}
-use Rattle.select.specs.declared.Winner.the-variants as winner
 use Rattle.select.specs.declared.Visit.{Visit}
 use Rattle.select.specs.declared.Visit.the-variants.{Pass, Gone, Blocked, NoAddrSpace, Ready}
 use Rattle.select.specs.declared.Scanner.{Scanner}
@@ -37,14 +37,6 @@ abbrev pub best-of : Best → Option Entry
 best-of best.Nobody = none
 best-of (Found e) = some e
 
-abbrev pub winner-of : Winner → Option ℕ
-winner-of winner.Nobody = none
-winner-of (Is x) = some x
-
-abbrev pub locked-of : Winner → List ℕ
-locked-of winner.Nobody = []
-locked-of (Is x) = x ∷ []
-
 abbrev pub visit-of : Visit → scan.Visit
 visit-of Pass = pass
 visit-of Gone = gone
@@ -53,16 +45,16 @@ visit-of (NoAddrSpace c) = no-addr-space c
 visit-of (Ready c) = ready c
 
 abbrev pub choice-of : Selected → Choice
-choice-of r = record { winner = winner-of (r .winner); v = r .v; locked = locked-of (r .locked) }
+choice-of r = record { winner = picked-of (r .winner); v = r .v; locked = names-of (r .locked) }
 
 -- names below n
 abbrev pub best-below : ℕ → Best → Type 0
 best-below n best.Nobody = Unit {0}
 best-below n (Found e) = e .«context_ref» < n
 
-abbrev pub winner-below : ℕ → Winner → Type 0
-winner-below n winner.Nobody = Unit {0}
-winner-below n (Is x) = x < n
+abbrev pub winner-below : ℕ → Picked → Type 0
+winner-below n picked-variants.Nobody = Unit {0}
+winner-below n (Somebody x) = x < n
 
 -- a CPU with the words of its block that the scan goes by
 abbrev pub cpu-with : (idle sched current v : ℕ) → Cpu

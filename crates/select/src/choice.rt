@@ -1,7 +1,7 @@
 // The choice, by value.
 ghost use mathlib.Core.Path.{_≡_};
 ghost use mathlib.Core.Bool.{_&&_, _||_, not};
-ghost use Prim.Native.Nat.{ℕ, _-_, _<_};
+ghost use Prim.Native.Nat.{ℕ, _<_};
 ghost use mathlib.Core.Option.{none, some};
 ghost use lib.Dec.{ltb, leb, eqb};
 ghost use Rattle.machine.specs.Machine.{Machine, context-at};
@@ -10,15 +10,16 @@ ghost use Rattle.machine.specs.Shape.{Fits, Image};
 ghost use Rattle.decision.specs.State.{State};
 ghost use Rattle.decision.specs.Scan.{Scan};
 ghost use Rattle.decision.specs.Choice.{named, against, nobody, without-entry, choice};
-ghost use Rattle.select.specs.Values.{best-of, locked-of, choice-of, best-below, winner-below};
+ghost use Rattle.picked.specs.Names.{names-of};
+ghost use Rattle.select.specs.Values.{best-of, choice-of, best-below, winner-below};
 ghost use Rattle.select.specs.Holding.{Holding, Chosen};
 use crate::Best;
 use crate::Holder;
 use crate::Scanned;
 use crate::Selected;
-use crate::Winner;
 use crate::judge::both;
 use context::Context;
+use picked::Picked;
 use run_queue::Entry;
 
 fn either(a: bool, b: bool) -> bool
@@ -31,12 +32,12 @@ fn either(a: bool, b: bool) -> bool
 }
 
 // The context of an entry that keeps its lock.
-fn locked(late: Best) -> Winner
-    ensures { λ r. ⌜ locked-of r ≡ named (best-of late) ⌝ }
+fn locked(late: Best) -> Picked
+    ensures { λ r. ⌜ names-of r ≡ named (best-of late) ⌝ }
 {
     match late {
-        Best::Nobody => Winner::Nobody,
-        Best::Found(e) => Winner::Is(machine::index(e.context_ref)),
+        Best::Nobody => Picked::Nobody,
+        Best::Found(e) => Picked::Somebody(machine::index(e.context_ref)),
     }
 }
 
@@ -59,13 +60,13 @@ pub fn against(h: Holder, late: Best, e: Entry, q: Context) -> Selected
     let kept = locked(late);
     if both(h.eligible, before) {
         return Selected {
-            winner: Winner::Nobody,
+            winner: Picked::Nobody,
             v: h.v,
             locked: kept,
         };
     }
     Selected {
-        winner: Winner::Is(machine::index(e.context_ref)),
+        winner: Picked::Somebody(machine::index(e.context_ref)),
         v: h.v,
         locked: kept,
     }
@@ -88,15 +89,15 @@ fn alone(h: Holder) -> Selected
 {
     if h.runnable {
         return Selected {
-            winner: Winner::Nobody,
+            winner: Picked::Nobody,
             v: h.vtime,
-            locked: Winner::Nobody,
+            locked: Picked::Nobody,
         };
     }
     Selected {
-        winner: Winner::Nobody,
+        winner: Picked::Nobody,
         v: h.v,
-        locked: Winner::Nobody,
+        locked: Picked::Nobody,
     }
 }
 
@@ -108,15 +109,15 @@ fn least(h: Holder, e: Entry) -> Selected
     let x = machine::index(e.context_ref);
     if goes_on(h, e) {
         return Selected {
-            winner: Winner::Nobody,
+            winner: Picked::Nobody,
             v: e.vtime,
-            locked: Winner::Is(x),
+            locked: Picked::Somebody(x),
         };
     }
     Selected {
-        winner: Winner::Is(x),
+        winner: Picked::Somebody(x),
         v: e.vtime,
-        locked: Winner::Nobody,
+        locked: Picked::Nobody,
     }
 }
 
@@ -127,7 +128,7 @@ pub fn without_entry(h: Holder, late: Best) -> Selected
 {
     if h.eligible {
         return Selected {
-            winner: Winner::Nobody,
+            winner: Picked::Nobody,
             v: h.v,
             locked: locked(late),
         };

@@ -8,13 +8,14 @@ ghost use Rattle.machine.specs.Shape.{Image};
 ghost use Rattle.decision.specs.State.{State, queue-key};
 ghost use Rattle.decision.specs.Choice.{dequeued, taken-out};
 ghost use Rattle.stages.specs.Stage.{Staged};
-ghost use Rattle.select.specs.Values.{winner-of, winner-below};
+ghost use Rattle.picked.specs.Names.{picked-of};
+ghost use Rattle.select.specs.Values.{winner-below};
 ghost use Rattle.select.specs.Scanning.{key-at, keys-in};
 ghost use Rattle.select.specs.Cleaning.{lightened, remove-keys, cleaned};
-use crate::Winner;
 use crate::judge;
 use context::Context;
 use percpu::PercpuBlock;
+use picked::Picked;
 use run_queue::Key;
 
 // What is left of a weight.
@@ -114,16 +115,16 @@ fn dequeue(m: &mut [u64], c: usize, n: usize, k: usize, x: usize)
 }
 
 // The winner's key leaves the queue of CPU k.
-pub fn take_out(m: &mut [u64], c: usize, n: usize, k: usize, w: Winner)
+pub fn take_out(m: &mut [u64], c: usize, n: usize, k: usize, w: Picked)
     requires { ⌜ Image c n (now m) ⌝ }
     requires { ⌜ (k < c) × (winner-below n w) ⌝ }
-    ensures { λ r. ⌜ Staged c n k (now (m .entry)) (now (m .exit)) false (λ (s : State). taken-out (winner-of w) s) ⌝ }
+    ensures { λ r. ⌜ Staged c n k (now (m .entry)) (now (m .exit)) false (λ (s : State). taken-out (picked-of w) s) ⌝ }
 {
     match w {
-        Winner::Nobody => {
+        Picked::Nobody => {
             return;
         }
-        Winner::Is(x) => {
+        Picked::Somebody(x) => {
             dequeue(m, c, n, k, x);
         }
     }

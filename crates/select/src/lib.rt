@@ -7,6 +7,7 @@ mod read;
 mod scan;
 
 use context::Context;
+use picked::Picked;
 use run_queue::Entry;
 ghost use mathlib.Core.Path.{_≡_};
 ghost use mathlib.Core.Bool.{false};
@@ -32,12 +33,6 @@ pub enum MinVtime {
 pub enum Best {
     Nobody,
     Found(Entry),
-}
-
-// A context that won or is kept locked, if there is one.
-pub enum Winner {
-    Nobody,
-    Is(usize),
 }
 
 // What an entry is to the scan; the record that is stored, if it changes.
@@ -81,9 +76,9 @@ pub struct Scanned {
 
 // Who won, V, and the context that the decision keeps locked besides the holder and the winner.
 pub struct Selected {
-    pub winner: Winner,
+    pub winner: Picked,
     pub v: u64,
-    pub locked: Winner,
+    pub locked: Picked,
 }
 
 // After the scan of CPU k's queue, which found w: the choice, the clean-up, and the winner's key out of the queue.

@@ -1,6 +1,6 @@
 -- How far the stealing can make values grow: virtual times at most b become at most 2 b + 2^30. Assumes nothing.
 use mathlib.Core.Path.{_≡_, refl, sym, subst}
-use mathlib.Core.Bool.{Bool, true, false, not}
+use mathlib.Core.Bool.{Bool, false}
 use mathlib.Core.List.{List, [], _∷_}
 use mathlib.Core.Logic.{_≢_}
 use mathlib.Core.Option.{Option}
@@ -23,7 +23,7 @@ use Rattle.decision.specs.Steal.{Stealing, Moving, moved, first-wins, move-entr
 use Rattle.decision.proofs.Lists.{all-map}
 use Rattle.stages.specs.Stage.{ContextBelow, CpuBelow, Below, Ranged}
 use Rattle.stages.proofs.Fitting.{all-of}
-use Rattle.steal_judge.specs.declared.Winner.{Winner}
+use Rattle.picked.specs.declared.Picked.{Picked}
 use Rattle.steal.specs.Moves.{machine-of, Steals}
 use Rattle.steal.proofs.Round.{round-is, done-still}
 use Rattle.steal.proofs.Stolen.{counted-below}
@@ -192,7 +192,7 @@ module _ {c n t : ℕ} (b k : ℕ) (runs : Bool) (locked : List ℕ) (w : Option
       }
 
 -- the image after
-pub steal-ranged : {c n t b k : ℕ} {m m' : List ℕ} {full : Bool} {w' : Winner} (runs : Bool) (locked : List ℕ) (w : Option ℕ) → k < c → full ≡ false
+pub steal-ranged : {c n t b k : ℕ} {m m' : List ℕ} {full : Bool} {w' : Picked} (runs : Bool) (locked : List ℕ) (w : Option ℕ) → k < c → full ≡ false
     → Steals c n k m m' full w' (λ (M : Machine). steal k runs locked (M .cpus) w (state-of k M)) → Ranged c n t b m → Ranged c n t (2 * b + 1073741824) m'
 steal-ranged {b = b} {k = k} runs locked w h z s r =
     let p = s .steals (r .M) (r .eq) (r .fits) in

@@ -1,6 +1,6 @@
 -- One entry moved, and the room for its sums. Assumes nothing.
 use mathlib.Core.Path.{_≡_, refl, sym, ap, _∙_, subst}
-use mathlib.Core.Bool.{Bool, true, false, not}
+use mathlib.Core.Bool.{Bool, true, false}
 use mathlib.Core.List.{List}
 use mathlib.Core.Logic.{_≢_}
 use Prim.Native.Nat.{ℕ, _+_, _-_, _<_, _≤_}
@@ -23,11 +23,12 @@ use Rattle.decision.specs.Wakeups.{entry-of}
 use Rattle.decision.specs.Steal.{Moving, moved, first-wins, give-up, move-entry}
 use Rattle.stages.specs.Stage.{Stage, Staged, Ranged}
 use Rattle.stages.proofs.Compose.{stage-as, stage-then}
-use Rattle.steal_judge.specs.declared.Winner.{Winner}
-use Rattle.steal_judge.specs.declared.Winner.the-variants.{One}
+use Rattle.picked.specs.declared.Picked.{Picked}
+use Rattle.picked.specs.declared.Picked.the-variants.{Somebody}
 use Rattle.steal_judge.specs.declared.Candidates.{Candidates}
 use Rattle.steal_judge.specs.declared.Candidates.the-variants.{Nothing, Single, Pair}
-use Rattle.steal_judge.specs.Names.{winner-of, entries-of}
+use Rattle.picked.specs.Names.{picked-of}
+use Rattle.steal_judge.specs.Names.{entries-of}
 use Rattle.steal.specs.Moves.{moving-of, put-moving, MovesAt, Moves, Movable, taken-in, winner-in}
 use Rattle.steal.proofs.Blocks.{weight-of}
 use Rattle.steal.proofs.Victims.{victim-then, state-kept}
@@ -45,19 +46,19 @@ module _ {c n k : ℕ} {m m1 : List ℕ} (e : Entry) (q : Context) where
       → Staged c n k m m2 full (λ (s : State). insert-entry (entry-of (e .«context_ref») (e .weight) q) (put-context (e .«context_ref») (with-new-key q) s))
   queued h a b x y z = stage-as (stage-then h a b) (λ M i o. (λ j. insert-entry (z j) (put-context (x j) (y j) (state-of k M)), λ t u. refl))
 
-  module _ (runs : Bool) (w : Winner) where
-    pub first-in : {x : ℕ} {r : Bool} → Staged c n k m m1 false (λ (s : State). put-context x q s) → x ≡ e .«context_ref» → r ≡ first-wins runs (winner-of w) → r ≡ true
-        → Stage c n k m m1 false (One x) (λ (s : State). taken-in runs w e q s) (λ (s : State). winner-in runs w e)
+  module _ (runs : Bool) (w : Picked) where
+    pub first-in : {x : ℕ} {r : Bool} → Staged c n k m m1 false (λ (s : State). put-context x q s) → x ≡ e .«context_ref» → r ≡ first-wins runs (picked-of w) → r ≡ true
+        → Stage c n k m m1 false (Somebody x) (λ (s : State). taken-in runs w e q s) (λ (s : State). winner-in runs w e)
     unfolding taken-in
     first-in a x t u =
-        let z : first-wins runs (winner-of w) ≡ true = sym t ∙ u in
-        stage-as a (λ M i o. (rw z (ap (λ (y : ℕ). put-context y q (state-of k M)) x), λ l y. rw z (ap One x)))
+        let z : first-wins runs (picked-of w) ≡ true = sym t ∙ u in
+        stage-as a (λ M i o. (rw z (ap (λ (y : ℕ). put-context y q (state-of k M)) x), λ l y. rw z (ap Somebody x)))
 
     pub later-in : {r full : Bool} → Staged c n k m m1 full (λ (s : State). insert-entry (entry-of (e .«context_ref») (e .weight) q) (put-context (e .«context_ref») (with-new-key q) s))
-        → r ≡ first-wins runs (winner-of w) → r ≡ false → Stage c n k m m1 full w (λ (s : State). taken-in runs w e q s) (λ (s : State). winner-in runs w e)
+        → r ≡ first-wins runs (picked-of w) → r ≡ false → Stage c n k m m1 full w (λ (s : State). taken-in runs w e q s) (λ (s : State). winner-in runs w e)
     unfolding taken-in
     later-in a t u =
-        let z : first-wins runs (winner-of w) ≡ false = sym t ∙ u in
+        let z : first-wins runs (picked-of w) ≡ false = sym t ∙ u in
         stage-as a (λ M i o. (rw z, λ l y. rw z))
 
 -- the sums of a stolen record
@@ -87,24 +88,24 @@ weight-small {k = k} {t = t} {m1 = m1} G h d a s =
     (subst (λ (y : State). y .cpu .block .«total_weight» ≤ 9799832791305682942) (sym (state-kept k t (a .M) (G (cpu-at (a .M) t)) (λ z. d (sym z)))) (a .total-weight))
 
 -- the move of one entry
-module _ (runs : Bool) (w : Winner) (e : Entry) (k t : ℕ) (M : Machine) (q : Context) where
+module _ (runs : Bool) (w : Picked) (e : Entry) (k t : ℕ) (M : Machine) (q : Context) where
   abbrev heavier : State → State
   heavier s = on-cpu (λ (p : Cpu). cpu-total-weight (p .block .«total_weight» + e .weight) p) s
 
   module _ (z : q ≡ moved (cpu-at M k .block .v) (cpu-at M t .block .v) (e .weight) (context-at (M .contexts) (e .«context_ref»))) where
     pub moved-state : (move-entry runs (moving-of k t w M) e) .state ≡ taken-in runs w e q (heavier (state-of k M))
     unfolding move-entry taken-in
-    moved-state = by-test (first-wins runs (winner-of w)) (λ f. rw (f, z)) (λ f. rw (f, z))
+    moved-state = by-test (first-wins runs (picked-of w)) (λ f. rw (f, z)) (λ f. rw (f, z))
 
   pub moved-victim : (move-entry runs (moving-of k t w M) e) .victim ≡ give-up e (cpu-at M t)
   unfolding move-entry
-  moved-victim = by-test (first-wins runs (winner-of w)) (λ f. rw f) (λ f. rw f)
+  moved-victim = by-test (first-wins runs (picked-of w)) (λ f. rw f) (λ f. rw f)
 
-  pub moved-winner : {r : Winner} → r ≡ winner-in runs w e → winner-of r ≡ (move-entry runs (moving-of k t w M) e) .winner
+  pub moved-winner : {r : Picked} → r ≡ winner-in runs w e → picked-of r ≡ (move-entry runs (moving-of k t w M) e) .winner
   unfolding move-entry
-  moved-winner i = by-test (first-wins runs (winner-of w)) (λ f. ap winner-of i ∙ rw f) (λ f. ap winner-of i ∙ rw f)
+  moved-winner i = by-test (first-wins runs (picked-of w)) (λ f. ap picked-of i ∙ rw f) (λ f. ap picked-of i ∙ rw f)
 
-pub entry-moved : {c n k t : ℕ} {m m1 m2 m3 : List ℕ} {full : Bool} {r w : Winner} (runs : Bool) (e : Entry) (x : ℕ) (q : Context) → k < c → t ≢ k → x ≡ e .«context_ref»
+pub entry-moved : {c n k t : ℕ} {m m1 m2 m3 : List ℕ} {full : Bool} {r w : Picked} (runs : Bool) (e : Entry) (x : ℕ) (q : Context) → k < c → t ≢ k → x ≡ e .«context_ref»
     → ((M : Machine) → m ≡ encode M → Fits c n M → q ≡ moved (cpu-at M k .block .v) (cpu-at M t .block .v) (e .weight) (context-at (M .contexts) x))
     → Staged c n t m m1 false (λ (s : State). on-cpu (λ (p : Cpu). give-up e p) s)
     → Staged c n k m1 m2 false (λ (s : State). on-cpu (λ (p : Cpu). cpu-total-weight (p .block .«total_weight» + e .weight) p) s)
@@ -148,7 +149,7 @@ module _ (runs : Bool) (v : Moving) (e : Entry) where
   its-vtime : (if first-wins runs (v .winner) then its-record else with-new-key its-record) .vtime ≡ v .state .cpu .block .v + (at (v .state) (e .«context_ref»)) .vtime - v .victim .block .v
   its-vtime = by-test (first-wins runs (v .winner)) (λ f. rw f) (λ f. rw f)
 
-pub movable-second : {c n k t : ℕ} {m m1 : List ℕ} {full : Bool} {w w1 : Winner} (runs : Bool) (e : Entry) → k < c → t < c → Ranged c n 4611686027017322496 4899916395652841471 m → EntryFits n e → full ≡ false
+pub movable-second : {c n k t : ℕ} {m m1 : List ℕ} {full : Bool} {w w1 : Picked} (runs : Bool) (e : Entry) → k < c → t < c → Ranged c n 4611686027017322496 4899916395652841471 m → EntryFits n e → full ≡ false
     → Moves c n k t m m1 full w w1 (λ (v : Moving). move-entry runs v e) → Movable c n k m1
 unfolding cpu-at
 movable-second {c = c} {n = n} {k = k} {t = t} {m1 = m1} {full = full} {w = w} {w1 = w1} runs e h g a f z s =
@@ -181,7 +182,7 @@ unfolding move-entry
 move-stays-full runs e v h = by-test (first-wins runs (v .winner)) (λ f. rw (f, h)) (λ f. rw (f, h))
 
 -- the entries, by their number
-module _ {c n k t : ℕ} {m m' : List ℕ} {full : Bool} {w w' : Winner} (runs : Bool) (got : Candidates) where
+module _ {c n k t : ℕ} {m m' : List ℕ} {full : Bool} {w w' : Picked} (runs : Bool) (got : Candidates) where
   pub moved-nothing : got ≡ Nothing → Moves c n k t m m' full w w' (λ (v : Moving). v) → Moves c n k t m m' full w w' (λ (v : Moving). fold (move-entry runs) v (entries-of got))
   moved-nothing z h = subst (λ (g : Candidates). Moves c n k t m m' full w w' (λ (v : Moving). fold (move-entry runs) v (entries-of g))) (sym z) h
 

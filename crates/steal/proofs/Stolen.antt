@@ -20,17 +20,18 @@ use Rattle.decision.specs.State.{State, state-of, on-cpu, is-some}
 use Rattle.decision.specs.Steal.{Stealing, Moving, count-steal, should-steal, move-entry, after-moving, steal-entries, steal}
 use Rattle.stages.specs.Stage.{Staged, Ranged, CpuBelow, put-state}
 use Rattle.stages.proofs.Compose.{state-put}
-use Rattle.steal_judge.specs.declared.Winner.{Winner}
+use Rattle.picked.specs.declared.Picked.{Picked}
 use Rattle.steal_judge.specs.declared.Locked.{Locked}
-use Rattle.steal_judge.specs.Names.{winner-of, locked-of, entries-of}
+use Rattle.picked.specs.Names.{picked-of}
+use Rattle.steal_judge.specs.Names.{locked-of, entries-of}
 use Rattle.steal_judge.specs.Judged.{interval}
 use Rattle.steal.specs.declared.search.Victim.{Victim}
 use Rattle.steal.specs.Search.{Begins, Searched}
 use Rattle.steal.specs.Moves.{moving-of, put-moving, Moves, finished, machine-of, StealsAt, Steals}
 use Rattle.steal.proofs.Victims.{set-other}
 
-pub due-is : (s : State) (w : Winner) (b : PercpuBlock) {some r : Bool} → b ≡ s .cpu .block → some ≡ is-some (winner-of w)
-    → r ≡ eqb (b .«steal_counter» % interval (eqb (b .«sched_ctxt») (b .«idle_ctxt»)) some) 0 → r ≡ should-steal s (winner-of w)
+pub due-is : (s : State) (w : Picked) (b : PercpuBlock) {some r : Bool} → b ≡ s .cpu .block → some ≡ is-some (picked-of w)
+    → r ≡ eqb (b .«steal_counter» % interval (eqb (b .«sched_ctxt») (b .«idle_ctxt»)) some) 0 → r ≡ should-steal s (picked-of w)
 due-is s w b e z h = h ∙ rw (z, e)
 
 pub counted-below : {t b : ℕ} (p : Cpu) → CpuBelow t b p → CpuBelow t b (count-steal p)
@@ -66,9 +67,9 @@ module _ {c n k : ℕ} {m m1 : List ℕ} (h : k < c) (a : Staged c n k m m1 fals
         };
       }
 
-  module _ (w : Winner) where
+  module _ (w : Picked) where
     abbrev start : Machine → Stealing
-    start M = record { state = on-cpu count-steal (state-of k M); cpus = M .cpus; winner = winner-of w; done = false }
+    start M = record { state = on-cpu count-steal (state-of k M); cpus = M .cpus; winner = picked-of w; done = false }
 
     abbrev counted : Machine → Machine
     counted M = put-state k (on-cpu count-steal (state-of k M)) M
@@ -91,22 +92,22 @@ module _ {c n k : ℕ} {m m1 : List ℕ} (h : k < c) (a : Staged c n k m m1 fals
 
     module _ (runs : Bool) (locked : Locked) where
       abbrev all : Machine → Stealing
-      all M = steal k runs (locked-of locked) (M .cpus) (winner-of w) (state-of k M)
+      all M = steal k runs (locked-of locked) (M .cpus) (picked-of w) (state-of k M)
 
       -- stealing is not due
-      pub not-due : {r : Bool} → ((M : Machine) → m ≡ encode M → Fits c n M → r ≡ should-steal (state-of k M) (winner-of w)) → r ≡ false → Steals c n k m m1 false w all
+      pub not-due : {r : Bool} → ((M : Machine) → m ≡ encode M → Fits c n M → r ≡ should-steal (state-of k M) (picked-of w)) → r ≡ false → Steals c n k m m1 false w all
       unfolding steal
       not-due d z =
           record {
             image = a .image;
-            steals = λ M e o. let y : should-steal (state-of k M) (winner-of w) ≡ false = sym (d M e o) ∙ z in subst (StealsAt c n k m1 false w) (rw y) (at-start M e o);
+            steals = λ M e o. let y : should-steal (state-of k M) (picked-of w) ≡ false = sym (d M e o) ∙ z in subst (StealsAt c n k m1 false w) (rw y) (at-start M e o);
           }
 
-      module _ {r : Bool} (d : (M : Machine) → m ≡ encode M → Fits c n M → r ≡ should-steal (state-of k M) (winner-of w)) (z : r ≡ true) (v : Victim) (s : Searched c n k m1 w locked v) where
+      module _ {r : Bool} (d : (M : Machine) → m ≡ encode M → Fits c n M → r ≡ should-steal (state-of k M) (picked-of w)) (z : r ≡ true) (v : Victim) (s : Searched c n k m1 w locked v) where
         all-is : (M : Machine) → m ≡ encode M → Fits c n M → all M ≡ steal-entries runs (start M) (v .cpu) (cpu-at (counted M) (v .cpu)) (entries-of (v .got))
         unfolding steal
         all-is M e o =
-            let y : should-steal (state-of k M) (winner-of w) ≡ true = sym (d M e o) ∙ z in
+            let y : should-steal (state-of k M) (picked-of w) ≡ true = sym (d M e o) ∙ z in
             let p = a .stage M e o in
             rw (y, o .cpus) (s .is (counted M) (p .after refl) (p .fits refl) runs (start M) (begins M o))
 
@@ -130,7 +131,7 @@ module _ {c n k : ℕ} {m m1 : List ℕ} (h : k < c) (a : Staged c n k m m1 fals
             (ap (λ (l : List Cpu). set l k ((finished u) .state .cpu)) (set-other (M .cpus) k (v .cpu) (count-steal (cpu-at M k)) ((finished u) .victim) o)
             ∙ set-set (set (M .cpus) (v .cpu) ((finished u) .victim)) k (count-steal (cpu-at M k)) ((finished u) .state .cpu))
 
-        pub robbed : {m2 : List ℕ} {full : Bool} {w' : Winner} → (entries-of (v .got) ≡ [] → ⊥)
+        pub robbed : {m2 : List ℕ} {full : Bool} {w' : Picked} → (entries-of (v .got) ≡ [] → ⊥)
             → Moves c n k (v .cpu) m1 m2 full w w' (λ (u : Moving). finished (fold (move-entry runs) u (entries-of (v .got)))) → Steals c n k m m2 full w' all
         robbed {m2} {full} {w'} q g =
             record {
@@ -141,7 +142,7 @@ module _ {c n k : ℕ} {m m1 : List ℕ} (h : k < c) (a : Staged c n k m m1 fals
                   let u : Moving = fold (move-entry runs) (moving-of k (v .cpu) w (counted M)) (entries-of (v .got)) in
                   let y : all M ≡ after-moving (v .cpu) (M .cpus) u =
                   all-is M e o ∙ entries-as (start M) (v .cpu) (cpu-at (counted M) (v .cpu)) (entries-of (v .got)) q
-                  ∙ ap (λ (x : State). after-moving (v .cpu) (M .cpus) (fold (move-entry runs) (record { state = x; victim = cpu-at (counted M) (v .cpu); winner = winner-of w }) (entries-of (v .got)))) (sym (start-state M o)) in
+                  ∙ ap (λ (x : State). after-moving (v .cpu) (M .cpus) (fold (move-entry runs) (record { state = x; victim = cpu-at (counted M) (v .cpu); winner = picked-of w }) (entries-of (v .got)))) (sym (start-state M o)) in
                   let x : put-moving k (v .cpu) (finished u) (counted M) ≡ machine-of k (after-moving (v .cpu) (M .cpus) u) = machine-as M u (s .other q) in
                   subst (StealsAt c n k m2 full w') (sym y)
                   (record {

@@ -1,11 +1,11 @@
 -- Two CPUs of the machine: the victim t changes, then this one, k. Assumes nothing.
 use mathlib.Core.Path.{_≡_, refl, sym, ap, _∙_, subst}
-use mathlib.Core.Bool.{Bool, true, false, not}
+use mathlib.Core.Bool.{Bool, true, false}
 use mathlib.Core.List.{List, [], _∷_}
 use mathlib.Core.Logic.{_≢_}
 use Prim.Native.Nat.{ℕ, zero, suc, _<_}
 use native.Mathlib.Omega.{arith}
-use lib.ListN.{length, getD, set, length-set}
+use lib.ListN.{length, set, length-set}
 use lib.Seq.{getD-set-same, getD-set-other, set-set, set-getD}
 use Rattle.columns.proofs.Tests.{never}
 use Rattle.percpu.specs.Cpu.{Cpu}
@@ -15,8 +15,8 @@ use Rattle.machine.specs.Shape.{Fits, Image}
 use Rattle.decision.specs.State.{State, state-of, on-cpu}
 use Rattle.decision.specs.Steal.{Moving}
 use Rattle.stages.specs.Stage.{Stage, Staged, put-state}
-use Rattle.steal_judge.specs.declared.Winner.{Winner}
-use Rattle.steal_judge.specs.Names.{winner-of}
+use Rattle.picked.specs.declared.Picked.{Picked}
+use Rattle.picked.specs.Names.{picked-of}
 use Rattle.steal.specs.Moves.{moving-of, put-moving, Moves}
 
 pub set-other : {A : Type 0} (l : List A) (i j : ℕ) (a b : A) → j ≢ i → set (set l i a) j b ≡ set (set l j b) i a
@@ -32,9 +32,9 @@ unfolding cpu-at
 state-kept k t M p d = λ i. record { contexts = M .contexts; cpu = getD-set-other (M .cpus) t k p no-cpu d i; no-room = false }
 
 -- t is changed by G, then k is changed by a stage: v is what that comes to
-pub victim-then : {R : Type 0} {c n k t : ℕ} {m m1 m2 : List ℕ} {full : Bool} {r : R} {f : State → State} {g : State → R} {w w' : Winner} (G : Cpu → Cpu) (F : Moving → Moving) → t ≢ k
+pub victim-then : {R : Type 0} {c n k t : ℕ} {m m1 m2 : List ℕ} {full : Bool} {r : R} {f : State → State} {g : State → R} {w w' : Picked} (G : Cpu → Cpu) (F : Moving → Moving) → t ≢ k
     → Staged c n t m m1 false (λ (s : State). on-cpu G s) → Stage c n k m1 m2 full r f g
-    → ((M : Machine) → m ≡ encode M → Fits c n M → (F (moving-of k t w M) .state ≡ f (state-of k M)) × (F (moving-of k t w M) .victim ≡ G (cpu-at M t)) × (r ≡ g (state-of k M) → winner-of w' ≡ F (moving-of k t w M) .winner))
+    → ((M : Machine) → m ≡ encode M → Fits c n M → (F (moving-of k t w M) .state ≡ f (state-of k M)) × (F (moving-of k t w M) .victim ≡ G (cpu-at M t)) × (r ≡ g (state-of k M) → picked-of w' ≡ F (moving-of k t w M) .winner))
     → Moves c n k t m m2 full w w' F
 victim-then {c = c} {n = n} {k = k} {t = t} {m2 = m2} {full = full} {f = f} {g = g} {w = w} {w' = w'} G F d u s h =
     record {
@@ -56,7 +56,7 @@ victim-then {c = c} {n = n} {k = k} {t = t} {m2 = m2} {full = full} {f = f} {g =
     }
 
 -- what was put back
-pub moving-put : (k t : ℕ) (w : Winner) (v : Moving) (M : Machine) → k < length (M .cpus) → t < length (M .cpus) → t ≢ k → v .state .no-room ≡ false → winner-of w ≡ v .winner
+pub moving-put : (k t : ℕ) (w : Picked) (v : Moving) (M : Machine) → k < length (M .cpus) → t < length (M .cpus) → t ≢ k → v .state .no-room ≡ false → picked-of w ≡ v .winner
     → moving-of k t w (put-moving k t v M) ≡ v
 unfolding cpu-at
 moving-put k t w v M h g d e z = λ i.
@@ -77,7 +77,7 @@ put-twice k t v v' M d =
     (set-other (set (M .cpus) t (v .victim)) k t (v .state .cpu) (v' .victim) d ∙ ap (λ (l : List Cpu). set l k (v .state .cpu)) (set-set (M .cpus) t (v .victim) (v' .victim)))
     ∙ set-set (set (M .cpus) t (v' .victim)) k (v .state .cpu) (v' .state .cpu))
 
-module _ {c n k t : ℕ} {m m1 m2 : List ℕ} {w w1 w2 : Winner} {f : Moving → Moving} (f' : Moving → Moving) where
+module _ {c n k t : ℕ} {m m1 m2 : List ℕ} {w w1 w2 : Picked} {f : Moving → Moving} (f' : Moving → Moving) where
   -- moves that had room, then others
   pub moves-then : {full : Bool} → k < c → t < c → t ≢ k → {full1 : Bool} → full1 ≡ false → Moves c n k t m m1 full1 w w1 f → Moves c n k t m1 m2 full w1 w2 f' → Moves c n k t m m2 full w w2 (λ (v : Moving). f' (f v))
   moves-then h g d z a b =
@@ -118,7 +118,7 @@ module _ {c n k t : ℕ} {m m1 m2 : List ℕ} {w w1 w2 : Winner} {f : Moving →
       }
 
 -- nothing moved
-pub moves-none : {c n k t : ℕ} {m : List ℕ} {w : Winner} → Image c n m → Moves c n k t m m false w w (λ (v : Moving). v)
+pub moves-none : {c n k t : ℕ} {m : List ℕ} {w : Picked} → Image c n m → Moves c n k t m m false w w (λ (v : Moving). v)
 unfolding cpu-at
 moves-none {c} {n} {k} {t} {m} {w} i =
     record {

@@ -13,24 +13,24 @@ use Rattle.run_queue.specs.declared.Entry.{Entry}
 use Rattle.decision.specs.State.{State, state-of, on-cpu, put-context, insert-entry, with-new-key}
 use Rattle.decision.specs.Wakeups.{entry-of}
 use Rattle.decision.specs.Steal.{Stealing, Moving, first-wins, published, mark-stealable}
-use Rattle.steal_judge.specs.declared.Winner.{Winner}
-use Rattle.steal_judge.specs.declared.Winner.the-variants.{One}
-use Rattle.steal_judge.specs.Names.{winner-of}
+use Rattle.picked.specs.declared.Picked.{Picked}
+use Rattle.picked.specs.declared.Picked.the-variants.{Somebody}
+use Rattle.picked.specs.Names.{picked-of}
 
-abbrev pub moving-of : (k t : ℕ) → Winner → Machine → Moving
-moving-of k t w M = record { state = state-of k M; victim = cpu-at M t; winner = winner-of w }
+abbrev pub moving-of : (k t : ℕ) → Picked → Machine → Moving
+moving-of k t w M = record { state = state-of k M; victim = cpu-at M t; winner = picked-of w }
 
 abbrev pub put-moving : (k t : ℕ) → Moving → Machine → Machine
 put-moving k t v M = record { contexts = v .state .contexts; cpus = set (set (M .cpus) t (v .victim)) k (v .state .cpu) }
 
 -- of one machine M that m stood for: v is what the moves come to
-pub record MovesAt (c n k t : ℕ) (m' : List ℕ) (full : Bool) (w' : Winner) (v : Moving) (M : Machine) : Type 0 where
+pub record MovesAt (c n k t : ℕ) (m' : List ℕ) (full : Bool) (w' : Picked) (v : Moving) (M : Machine) : Type 0 where
   pub room : full ≡ v .state .no-room
   pub after : full ≡ false → m' ≡ encode (put-moving k t v M)
   pub fits : full ≡ false → Fits c n (put-moving k t v M)
-  pub winner : full ≡ false → winner-of w' ≡ v .winner
+  pub winner : full ≡ false → picked-of w' ≡ v .winner
 
-pub record Moves (c n k t : ℕ) (m m' : List ℕ) (full : Bool) (w w' : Winner) (f : Moving → Moving) : Type 0 where
+pub record Moves (c n k t : ℕ) (m m' : List ℕ) (full : Bool) (w w' : Picked) (f : Moving → Moving) : Type 0 where
   pub image : full ≡ false → Image c n m'
   pub moves : (M : Machine) → m ≡ encode M → Fits c n M → MovesAt c n k t m' full w' (f (moving-of k t w M)) M
 
@@ -44,13 +44,13 @@ pub record Movable (c n k : ℕ) (m : List ℕ) : Type 0 where
   pub vtime : (x : ℕ) → x < n → (context-at (M .contexts) x) .vtime ≤ 9799832791305682942
 
 -- a stolen record taken in by this CPU, and who has won then
-unfoldable pub taken-in : Bool → Winner → Entry → Context → State → State
+unfoldable pub taken-in : Bool → Picked → Entry → Context → State → State
 taken-in runs w e q s =
-    if first-wins runs (winner-of w) then put-context (e .«context_ref») q s else
+    if first-wins runs (picked-of w) then put-context (e .«context_ref») q s else
     insert-entry (entry-of (e .«context_ref») (e .weight) q) (put-context (e .«context_ref») (with-new-key q) s)
 
-abbrev pub winner-in : Bool → Winner → Entry → Winner
-winner-in runs w e = if first-wins runs (winner-of w) then One (e .«context_ref») else w
+abbrev pub winner-in : Bool → Picked → Entry → Picked
+winner-in runs w e = if first-wins runs (picked-of w) then Somebody (e .«context_ref») else w
 
 -- what other CPUs read, on both
 abbrev pub finished : Moving → Moving
@@ -61,12 +61,12 @@ abbrev pub machine-of : ℕ → Stealing → Machine
 machine-of k l = record { contexts = l .state .contexts; cpus = set (l .cpus) k (l .state .cpu) }
 
 -- l is what the stealing comes to
-pub record StealsAt (c n k : ℕ) (m' : List ℕ) (full : Bool) (w' : Winner) (l : Stealing) : Type 0 where
+pub record StealsAt (c n k : ℕ) (m' : List ℕ) (full : Bool) (w' : Picked) (l : Stealing) : Type 0 where
   pub room : full ≡ l .state .no-room
   pub after : full ≡ false → m' ≡ encode (machine-of k l)
   pub fits : full ≡ false → Fits c n (machine-of k l)
-  pub winner : full ≡ false → winner-of w' ≡ l .winner
+  pub winner : full ≡ false → picked-of w' ≡ l .winner
 
-pub record Steals (c n k : ℕ) (m m' : List ℕ) (full : Bool) (w' : Winner) (f : Machine → Stealing) : Type 0 where
+pub record Steals (c n k : ℕ) (m m' : List ℕ) (full : Bool) (w' : Picked) (f : Machine → Stealing) : Type 0 where
   pub image : full ≡ false → Image c n m'
   pub steals : (M : Machine) → m ≡ encode M → Fits c n M → StealsAt c n k m' full w' (f M)

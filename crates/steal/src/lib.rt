@@ -5,9 +5,9 @@ mod moving;
 mod search;
 
 pub use moving::Moved;
+use picked::Picked;
 pub use search::Victim;
 use steal_judge::Locked;
-use steal_judge::Winner;
 ghost use mathlib.Core.Path.{_≡_};
 ghost use mathlib.Core.Bool.{false};
 ghost use Prim.Native.Nat.{_+_, _*_, _<_};
@@ -18,7 +18,8 @@ ghost use Rattle.machine.specs.Shape.{Image, Fits};
 ghost use Rattle.decision.specs.State.{State, state-of, on-cpu};
 ghost use Rattle.decision.specs.Steal.{count-steal, should-steal, steal};
 ghost use Rattle.stages.specs.Stage.{Staged, Ranged};
-ghost use Rattle.steal_judge.specs.Names.{winner-of, locked-of};
+ghost use Rattle.picked.specs.Names.{picked-of};
+ghost use Rattle.steal_judge.specs.Names.{locked-of};
 ghost use Rattle.steal.specs.Moves.{Steals};
 
 fn count_steal(m: &mut [u64], c: usize, n: usize, k: usize)
@@ -31,10 +32,10 @@ fn count_steal(m: &mut [u64], c: usize, n: usize, k: usize)
     block::count_steal(&mut m[at..end]);
 }
 
-fn should_steal(m: &[u64], c: usize, n: usize, k: usize, w: Winner) -> bool
+fn should_steal(m: &[u64], c: usize, n: usize, k: usize, w: Picked) -> bool
     requires { ⌜ Image c n (now m) ⌝ }
     requires { ⌜ k < c ⌝ }
-    ensures { λ r. ⌜ ((M : Machine) → now (m .entry) ≡ encode M → Fits c n M → r ≡ should-steal (state-of k M) (winner-of w)) ⌝ }
+    ensures { λ r. ⌜ ((M : Machine) → now (m .entry) ≡ encode M → Fits c n M → r ≡ should-steal (state-of k M) (picked-of w)) ⌝ }
 {
     let b = stages::load_block(m, c, n, k);
     let idle = b.sched_ctxt == b.idle_ctxt;
@@ -50,12 +51,12 @@ pub fn steal(
     k: usize,
     runs: bool,
     locked: Locked,
-    w: Winner,
+    w: Picked,
 ) -> Moved
     requires { ⌜ Image c n (now m) ⌝ }
     requires { ⌜ k < c ⌝ }
     requires { ⌜ Ranged c n 4611686027017322496 4899916395652841471 (now m) ⌝ }
-    ensures { λ r. ⌜ Steals c n k (now (m .entry)) (now (m .exit)) (r .full) (r .winner) (λ (M : Machine). steal k runs (locked-of locked) (M .cpus) (winner-of w) (state-of k M)) ⌝ }
+    ensures { λ r. ⌜ Steals c n k (now (m .entry)) (now (m .exit)) (r .full) (r .winner) (λ (M : Machine). steal k runs (locked-of locked) (M .cpus) (picked-of w) (state-of k M)) ⌝ }
 {
     let due = should_steal(m, c, n, k, w);
     count_steal(m, c, n, k);

@@ -1,9 +1,9 @@
 // Entries moved from the victim's queue to this CPU.
 use context::Context;
+use picked::Picked;
 use run_queue::Entry;
 use run_queue::Key;
 use steal_judge::Candidates;
-use steal_judge::Winner;
 ghost use mathlib.Core.Path.{_≡_};
 ghost use mathlib.Core.Bool.{true, false};
 ghost use mathlib.Core.Logic.{_≢_};
@@ -19,12 +19,13 @@ ghost use Rattle.decision.specs.State.{State, on-cpu, with-new-key, insert-entr
 ghost use Rattle.decision.specs.Wakeups.{entry-of};
 ghost use Rattle.decision.specs.Steal.{Moving, give-up, published, mark-stealable, moved, first-wins, move-entry};
 ghost use Rattle.stages.specs.Stage.{Stage, Staged, Ranged};
-ghost use Rattle.steal_judge.specs.Names.{winner-of, entries-of};
+ghost use Rattle.picked.specs.Names.{picked-of};
+ghost use Rattle.steal_judge.specs.Names.{entries-of};
 ghost use Rattle.steal.specs.Moves.{Moves, Movable, taken-in, winner-in, finished};
 
 // who won, and whether an insertion found no room
 pub struct Moved {
-    pub winner: Winner,
+    pub winner: Picked,
     pub full: bool,
 }
 
@@ -105,12 +106,12 @@ fn entry_of(x: u64, weight: u64, q: Context) -> Entry
     }
 }
 
-fn first_wins(runs: bool, w: Winner) -> bool
-    ensures { λ r. ⌜ r ≡ first-wins runs (winner-of w) ⌝ }
+fn first_wins(runs: bool, w: Picked) -> bool
+    ensures { λ r. ⌜ r ≡ first-wins runs (picked-of w) ⌝ }
 {
     match w {
-        Winner::None => !runs,
-        Winner::One(_) => false,
+        Picked::Nobody => !runs,
+        Picked::Somebody(_) => false,
     }
 }
 
@@ -121,7 +122,7 @@ fn take_in(
     n: usize,
     k: usize,
     runs: bool,
-    w: Winner,
+    w: Picked,
     e: Entry,
     q: Context,
 ) -> Moved
@@ -134,7 +135,7 @@ fn take_in(
     if first_wins(runs, w) {
         stages::store_context(m, c, n, k, x, q);
         return Moved {
-            winner: Winner::One(x),
+            winner: Picked::Somebody(x),
             full: false,
         };
     }
@@ -164,7 +165,7 @@ fn move_entry(
     k: usize,
     t: usize,
     runs: bool,
-    w: Winner,
+    w: Picked,
     e: Entry,
 ) -> Moved
     requires { ⌜ Image c n (now m) ⌝ }
@@ -186,7 +187,7 @@ fn move_two(
     k: usize,
     t: usize,
     runs: bool,
-    w: Winner,
+    w: Picked,
     a: Entry,
     b: Entry,
 ) -> Moved
@@ -210,7 +211,7 @@ fn move_entries(
     k: usize,
     t: usize,
     runs: bool,
-    w: Winner,
+    w: Picked,
     got: Candidates,
 ) -> Moved
     requires { ⌜ Image c n (now m) ⌝ }
@@ -242,7 +243,7 @@ pub fn rob(
     k: usize,
     t: usize,
     runs: bool,
-    w: Winner,
+    w: Picked,
     got: Candidates,
 ) -> Moved
     requires { ⌜ Image c n (now m) ⌝ }

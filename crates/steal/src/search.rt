@@ -1,8 +1,8 @@
 // The search for a victim and for what it gives up. Reads only.
+use picked::Picked;
 use run_queue::Entry;
 use steal_judge::Candidates;
 use steal_judge::Locked;
-use steal_judge::Winner;
 ghost use mathlib.Core.Path.{_≡_};
 ghost use Prim.Native.Nat.{_+_, _-_, _%_, _<_, _≤_};
 ghost use lib.ListN.{length, getD};
@@ -12,7 +12,8 @@ ghost use Rattle.machine.specs.Encode.{encode, cpu-place};
 ghost use Rattle.machine.specs.Shape.{EntryFits, Image, Fits};
 ghost use Rattle.decision.specs.State.{state-of};
 ghost use Rattle.decision.specs.Steal.{my-load, can-steal-from, want, can-be-stolen, take-candidate};
-ghost use Rattle.steal_judge.specs.Names.{winner-of, locked-of, entries-of};
+ghost use Rattle.picked.specs.Names.{picked-of};
+ghost use Rattle.steal_judge.specs.Names.{locked-of, entries-of};
 ghost use Rattle.steal.specs.Search.{Searched};
 
 // a CPU and the entries that are stolen from it
@@ -73,14 +74,14 @@ fn can_be_stolen(
     c: usize,
     n: usize,
     k: usize,
-    w: Winner,
+    w: Picked,
     locked: Locked,
     got: Candidates,
     e: Entry,
 ) -> bool
     requires { ⌜ Image c n (now m) ⌝ }
     requires { ⌜ (k < c) × (e .«context_ref» < n) ⌝ }
-    ensures { λ r. ⌜ ((M : Machine) → now (m .entry) ≡ encode M → Fits c n M → r ≡ can-be-stolen k (locked-of locked) (M .contexts) (winner-of w) (entries-of got) e) ⌝ }
+    ensures { λ r. ⌜ ((M : Machine) → now (m .entry) ≡ encode M → Fits c n M → r ≡ can-be-stolen k (locked-of locked) (M .contexts) (picked-of w) (entries-of got) e) ⌝ }
 {
     let x = machine::index(e.context_ref);
     let q = machine::load(m, c, n, x);
@@ -93,7 +94,7 @@ fn take_candidate(
     c: usize,
     n: usize,
     k: usize,
-    w: Winner,
+    w: Picked,
     locked: Locked,
     want: usize,
     got: Candidates,
@@ -103,7 +104,7 @@ fn take_candidate(
     requires { ⌜ (k < c) × (EntryFits n e) ⌝ }
     requires { ⌜ (want ≤ 2) × (length (entries-of got) < want) × (All (EntryFits n) (entries-of got)) ⌝ }
     ensures { λ r. ⌜ All (EntryFits n) (entries-of r) ⌝ }
-    ensures { λ r. ⌜ ((M : Machine) → now (m .entry) ≡ encode M → Fits c n M → entries-of r ≡ take-candidate k (locked-of locked) (M .contexts) (winner-of w) want (entries-of got) e) ⌝ }
+    ensures { λ r. ⌜ ((M : Machine) → now (m .entry) ≡ encode M → Fits c n M → entries-of r ≡ take-candidate k (locked-of locked) (M .contexts) (picked-of w) want (entries-of got) e) ⌝ }
 {
     if can_be_stolen(m, c, n, k, w, locked, got, e) {
         return steal_judge::with(got, e);
@@ -112,7 +113,7 @@ fn take_candidate(
 }
 
 // Round from the next CPU; the first that gives up anything is the victim, and what it gives up is found once enough is.
-pub fn search(m: &[u64], c: usize, n: usize, k: usize, w: Winner, locked: Locked) -> Victim
+pub fn search(m: &[u64], c: usize, n: usize, k: usize, w: Picked, locked: Locked) -> Victim
     requires { ⌜ Image c n (now m) ⌝ }
     requires { ⌜ k < c ⌝ }
     ensures { λ r. ⌜ Searched c n k (now (m .entry)) w locked r ⌝ }

@@ -4,7 +4,7 @@ use mathlib.Core.Bool.{Bool, true, false, not, _&&_, _||_}
 use mathlib.Core.List.{List, [], _∷_, _++_}
 use mathlib.Core.Logic.{_≢_}
 use mathlib.Core.Option.{Option}
-use Prim.Native.Nat.{ℕ, _+_, _-_, _<_, _≤_}
+use Prim.Native.Nat.{ℕ, _+_, _<_, _≤_}
 use native.Mathlib.Omega.{arith}
 use lib.Dec.{leb, eqb}
 use lib.ListN.{length}
@@ -14,12 +14,13 @@ use Rattle.context.specs.Status.{is-runnable}
 use Rattle.cpu_set.specs.Set.{contains}
 use Rattle.run_queue.specs.declared.Entry.{Entry}
 use Rattle.decision.specs.Steal.{member, wins, contexts-of}
-use Rattle.steal_judge.specs.declared.Winner.{Winner}
-use Rattle.steal_judge.specs.declared.Winner.the-variants.{None, One}
+use Rattle.picked.specs.declared.Picked.{Picked}
+use Rattle.picked.specs.declared.Picked.the-variants.{Nobody, Somebody}
 use Rattle.steal_judge.specs.declared.Locked.{Locked}
 use Rattle.steal_judge.specs.declared.Candidates.{Candidates}
 use Rattle.steal_judge.specs.declared.Candidates.the-variants.{Nothing, Single, Pair}
-use Rattle.steal_judge.specs.Names.{winner-of, names-of, locked-of, entries-of}
+use Rattle.picked.specs.Names.{picked-of, names-of}
+use Rattle.steal_judge.specs.Names.{locked-of, entries-of}
 use Rattle.steal_judge.specs.Judged.{stolen-record, is-free, may-move, has-enough}
 
 or-none : (a : Bool) → a ≡ (a || false)
@@ -39,11 +40,11 @@ was-true false e = sym e
 pub locked-holder : (l : Locked) (x : ℕ) → x ≡ l .«sched_ctxt» → true ≡ member x (locked-of l)
 locked-holder l x e = rw (eq-eqb x (l .«sched_ctxt») e)
 
-names-member : (w : Winner) (x : ℕ) → wins (winner-of w) x ≡ member x (names-of w)
-names-member None x = refl
-names-member (One y) x = or-none (eqb x y)
+names-member : (w : Picked) (x : ℕ) → wins (picked-of w) x ≡ member x (names-of w)
+names-member Nobody x = refl
+names-member (Somebody y) x = or-none (eqb x y)
 
-pub locked-best : (l : Locked) (x : ℕ) {r : Bool} → x ≢ l .«sched_ctxt» → r ≡ wins (winner-of (l .best)) x → r ≡ member x (locked-of l)
+pub locked-best : (l : Locked) (x : ℕ) {r : Bool} → x ≢ l .«sched_ctxt» → r ≡ wins (picked-of (l .best)) x → r ≡ member x (locked-of l)
 locked-best l x n e = rw (ne-eqb x (l .«sched_ctxt») n) (e ∙ names-member (l .best) x)
 
 module _ {got : Candidates} (x : ℕ) where
@@ -168,5 +169,5 @@ module _ {got : Candidates} (e : Entry) where
   pub with-pair : {a b : Entry} → got ≡ Pair a b → length (entries-of got) < 2 → entries-of (Pair a b) ≡ entries-of got ++ (e ∷ [])
   with-pair z h = absurd (let y : 2 < 2 = rw z at h in omega arith)
 
-pub wins-one : {w : Winner} (x : ℕ) {y : ℕ} → w ≡ One y → eqb x y ≡ wins (winner-of w) x
+pub wins-one : {w : Picked} (x : ℕ) {y : ℕ} → w ≡ Somebody y → eqb x y ≡ wins (picked-of w) x
 wins-one x z = rw z

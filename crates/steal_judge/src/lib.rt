@@ -1,5 +1,6 @@
 // Work stealing judged by value (`select_next_context`, context/switch.rs).
 use context::Context;
+use picked::Picked;
 use run_queue::Entry;
 ghost use mathlib.Core.Path.{_≡_};
 ghost use mathlib.Core.Bool.{true, false, not};
@@ -10,19 +11,14 @@ ghost use lib.ListN.{length};
 ghost use Rattle.columns.specs.Common.{if_then_else_};
 ghost use Rattle.decision.specs.State.{is-some};
 ghost use Rattle.decision.specs.Steal.{member, wins, contexts-of, moved};
-ghost use Rattle.steal_judge.specs.Names.{winner-of, locked-of, entries-of};
+ghost use Rattle.picked.specs.Names.{picked-of};
+ghost use Rattle.steal_judge.specs.Names.{locked-of, entries-of};
 ghost use Rattle.steal_judge.specs.Judged.{stolen-record, is-free, may-move, has-enough, interval};
-
-// who won, if anybody
-pub enum Winner {
-    None,
-    One(usize),
-}
 
 // the contexts that the decision keeps locked, the winner aside: the holder, and the best entry that was not eligible
 pub struct Locked {
     pub sched_ctxt: usize,
-    pub best: Winner,
+    pub best: Picked,
 }
 
 // the entries found so far, at most two
@@ -32,21 +28,21 @@ pub enum Candidates {
     Pair(Entry, Entry),
 }
 
-pub fn is_some(w: Winner) -> bool
-    ensures { λ r. ⌜ r ≡ is-some (winner-of w) ⌝ }
+pub fn is_some(w: Picked) -> bool
+    ensures { λ r. ⌜ r ≡ is-some (picked-of w) ⌝ }
 {
     match w {
-        Winner::None => false,
-        Winner::One(_) => true,
+        Picked::Nobody => false,
+        Picked::Somebody(_) => true,
     }
 }
 
-pub fn wins(w: Winner, x: usize) -> bool
-    ensures { λ r. ⌜ r ≡ wins (winner-of w) x ⌝ }
+pub fn wins(w: Picked, x: usize) -> bool
+    ensures { λ r. ⌜ r ≡ wins (picked-of w) x ⌝ }
 {
     match w {
-        Winner::None => false,
-        Winner::One(y) => x == y,
+        Picked::Nobody => false,
+        Picked::Somebody(y) => x == y,
     }
 }
 
@@ -155,9 +151,9 @@ pub fn want(there: usize, here: usize) -> usize
     2
 }
 
-fn is_free(w: Winner, locked: Locked, got: Candidates, x: usize, name: u64) -> bool
+fn is_free(w: Picked, locked: Locked, got: Candidates, x: usize, name: u64) -> bool
     requires { ⌜ name ≡ x ⌝ }
-    ensures { λ r. ⌜ r ≡ is-free (locked-of locked) (winner-of w) (entries-of got) x ⌝ }
+    ensures { λ r. ⌜ r ≡ is-free (locked-of locked) (picked-of w) (entries-of got) x ⌝ }
 {
     if is_locked(locked, x) {
         return false;
@@ -192,14 +188,14 @@ fn may_move(q: Context, cpu: u64) -> bool
 pub fn can_be_stolen(
     q: Context,
     cpu: u64,
-    w: Winner,
+    w: Picked,
     locked: Locked,
     got: Candidates,
     x: usize,
     name: u64,
 ) -> bool
     requires { ⌜ (cpu < 64) × (name ≡ x) ⌝ }
-    ensures { λ r. ⌜ r ≡ stolen-record cpu (locked-of locked) (winner-of w) (entries-of got) x q ⌝ }
+    ensures { λ r. ⌜ r ≡ stolen-record cpu (locked-of locked) (picked-of w) (entries-of got) x q ⌝ }
 {
     if q.gone {
         return false;

@@ -1,6 +1,6 @@
 -- `schedule::scheduling::hand_over` meets its contract. Assumes nothing.
 use mathlib.Core.Path.{ap}
-use Rattle.handover.specs.Handed.{picked-of}
+use Rattle.picked.specs.Names.{picked-of}
 use Rattle.schedule.proofs.Scheduled.{handed-nobody, handed-to, handed-ranged, kept-ranged}
 use borrow.Author.Needs.{needs}
 use Rattle.schedule.proofs.scheduling.hand_over.Statement.{statement}

@@ -1,6 +1,6 @@
 -- `schedule::switching::switch_as` meets its contract. Assumes nothing.
 use mathlib.Core.Path.{ap}
-use Rattle.handover.specs.Handed.{picked-of}
+use Rattle.picked.specs.Names.{picked-of}
 use Rattle.schedule.proofs.Inner.{as-nobody, as-somebody}
 use borrow.Author.Needs.{needs}
 use Rattle.schedule.proofs.switching.switch_as.Statement.{statement}

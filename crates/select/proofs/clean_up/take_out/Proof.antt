@@ -1,5 +1,5 @@
 use mathlib.Core.Path.{ap}
-use Rattle.select.specs.Values.{winner-of}
+use Rattle.picked.specs.Names.{picked-of}
 use Rattle.stages.proofs.Reading.{stage-none}
 use Rattle.select.proofs.Cleaning.{taken-as, winner-at}
 use borrow.Author.Needs.{needs}
@@ -10,7 +10,7 @@ enum-told : tie.Need-enum-told
 enum-told c = search needs
 
 returns : tie.Need-returns
-returns c = taken-as (ap winner-of (c .enum-told .given .1)) (stage-none (c .before .before .before .pre .0))
+returns c = taken-as (ap picked-of (c .enum-told .given .1)) (stage-none (c .before .before .before .pre .0))
 
 enum-known-w : tie.Need-enum-known-w
 enum-known-w c = search needs
@@ -22,7 +22,7 @@ same-length : tie.Need-same-length
 same-length c = search needs
 
 returns-2 : tie.Need-returns-2
-returns-2 c = taken-as (ap winner-of (c .before .before .before .before .before .w .given .1)) (c .before .before .dequeue .ensures)
+returns-2 c = taken-as (ap picked-of (c .before .before .before .before .before .w .given .1)) (c .before .before .dequeue .ensures)
 
 pub take-out-spec : {M : Type 1} → statement M
 take-out-spec =
