@@ -1,5 +1,6 @@
 // Refusals 1 to 4 of document 01: the sizes, the length, every word's range, and the structure.
 mod ranges;
+mod records;
 mod structure;
 
 ghost use mathlib.Core.Path.{_≡_};
@@ -28,7 +29,7 @@ fn in_ranges(m: &[u64], time: u64) -> bool
     }
     let c = machine::index(m[0]);
     let n = machine::index(m[1]);
-    if !ranges::contexts_in_range(m, m[0], n) {
+    if !records::contexts_in_range(m, m[0], n) {
         return false;
     }
     ranges::blocks_in_range(m, c, n)

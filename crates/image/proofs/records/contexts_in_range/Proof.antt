@@ -11,8 +11,8 @@ use mathlib.Core.Bool.{true}
 use mathlib.Core.Path.{_≡_, sym, _∙_}
 use borrow.Author.Needs.{needs}
 use native.Mathlib.Omega.{arith}
-use Rattle.image.proofs.ranges.contexts_in_range.Statement.{statement}
-use Rattle.image.proofs.ranges.contexts_in_range.Tie as tie
+use Rattle.image.proofs.records.contexts_in_range.Statement.{statement}
+use Rattle.image.proofs.records.contexts_in_range.Tie as tie
 
 abbrev Inv-loop : tie.InvT-loop
 Inv-loop m c n x₀ x = (x ≤ n) × (2 + 26 * n ≤ length m) × (n ≤ 64) × (every (λ (y : ℕ). context-in-range c (part m (context-place y) 26)) x ≡ true)

@@ -1,8 +1,8 @@
--- `image::ranges::live_in_range` meets its contract. Assumes nothing.
+-- `image::records::live_in_range` meets its contract. Assumes nothing.
 use Rattle.image.proofs.Together.{marks-out, numbers-out, all-in}
 use borrow.Author.Needs.{needs}
-use Rattle.image.proofs.ranges.live_in_range.Statement.{statement}
-use Rattle.image.proofs.ranges.live_in_range.Tie as tie
+use Rattle.image.proofs.records.live_in_range.Statement.{statement}
+use Rattle.image.proofs.records.live_in_range.Tie as tie
 
 shared-slice-read-marks : tie.Need-shared-slice-read-marks
 shared-slice-read-marks c = search needs

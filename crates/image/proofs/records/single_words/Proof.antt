@@ -1,9 +1,9 @@
--- `image::ranges::single_words` meets its contract. Assumes nothing.
+-- `image::records::single_words` meets its contract. Assumes nothing.
 use borrow.Author.Tests.{le-leb, lt-leb}
 use Rattle.image.specs.Singles.{single-words}
 use borrow.Author.Needs.{needs}
-use Rattle.image.proofs.ranges.single_words.Statement.{statement}
-use Rattle.image.proofs.ranges.single_words.Tie as tie
+use Rattle.image.proofs.records.single_words.Statement.{statement}
+use Rattle.image.proofs.records.single_words.Tie as tie
 
 shared-slice-read-if1 : tie.Need-shared-slice-read-if1
 shared-slice-read-if1 c = search needs

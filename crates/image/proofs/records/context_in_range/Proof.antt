@@ -1,10 +1,10 @@
--- `image::ranges::context_in_range` meets its contract. Assumes nothing.
+-- `image::records::context_in_range` meets its contract. Assumes nothing.
 use mathlib.Core.Path.{sym, _∙_}
 use borrow.Author.Tests.{eq-eqb, ne-eqb, not-true, not-false}
 use Rattle.image.specs.Ranges.{context-in-range, gone-most}
 use borrow.Author.Needs.{needs}
-use Rattle.image.proofs.ranges.context_in_range.Statement.{statement}
-use Rattle.image.proofs.ranges.context_in_range.Tie as tie
+use Rattle.image.proofs.records.context_in_range.Statement.{statement}
+use Rattle.image.proofs.records.context_in_range.Tie as tie
 
 shared-slice-read-if1 : tie.Need-shared-slice-read-if1
 shared-slice-read-if1 c = search needs
