@@ -1,7 +1,7 @@
 // Operations 4 to 7 on an image that was checked: `unblock_context`, `drain_ipi_context_wakeups`, `block` and `hard_block`.
 // In every function m is the image of a machine of c CPUs and n contexts.
 mod named;
-mod wakeup;
+mod wake;
 
 use context::Changed;
 use context::Context;
@@ -55,11 +55,11 @@ fn wakeup_context(
     requires { ⌜ ContextFits c q ⌝ }
     ensures { λ r. ⌜ ((M : Machine) → now (m .entry) ≡ encode M → Fits c n M → reply r (now (m .exit)) ≡ replied (now (m .entry)) (wakeup-context k x result (set-context x q M))) ⌝ }
 {
-    let p = wakeup::other_cpu(m, c, n, k, q.cpu_id);
+    let p = wake::other_cpu(m, c, n, k, q.cpu_id);
     let CpuLookup::Present(t) = p else {
-        return wakeup::wake_local(m, c, n, k, x, q, result);
+        return wake::wake_local(m, c, n, k, x, q, result);
     };
-    wakeup::wake_ipi(m, c, n, k, t, x, q, result)
+    wake::wake_ipi(m, c, n, k, t, x, q, result)
 }
 
 fn unblock(m: &mut [u64], c: usize, n: usize, k: usize, x: usize) -> Answer

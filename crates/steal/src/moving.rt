@@ -1,8 +1,9 @@
 // Entries moved from the victim's queue to this CPU.
+use crate::cpu;
+use crate::records;
 use context::Context;
 use picked::Picked;
 use run_queue::Entry;
-use run_queue::Key;
 use steal_judge::Candidates;
 ghost use mathlib.Core.Path.{_≡_};
 ghost use mathlib.Core.Bool.{true, false};
@@ -29,46 +30,6 @@ pub struct Moved {
     pub full: bool,
 }
 
-fn give_up(m: &mut [u64], c: usize, n: usize, t: usize, e: Entry)
-    requires { ⌜ Image c n (now m) ⌝ }
-    requires { ⌜ t < c ⌝ }
-    ensures { λ r. ⌜ Staged c n t (now (m .entry)) (now (m .exit)) false (λ (s : State). on-cpu (λ (p : Cpu). give-up e p) s) ⌝ }
-{
-    let at = 2 + 26 * n + 665 * t;
-    let end = at + 665;
-    crate::block::give_up(&mut m[at..end], e);
-}
-
-fn add_weight(m: &mut [u64], c: usize, n: usize, k: usize, weight: u64)
-    requires { ⌜ Image c n (now m) ⌝ }
-    requires { ⌜ (k < c) × (weight ≤ 88761) × (getD (now m) (cpu-place n k + 20) 0 ≤ 9799832791305682942) ⌝ }
-    ensures { λ r. ⌜ Staged c n k (now (m .entry)) (now (m .exit)) false (λ (s : State). on-cpu (λ (p : Cpu). cpu-total-weight (p .block .«total_weight» + weight) p) s) ⌝ }
-{
-    let at = 2 + 26 * n + 665 * k;
-    let end = at + 665;
-    crate::block::add_weight(&mut m[at..end], weight);
-}
-
-fn publish(m: &mut [u64], c: usize, n: usize, k: usize)
-    requires { ⌜ Image c n (now m) ⌝ }
-    requires { ⌜ k < c ⌝ }
-    ensures { λ r. ⌜ Staged c n k (now (m .entry)) (now (m .exit)) false (λ (s : State). on-cpu (λ (p : Cpu). published p) s) ⌝ }
-{
-    let at = 2 + 26 * n + 665 * k;
-    let end = at + 665;
-    crate::block::publish(&mut m[at..end]);
-}
-
-fn publish_victim(m: &mut [u64], c: usize, n: usize, t: usize)
-    requires { ⌜ Image c n (now m) ⌝ }
-    requires { ⌜ t < c ⌝ }
-    ensures { λ r. ⌜ Staged c n t (now (m .entry)) (now (m .exit)) false (λ (s : State). on-cpu (λ (p : Cpu). mark-stealable (published p)) s) ⌝ }
-{
-    let at = 2 + 26 * n + 665 * t;
-    let end = at + 665;
-    crate::block::publish_victim(&mut m[at..end]);
-}
-
 // The record of context x as it will stand on this CPU.
 fn stolen(m: &[u64], c: usize, n: usize, k: usize, t: usize, x: usize, weight: u64) -> Context
     requires { ⌜ Image c n (now m) ⌝ }
@@ -80,30 +41,6 @@ fn stolen(m: &[u64], c: usize, n: usize, k: usize, t: usize, x: usize, weight: u
     let here = stages::load_block(m, c, n, k);
     let there = stages::load_block(m, c, n, t);
     steal_judge::moved(q, here.v, there.v, weight)
-}
-
-fn with_new_key(mut q: Context) -> Context
-    ensures { λ r. ⌜ r ≡ with-new-key q ⌝ }
-{
-    q.queue_key_rem_slice = q.rem_slice;
-    q.queue_key_vd = q.vd;
-    q.has_queue_key = true;
-    q
-}
-
-fn entry_of(x: u64, weight: u64, q: Context) -> Entry
-    ensures { λ r. ⌜ r ≡ entry-of x weight q ⌝ }
-{
-    Entry {
-        key: Key {
-            vd: q.vd,
-            rem_slice: q.rem_slice,
-            ctxt_id: q.debug_id,
-        },
-        vtime: q.vtime,
-        weight: weight,
-        context_ref: x,
-    }
 }
 
 fn first_wins(runs: bool, w: Picked) -> bool
@@ -152,9 +89,9 @@ fn queue_in(m: &mut [u64], c: usize, n: usize, k: usize, x: usize, e: Entry, q: 
     requires { ⌜ ContextFits c q ⌝ }
     ensures { λ r. ⌜ Staged c n k (now (m .entry)) (now (m .exit)) r (λ (s : State). insert-entry (entry-of (e .«context_ref») (e .weight) q) (put-context (e .«context_ref») (with-new-key q) s)) ⌝ }
 {
-    let keyed = with_new_key(q);
+    let keyed = records::with_new_key(q);
     stages::store_context(m, c, n, k, x, keyed);
-    let new = entry_of(e.context_ref, e.weight, q);
+    let new = records::entry_of(e.context_ref, e.weight, q);
     stages::insert_entry(m, c, n, k, new)
 }
 
@@ -175,8 +112,8 @@ fn move_entry(
 {
     let x = machine::index(e.context_ref);
     let q = stolen(m, c, n, k, t, x, e.weight);
-    give_up(m, c, n, t, e);
-    add_weight(m, c, n, k, e.weight);
+    cpu::give_up(m, c, n, t, e);
+    cpu::add_weight(m, c, n, k, e.weight);
     take_in(m, c, n, k, runs, w, e, q)
 }
 
@@ -255,7 +192,7 @@ pub fn rob(
     if all.full {
         return all;
     }
-    publish_victim(m, c, n, t);
-    publish(m, c, n, k);
+    cpu::publish_victim(m, c, n, t);
+    cpu::publish(m, c, n, k);
     all
 }

@@ -5,8 +5,8 @@ use Rattle.stages.proofs.Lent.{staged-cpu}
 use Rattle.steal.proofs.Blocks.{fits-published}
 use native.Mathlib.Omega.{arith}
 use borrow.Author.Needs.{needs}
-use Rattle.steal.proofs.moving.publish.Statement.{statement}
-use Rattle.steal.proofs.moving.publish.Tie as tie
+use Rattle.steal.proofs.cpu.publish.Statement.{statement}
+use Rattle.steal.proofs.cpu.publish.Tie as tie
 
 mul-at : tie.Need-mul-at
 mul-at c = search needs

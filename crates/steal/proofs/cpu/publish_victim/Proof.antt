@@ -5,8 +5,8 @@ use Rattle.stages.proofs.Lent.{staged-cpu}
 use Rattle.steal.proofs.Blocks.{fits-marked}
 use native.Mathlib.Omega.{arith}
 use borrow.Author.Needs.{needs}
-use Rattle.steal.proofs.moving.publish_victim.Statement.{statement}
-use Rattle.steal.proofs.moving.publish_victim.Tie as tie
+use Rattle.steal.proofs.cpu.publish_victim.Statement.{statement}
+use Rattle.steal.proofs.cpu.publish_victim.Tie as tie
 
 mul-at : tie.Need-mul-at
 mul-at c = search needs

@@ -1,7 +1,7 @@
 use Rattle.operations.proofs.Waking.{no-cpu-word, this-cpu, another-cpu}
 use borrow.Author.Needs.{needs}
-use Rattle.operations.proofs.wakeup.other_cpu.Statement.{statement}
-use Rattle.operations.proofs.wakeup.other_cpu.Tie as tie
+use Rattle.operations.proofs.wake.other_cpu.Statement.{statement}
+use Rattle.operations.proofs.wake.other_cpu.Tie as tie
 
 returns : tie.Need-returns
 returns c = λ M e o. no-cpu-word _ _ M (c .if1 .taken)

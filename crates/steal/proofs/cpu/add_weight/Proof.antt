@@ -7,8 +7,8 @@ use Rattle.stages.proofs.Lent.{lent-word, staged-cpu}
 use Rattle.steal.proofs.Blocks.{fits-weight}
 use native.Mathlib.Omega.{arith}
 use borrow.Author.Needs.{needs}
-use Rattle.steal.proofs.moving.add_weight.Statement.{statement}
-use Rattle.steal.proofs.moving.add_weight.Tie as tie
+use Rattle.steal.proofs.cpu.add_weight.Statement.{statement}
+use Rattle.steal.proofs.cpu.add_weight.Tie as tie
 
 mul-at : tie.Need-mul-at
 mul-at c = search needs

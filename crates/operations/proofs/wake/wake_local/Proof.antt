@@ -2,8 +2,8 @@ use Rattle.operations.proofs.Waking.{local-full, local-woken}
 use Rattle.machine.proofs.Steps.{sized, step-then}
 use native.Mathlib.Omega.{arith}
 use borrow.Author.Needs.{needs}
-use Rattle.operations.proofs.wakeup.wake_local.Statement.{statement}
-use Rattle.operations.proofs.wakeup.wake_local.Tie as tie
+use Rattle.operations.proofs.wake.wake_local.Statement.{statement}
+use Rattle.operations.proofs.wake.wake_local.Tie as tie
 
 mul-at : tie.Need-mul-at
 mul-at c = search needs

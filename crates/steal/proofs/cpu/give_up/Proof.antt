@@ -7,8 +7,8 @@ use Rattle.stages.proofs.Lent.{lent-word, queue-small, staged-cpu}
 use Rattle.steal.proofs.Blocks.{fits-given-up}
 use native.Mathlib.Omega.{arith}
 use borrow.Author.Needs.{needs}
-use Rattle.steal.proofs.moving.give_up.Statement.{statement}
-use Rattle.steal.proofs.moving.give_up.Tie as tie
+use Rattle.steal.proofs.cpu.give_up.Statement.{statement}
+use Rattle.steal.proofs.cpu.give_up.Tie as tie
 
 mul-at : tie.Need-mul-at
 mul-at c = search needs

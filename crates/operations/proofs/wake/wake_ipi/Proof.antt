@@ -2,8 +2,8 @@ use Rattle.operations.proofs.Waking.{ipi-full, ipi-woken}
 use Rattle.machine.proofs.Steps.{sized, step-then}
 use native.Mathlib.Omega.{arith}
 use borrow.Author.Needs.{needs}
-use Rattle.operations.proofs.wakeup.wake_ipi.Statement.{statement}
-use Rattle.operations.proofs.wakeup.wake_ipi.Tie as tie
+use Rattle.operations.proofs.wake.wake_ipi.Statement.{statement}
+use Rattle.operations.proofs.wake.wake_ipi.Tie as tie
 
 mul-at : tie.Need-mul-at
 mul-at c = search needs

@@ -4,8 +4,8 @@ use Prim.Native.Nat.{_<_}
 use mathlib.Core.Path.{sym, subst}
 use native.Mathlib.Omega.{arith}
 use borrow.Author.Needs.{needs}
-use Rattle.operations.proofs.wakeup.push_ipi.Statement.{statement}
-use Rattle.operations.proofs.wakeup.push_ipi.Tie as tie
+use Rattle.operations.proofs.wake.push_ipi.Statement.{statement}
+use Rattle.operations.proofs.wake.push_ipi.Tie as tie
 
 mul-at : tie.Need-mul-at
 mul-at c = search needs
