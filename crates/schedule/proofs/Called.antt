@@ -32,7 +32,7 @@ use Rattle.schedule.specs.Begun.{CanBegin}
 use Rattle.schedule.specs.Decides.{Decides, Ends}
 use Rattle.schedule.proofs.Start.{put-below}
 use Rattle.schedule.proofs.Ending.{stage-ends, stage-end, ends-as, ends-decides}
-use Rattle.schedule.proofs.Inner.{Directs, direct-made, direct-full, direct-not}
+use Rattle.schedule.proofs.Inner.{Directs, current-is, direct-made, direct-full, direct-not}
 
 abbrev pub InTime : (c n k time : ℕ) → List ℕ → Type 0
 InTime c n k time m = (M : Machine) → m ≡ encode M → Fits c n M → elapsed time (cpu-at M k) ≤ 4503599627370495
@@ -129,20 +129,17 @@ call k time x cpus s =
 
 -- b was loaded
 module _ {c n : ℕ} {m : List ℕ} (k time x : ℕ) (b : PercpuBlock) (hb : (M : Machine) → m ≡ encode M → Fits c n M → b ≡ cpu-at M k .block) where
-  current-is : (v : Bool) → eqb (b .«current_ctxt») x ≡ v → (M : Machine) → m ≡ encode M → Fits c n M → eqb (cpu-at M k .block .«current_ctxt») x ≡ v
-  current-is v z M e o = rw (hb M e o) at z
-
   pub direct-current : b .«current_ctxt» ≡ x → Image c n m → Decides c n m m false 1 (λ (M : Machine). direct-switch-to k time x M)
   unfolding direct-switch-to
   direct-current z i =
-      ends-decides (ends-as {f' = call k time x} (stage-end 1 (unchanged k (λ (s : State). s) i (λ M e o. refl))) (λ M e o cpus. rw (current-is true (eq-eqb _ _ z) M e o)))
+      ends-decides (ends-as {f' = call k time x} (stage-end 1 (unchanged k (λ (s : State). s) i (λ M e o. refl))) (λ M e o cpus. rw (current-is k time x b hb true (eq-eqb _ _ z) M e o)))
 
   -- own: x is in charge
   module _ (own : Bool) (ho : own ≡ eqb (b .«sched_ctxt») x) (z : b .«current_ctxt» ≢ x) where
     called : (M : Machine) → m ≡ encode M → Fits c n M → (cpus : List Cpu) → direct-switch-or k time cpus (state-of k M) (direct k time x own (state-of k M)) ≡ call k time x cpus (state-of k M)
     called M e o cpus =
         let y : own ≡ eqb (cpu-at M k .block .«sched_ctxt») x = ho ∙ ap (λ (p : PercpuBlock). eqb (p .«sched_ctxt») x) (hb M e o)
-        in rw (current-is false (ne-eqb _ _ z) M e o) (ap (λ (v : Bool). direct-switch-or k time cpus (state-of k M) (direct k time x v (state-of k M))) y)
+        in rw (current-is k time x b hb false (ne-eqb _ _ z) M e o) (ap (λ (v : Bool). direct-switch-or k time cpus (state-of k M) (direct k time x v (state-of k M))) y)
 
     pub directly : {m' : List ℕ} → Directs c n k m m' false true (direct k time x own) → Decides c n m m' false 1 (λ (M : Machine). direct-switch-to k time x M)
     unfolding direct-switch-to direct-switch-or

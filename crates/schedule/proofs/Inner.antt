@@ -51,7 +51,7 @@ idle-fits {n} b b' t e o = subst (BlockFits n) (sym e) (record { current = o .cu
 
 -- x is current already, or is switched to; b: the block
 module _ {c n : ℕ} {m : List ℕ} (k time x : ℕ) (b : PercpuBlock) (hb : (M : Machine) → m ≡ encode M → Fits c n M → b ≡ cpu-at M k .block) where
-  current-is : (v : Bool) → eqb (b .«current_ctxt») x ≡ v → (M : Machine) → m ≡ encode M → Fits c n M → eqb (cpu-at M k .block .«current_ctxt») x ≡ v
+  pub current-is : (v : Bool) → eqb (b .«current_ctxt») x ≡ v → (M : Machine) → m ≡ encode M → Fits c n M → eqb (cpu-at M k .block .«current_ctxt») x ≡ v
   current-is v z M e o = rw (hb M e o) at z
 
   pub stays-current : b .«current_ctxt» ≡ x → Image c n m → Staged c n k m m false (λ (s : State). switched-to k time x s)
