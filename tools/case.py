@@ -1,15 +1,12 @@
 """A case of crates/cases, and a machine to make its image of."""
+import re
 from typing import NamedTuple
 
-RECORD = """gone debug_id status running currently_scheduled cpu_id schedule_time switch_time active_cpu_time sched_cpu_time
-sched_affinity inside_syscall has_wake wake userspace being_sigkilled prio vtime vd rem_slice is_active has_key key_vd
-key_rem_slice lock addr_space""".split()
-BLOCK = """present current sched idle schedule_time pit_ticks being_sigkilled inside_syscall stealable queue_len shown_weight
-steal_counter state user kernel idle_ms context_switches syscall_switches queue_locked v total_weight queue timers local
-ipi""".split()
-ENTRY = dict(vd=25, rem_slice=89, id=153, vtime=217, weight=281, context=345)
-TIMER_WAKE, TIMER_CONTEXT, LOCAL, IPI = 409, 473, 537, 601
-SLICE = 9 * 2**30
+from layout import ARRAYS, RECORD, RECORD_WORDS, SINGLE, SLICE_MAX, array_place, block_place, length, record_place
+
+RECORD_PLACES = {word.name: place for place, word in enumerate(RECORD)}
+BLOCK_PLACES = {word.name: place for place, word in enumerate(SINGLE)}
+COLUMNS = {array.item: array_place(array) for array in ARRAYS}
 
 
 class Case(NamedTuple):
@@ -29,21 +26,19 @@ class Machine:
         self.cpus, self.contexts, self.words = cpus, contexts, {0: cpus, 1: contexts}
 
     def length(self):
-        return 2 + 26 * self.contexts + 665 * self.cpus
+        return length(self.cpus, self.contexts)
 
     def of(self, context, field):
         """The place of a record's word."""
-        return 2 + 26 * context + RECORD.index(field)
+        return record_place(context) + RECORD_PLACES[field]
 
     def on(self, cpu, field):
-        """The place of a block's word: a single one, or `queue.vtime` and such with a slot behind a colon."""
-        start = 2 + 26 * self.contexts + 665 * cpu
-        if ":" not in field:
-            return start + BLOCK.index(field)
-        column, slot = field.split(":")
-        columns = {**{"queue." + name: at for name, at in ENTRY.items()}, "timers.wake": TIMER_WAKE,
-                   "timers.context": TIMER_CONTEXT, "local": LOCAL, "ipi": IPI}
-        return start + columns[column] + int(slot)
+        """The place of a block's word: a single one, or one of an array, as `queue[3].key.vd`."""
+        start = block_place(self.contexts, cpu)
+        if field in BLOCK_PLACES:
+            return start + BLOCK_PLACES[field]
+        slot = re.search(r"\[(\d+)\]", field)
+        return start + COLUMNS[field.replace(slot.group(), "[%d]")] + int(slot.group(1))
 
     def put(self, words):
         copy = Machine(self.cpus, self.contexts)
@@ -56,30 +51,31 @@ class Machine:
     def block(self, cpu, **fields):
         return self.put({self.on(cpu, field): value for field, value in fields.items()})
 
+    def slots(self, cpu, array, values):
+        return self.put({self.on(cpu, array % slot): value for slot, value in enumerate(values)})
+
     def queue(self, cpu, *entries):
         """Entries (context, vd, vtime) of weight 1024 with a whole slice, in the order of their keys; total weight and
-        what the CPU shows of its queue follow. The first entry of a context is the one that its record agrees with."""
+        what the CPU publishes of its queue follow. The first entry of a context is the one that its record agrees with."""
         weight = self.words.get(self.on(cpu, "total_weight"), 0) + 1024 * len(entries)
-        copy = self.block(cpu, queue=len(entries), queue_len=len(entries), stealable=int(bool(entries)),
-                          total_weight=weight, shown_weight=weight)
+        copy = self.block(cpu, queue_count=len(entries), queue_len=len(entries), stealable=int(bool(entries)),
+                          total_weight=weight, published_weight=weight)
         for slot, (context, vd, vtime) in enumerate(entries):
-            entry = dict(vd=vd, rem_slice=SLICE, id=self.words[self.of(context, "debug_id")], vtime=vtime, weight=1024,
-                         context=context)
-            copy = copy.put({copy.on(cpu, "queue.%s:%d" % (column, slot)): value for column, value in entry.items()})
-            if not copy.words.get(copy.of(context, "has_key")):
-                copy = copy.record(context, vtime=vtime, vd=vd, rem_slice=SLICE, is_active=1, has_key=1, key_vd=vd,
-                                   key_rem_slice=SLICE)
+            entry = {"key.vd": vd, "key.rem_slice": SLICE_MAX, "key.ctxt_id": self.words[self.of(context, "debug_id")],
+                     "vtime": vtime, "weight": 1024, "context_ref": context}
+            copy = copy.put({copy.on(cpu, "queue[%d].%s" % (slot, field)): value for field, value in entry.items()})
+            if not copy.words.get(copy.of(context, "has_queue_key")):
+                copy = copy.record(context, vtime=vtime, vd=vd, rem_slice=SLICE_MAX, is_active=1, has_queue_key=1,
+                                   queue_key_vd=vd, queue_key_rem_slice=SLICE_MAX)
         return copy
 
     def timers(self, cpu, *pairs):
-        copy = self.block(cpu, timers=len(pairs))
-        for slot, (wake, context) in enumerate(pairs):
-            copy = copy.put({copy.on(cpu, "timers.wake:%d" % slot): wake, copy.on(cpu, "timers.context:%d" % slot): context})
-        return copy
+        copy = self.block(cpu, timers_count=len(pairs)).slots(cpu, "timers[%d].wake", [wake for wake, _ in pairs])
+        return copy.slots(cpu, "timers[%d].context_ref", [context for _, context in pairs])
 
     def local(self, cpu, *names):
-        copy = self.block(cpu, local=len(names))
-        return copy.put({copy.on(cpu, "local:%d" % slot): name for slot, name in enumerate(names)})
+        copy = self.block(cpu, local_count=len(names))
+        return copy.slots(cpu, "local_wakeup_list[%d]", names)
 
     def gone(self, context):
-        return self.put({2 + 26 * context + word: 0 for word in range(2, 26)}).record(context, gone=1)
+        return self.put({record_place(context) + word: 0 for word in range(2, RECORD_WORDS)}).record(context, gone=1)

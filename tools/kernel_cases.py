@@ -1,7 +1,7 @@
 #!/usr/bin/env python3
 """Calls of the kernel's own run as one antt file.
 
-usage: kernel_cases.py [--every] LIST.. > crates/decision_cases/specs/KernelCases.antt
+usage: kernel_cases.py [--every] LIST.. > crates/model_cases/specs/KernelCases.antt
 
 A list is text, a line for each call, `op cpu time ctx | idx:value .. | refusal result interrupt | idx:newvalue ..`,
 or words of 64 bits (name ending in .bin), as harness/recorded describes them. Taken are calls of operations 1 to 3 that
@@ -11,13 +11,15 @@ another kind than those before. With --every all of them are taken: more than on
 import struct
 import sys
 
+from layout import length
+
 HEAD = '''-- Calls of the kernel's own run: words before, result, words after. Written by tools/kernel_cases.py. Assumes nothing.
 use mathlib.Core.Path.{_≡_, refl}
 use mathlib.Core.Bool.{Bool, true, false}
 use mathlib.Core.List.{List, [], _∷_}
 use Prim.Native.Nat.{ℕ}
-use Rattle.decision.specs.Opened.{opened}
-use Rattle.decision_cases.specs.Replay.{KernelCase, called, every-passes, zeros, sparse, same-words, replay, passes}
+use Rattle.model.specs.Opened.{opened}
+use Rattle.model_cases.specs.Replay.{KernelCase, called, every-passes, zeros, sparse, same-words, replay, passes}
 
 unfoldable pub kernel-cases : List KernelCase
 kernel-cases =
@@ -53,7 +55,7 @@ def from_words(name):
 
 
 def size_of(words):
-    return 2 + 26 * words.get(1, 0) + 665 * words.get(0, 0)
+    return length(words.get(0, 0), words.get(1, 0))
 
 
 def sparse(words, size):

@@ -1,27 +1,10 @@
 #!/usr/bin/env python3
 """Writes what follows from the field lists of the image's records: the specs `Words`
-(a record's words, and the record of the words) and `With` (a record with one field changed).
+(a record's words, and the record of the words) and `With` (a record with one field changed), and where the words of a
+block stand (`places` and `Places` of percpu).
 
-Run it from the root of the repository after a field list changes."""
-
-# A mark is a bool; 'enum:T' is the enum T, whose number and inverse its crate defines.
-CONTEXT = [("gone", "bool"), ("debug_id", "u64"), ("status", "enum:status"), ("running", "bool"),
-           ("currently_scheduled", "bool"), ("cpu_id", "u64"), ("schedule_time", "u64"),
-           ("switch_time", "u64"), ("active_cpu_time", "u64"), ("sched_cpu_time", "u64"),
-           ("sched_affinity", "u64"), ("inside_syscall", "bool"), ("has_wake", "bool"), ("wake", "u64"),
-           ("userspace", "bool"), ("being_sigkilled", "bool"), ("prio", "u64"), ("vtime", "u64"),
-           ("vd", "u64"), ("rem_slice", "u64"), ("is_active", "bool"), ("has_queue_key", "bool"),
-           ("queue_key_vd", "u64"), ("queue_key_rem_slice", "u64"), ("lock", "u64"), ("addr_space", "u64")]
-STATS = [("state", "enum:state"), ("user", "u64"), ("kernel", "u64"), ("idle", "u64"),
-         ("context_switches", "u64"), ("syscall_switches", "u64")]
-BLOCK = [("present", "bool"), ("current_ctxt", "u64"), ("sched_ctxt", "u64"), ("idle_ctxt", "u64"),
-         ("schedule_time", "u64"), ("pit_ticks", "u64"), ("being_sigkilled", "bool"),
-         ("inside_syscall", "bool"), ("stealable", "bool"), ("queue_len", "u64"),
-         ("published_weight", "u64"), ("steal_counter", "u64"), ("stats", "record"),
-         ("queue_locked", "bool"), ("v", "u64"), ("total_weight", "u64")]
-LISTS = [("queue", "List Entry"), ("timers", "List Timer"), ("local_wakeup_list", "List ℕ"),
-         ("ipi_context_wakeup_list", "List ℕ")]
-WIDTH = {"record": len(STATS)}
+Run it from the root of the repository after a list of tools/layout.py changes."""
+from layout import ARRAYS, BLOCK, CONTEXT, COUNTS, LISTS, ROOM, STATS, WIDTH
 
 
 def name(f):
@@ -136,20 +119,53 @@ def write(path, head, imports, parts):
         out.write(HEAD % head + "".join("use %s\n" % i for i in imports) + "\n" + "\n".join(parts))
 
 
+def size(name, n):
+    return "abbrev pub %s : ℕ\n%s = %d\n" % (name, name, n)
+
+
 def sized(words_fn, typ, n, extra=""):
-    return "pub length-%s : (c : %s) → length (%s c) ≡ %d\nunfolding %s%s\nlength-%s c = refl\n" % (
+    return "pub length-%s : (c : %s) → length (%s c) ≡ %s\nunfolding %s%s\nlength-%s c = refl\n" % (
         words_fn, typ, words_fn, n, words_fn, extra, words_fn)
 
 
-def pair(crate, typ, fields, fn, enum, setter, what, uses=()):
+def places():
+    """Name and number of each place of a block, and of the sizes, in order."""
+    scalars = [g for f, t in BLOCK for g in ([n for n, _ in STATS] if t == "record" else [f])]
+    front = scalars + COUNTS
+    out = [(f, i) for i, f in enumerate(front)] + [("scalars_size", len(scalars)), ("front_size", len(front))]
+    out += [(array.name, len(front) + ROOM * i) for i, array in enumerate(ARRAYS)]
+    end = len(front) + ROOM * len(ARRAYS)
+    return out + [("columns_end", end), ("block_size", end)]
+
+
+def consts(path, what, pairs):
+    with open(path, "w") as out:
+        out.write("// %s Written by tools/records.py.\n" % what
+                  + "\n".join("pub const %s: usize = %d;\n" % (f.upper(), i) for f, i in pairs))
+
+
+def write_places():
+    columns = [array.name for array in ARRAYS]
+    ends = ["scalars_size", "front_size", "columns_end", "block_size"]
+    named = [(hyphen(f) + ("-column" if f in columns else "" if f in COUNTS + ends else "-place"), n) for f, n in places()]
+    consts("crates/percpu/src/places.rt", "Where the words of a block stand, and its size.", places())
+    consts("crates/context/src/places.rt", "Where the words of a record stand, and its size.",
+           [(f, i) for i, (f, _) in enumerate(CONTEXT)] + [("record_size", len(CONTEXT))])
+    with open("crates/percpu/specs/Places.antt", "w") as out:
+        out.write("-- Where the words of a block stand, and its size. Written by tools/records.py.\n"
+                  "use Prim.Native.Nat.{ℕ}\n\n"
+                  + "\n".join("abbrev pub %s : ℕ\n%s = %d\n" % (f, f, i) for f, i in named))
+
+
+def pair(crate, typ, fields, fn, enum, setter, what, size_name, uses=()):
     """Both files of a record that has one enum: `enum` names its type and the prefix of its number and inverse."""
     own = "Rattle.%s.specs." % crate
     words_fn, of_fn = fn + "-words", fn + "-of"
     declared, (enum_typ, prefix) = own + "declared.%s.{%s}" % (typ, typ), enum
     inverse = own + "%s.{%s-number, %s-of, %s-back}" % (prefix.capitalize(), prefix, prefix, prefix)
     write("crates/%s/specs/Words.antt" % crate, what[0], [declared, inverse, *uses],
-          [words(words_fn, typ, fields), of(of_fn, typ, fields), back(of_fn, words_fn, typ, fields),
-           sized(words_fn, typ, len(fields))])
+          [size(size_name, len(fields)), words(words_fn, typ, fields), of(of_fn, typ, fields),
+           back(of_fn, words_fn, typ, fields), sized(words_fn, typ, size_name)])
     write("crates/%s/specs/With.antt" % crate, what[1], [declared, own + "declared.%s.{%s}" % (enum_typ, enum_typ)],
           setters(setter, typ, fields, enum_typ))
 
@@ -158,25 +174,26 @@ def main():
     marks = "Rattle.columns.specs.Common.{mark, mark-back}"
     pair("context", "Context", CONTEXT, "context", ("Status", "status"), "with",
          ("The 26 words of a context's record, and the record of the words.",
-          "A context's record with one field changed."), [marks])
+          "A context's record with one field changed."), "record-size", [marks])
     pair("cpu_stats", "CpuStats", STATS, "stats", ("CpuState", "state"), "stats",
          ("The six words of a CPU's statistics, and the statistics of the words.",
-          "A CPU's statistics with one field changed."))
+          "A CPU's statistics with one field changed."), "stats-size")
     percpu = "Rattle.percpu.specs."
     write("crates/percpu/specs/Words.antt", "The first 21 words of a CPU's block, and the scalars of the words.",
           [percpu + "declared.PercpuBlock.{PercpuBlock}", marks,
-           "Rattle.columns.specs.Blocks.{part}", "Rattle.cpu_stats.specs.declared.CpuStats.{CpuStats}",
+           percpu + "Places.{scalars-size}", "Rattle.columns.specs.Blocks.{part}", "Rattle.cpu_stats.specs.declared.CpuStats.{CpuStats}",
            "Rattle.cpu_stats.specs.Words.{stats-words, stats-of, stats-of-words}"],
           [words("block-words", "PercpuBlock", BLOCK), of("block-of", "PercpuBlock", BLOCK),
            back("block-of", "block-words", "PercpuBlock", BLOCK),
-           sized("block-words", "PercpuBlock", 21, " stats-words")])
+           sized("block-words", "PercpuBlock", "scalars-size", " stats-words")])
     write("crates/percpu/specs/With.antt", "A CPU with one field of its block, or one list, changed.",
           [percpu + "declared.PercpuBlock.{PercpuBlock}", percpu + "Cpu.{Cpu}",
            "Rattle.cpu_stats.specs.declared.CpuStats.{CpuStats}",
-           "Rattle.run_queue.specs.declared.Entry.{Entry}", "Rattle.run_queue.specs.declared.Timer.{Timer}"],
+           "Rattle.entries.specs.declared.Entry.{Entry}", "Rattle.entries.specs.declared.Timer.{Timer}"],
           setters("block", "PercpuBlock", BLOCK, "CpuState")
           + setters("cpu", "Cpu", [("block", "PercpuBlock")] + LISTS, "")
           + lifted("cpu", "cpu", "block", "block", "Cpu", BLOCK, "CpuState"))
+    write_places()
 
 
 main()

@@ -1,6 +1,6 @@
 """Refusals 5 to 9 of operations 1 to 3, by document 01's table, each with the image kept."""
 from case import Case
-from decision_cases import BLOCKED, TURN, at_idle, lent, start
+from switch_cases import BLOCKED, TURN, at_idle, lent, start
 
 NAMES = {1: "tick", 2: "switch", 3: "direct_switch_to"}
 READ, WRITTEN = dict(lock=1), dict(lock=2)
@@ -39,13 +39,13 @@ def full_timers():
 
 def full_local():
     """Context 4, lent the CPU, goes on a full local list when it is left."""
-    machine = start().record(2, running=0).record(4, running=1).block(0, current=4)
+    machine = start().record(2, running=0).record(4, running=1).block(0, current_ctxt=4)
     return machine.local(0, *[5] * FULL)
 
 
 def keyless():
     """The winner has no key: its entry stays where the holder goes into a full queue."""
-    machine = start().queue(0, *many(5)).record(5, has_key=0, key_vd=0, key_rem_slice=0)
+    machine = start().queue(0, *many(5)).record(5, has_queue_key=0, queue_key_vd=0, queue_key_rem_slice=0)
     return machine.record(3, **BLOCKED)
 
 
@@ -62,7 +62,8 @@ CASES = flat([
     "refusal 5: no such CPU or context",
     each("CPU 2 of two", start(), 5, cpu=2),
     each("CPU 2^64 - 1", start(), 5, cpu=2**64 - 1),
-    each("an absent CPU", start().block(1, present=0, current=0, sched=0, idle=0, steal_counter=0), 5, cpu=1),
+    each("an absent CPU", start().block(1, present=0, current_ctxt=0, sched_ctxt=0, idle_ctxt=0, steal_counter=0), 5,
+         cpu=1),
     refused("direct switch to context 6 of six", start(), 5, 3, context=6),
     refused("to context 2^64 - 1", start(), 5, 3, context=2**64 - 1),
     refused("to a gone one", start().gone(3), 5, 3),

@@ -11,9 +11,10 @@ use Rattle.machine.specs.Encode.{encode}
 use Rattle.machine.specs.Shape.{Fits, Image}
 use Rattle.stages.specs.Read.{BlockFits}
 use Rattle.admission.specs.Refusals.{is-locked, decision-locked, is-late}
+use Rattle.numbers.specs.Limits.{max-elapsed}
 
 module _ {c n : ℕ} {m : List ℕ} {p : PercpuBlock} (k : ℕ) (hp : (M : Machine) → m ≡ encode M → Fits c n M → p ≡ cpu-at M k .block) where
-  pub late : (time : ℕ) {b r : Bool} → b ≡ ltb 4503599627370495 (time - p .«schedule_time») → b ≡ r → (M : Machine) → m ≡ encode M → Fits c n M → is-late time (cpu-at M k .block) ≡ r
+  pub late : (time : ℕ) {b r : Bool} → b ≡ ltb max-elapsed (time - p .«schedule_time») → b ≡ r → (M : Machine) → m ≡ encode M → Fits c n M → is-late time (cpu-at M k .block) ≡ r
   late time e t M a o = ap (λ (q : PercpuBlock). is-late time q) (sym (hp M a o)) ∙ sym e ∙ t
 
   pub leaving : {x w : ℕ} {b r : Bool} → w ≡ x → b ≡ (eqb (p .«current_ctxt») (p .«idle_ctxt») && not (eqb w (p .«current_ctxt»))) → b ≡ r → (M : Machine) → m ≡ encode M → Fits c n M

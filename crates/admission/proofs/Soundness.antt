@@ -14,23 +14,24 @@ use Rattle.columns.specs.Blocks.{part}
 use Rattle.columns.proofs.Tests.{by-test, every-at, and-both}
 use Rattle.columns.proofs.Tabulate.{part-get, length-tabulate, getD-tabulate}
 use Rattle.context.specs.declared.Context.{Context}
-use Rattle.context.specs.Words.{context-of}
-use Rattle.run_queue.specs.declared.Entry.{Entry}
-use Rattle.run_queue.specs.declared.Timer.{Timer}
-use Rattle.run_queue.specs.Order.{entry-before}
-use Rattle.run_queue.specs.Sorted.{Sorted}
+use Rattle.context.specs.Words.{context-of, record-size}
+use Rattle.entries.specs.declared.Entry.{Entry}
+use Rattle.entries.specs.declared.Timer.{Timer}
+use Rattle.entries.specs.Order.{entry-before}
+use Rattle.entries.specs.Sorted.{Sorted}
 use Rattle.percpu.specs.Cpu.{Cpu}
 use Rattle.percpu.specs.Words.{block-of}
 use Rattle.percpu.specs.Layout.{cpu-of, entry-at, timer-at, no-entry, no-timer}
 use Rattle.machine.specs.Machine.{Machine, context-at, cpu-at, no-context, no-cpu}
 use Rattle.machine.specs.Encode.{encode, decode, context-place, cpu-place}
 use Rattle.machine.specs.Shape.{CpuFits, Fits}
-use Rattle.image.specs.Ranges.{block-most}
+use Rattle.image.specs.Ranges.{block-most-to}
 use Rattle.image.specs.Structure.{id-of, is-live, is-new, ids-differ, names-live, entry-ids, structure}
 use Rattle.image.specs.Refusal.{size-c, size-n, image-refusal}
 use Rattle.image.proofs.InRange.{BlockInRange}
 use Rattle.image.proofs.Admitted.{Passed, BlockStructure, block-structure-of, decoded-fits, a-block}
-use Rattle.decision.specs.Tidy.{IsContext, Live, Present, Sound, context}
+use Rattle.model.specs.Tidy.{IsContext, Live, Present, Sound, context}
+use Rattle.percpu.specs.Places.{key-ctxt-id-column, entry-context-ref-column, block-size}
 
 -- a member of a list stands somewhere in it
 pub in-at : {A : Type 0} (a d : A) (l : List A) → In a l → (i : ℕ) × (i < length l) × (a ≡ getD l i d)
@@ -55,14 +56,14 @@ module _ {time : ℕ} (m : List ℕ) (p : Passed time m) where
   M = decode m
 
   abbrev block-at : ℕ → List ℕ
-  block-at k = part m (cpu-place (size-n m) k) 665
+  block-at k = part m (cpu-place (size-n m) k) block-size
 
   fits : Fits (size-c m) (size-n m) M
   fits = decoded-fits m p
 
-  pub contexts-are : (x : ℕ) → x < size-n m → context-at (M .contexts) x ≡ context-of (part m (context-place x) 26)
+  pub contexts-are : (x : ℕ) → x < size-n m → context-at (M .contexts) x ≡ context-of (part m (context-place x) record-size)
   unfolding decode
-  contexts-are x h = getD-tabulate (size-n m) x (λ (x : ℕ). context-of (part m (context-place x) 26)) no-context h
+  contexts-are x h = getD-tabulate (size-n m) x (λ (x : ℕ). context-of (part m (context-place x) record-size)) no-context h
 
   pub cpus-are : (k : ℕ) → k < size-c m → cpu-at M k ≡ cpu-of (block-at k)
   unfolding decode cpu-at
@@ -70,7 +71,7 @@ module _ {time : ℕ} (m : List ℕ) (p : Passed time m) where
 
   id-is : (x : ℕ) → x < size-n m → (context-at (M .contexts) x) .«debug_id» ≡ id-of m x
   unfolding context-of id-of
-  id-is x h = ap (λ (c : Context). c .«debug_id») (contexts-are x h) ∙ part-get m (context-place x) 26 1 (omega arith)
+  id-is x h = ap (λ (c : Context). c .«debug_id») (contexts-are x h) ∙ part-get m (context-place x) record-size 1 (omega arith)
 
   -- a CPU that is present is below C
   past-end : (l : List Cpu) (k : ℕ) → length l ≤ k → getD l k no-cpu ≡ no-cpu
@@ -137,7 +138,7 @@ module _ {time : ℕ} (m : List ℕ) (p : Passed time m) where
   live-is : (x : ℕ) → x < size-n m → is-live m x ≡ true → Live M x
   unfolding is-live context-of
   live-is x h t =
-      let z : getD (part m (context-place x) 26) 0 0 ≡ 0 = part-get m (context-place x) 26 0 (omega arith) ∙ rw (add-zero (context-place x)) (eqb-true _ 0 t)
+      let z : getD (part m (context-place x) record-size) 0 0 ≡ 0 = part-get m (context-place x) record-size 0 (omega arith) ∙ rw (add-zero (context-place x)) (eqb-true _ 0 t)
       in ap (λ (c : Context). c .gone) (contexts-are x h) ∙ rw z
 
   sched-live : (k : ℕ) → Present M k → Live M ((cpu-at M k) .block .«sched_ctxt»)
@@ -152,7 +153,7 @@ module _ {time : ℕ} (m : List ℕ) (p : Passed time m) where
 
   -- an entry of an absent CPU there is none; of a present one the structure speaks
   queue-empty : (k : ℕ) → (cpu-at M k) .block .present ≡ false → (cpu-at M k) .queue ≡ []
-  unfolding cpu-of block-of block-most tabulate no-cpu
+  unfolding cpu-of block-of block-most-to tabulate no-cpu
   queue-empty k e =
       by-test (ltb k (size-c m))
       (λ t.
@@ -177,10 +178,10 @@ module _ {time : ℕ} (m : List ℕ) (p : Passed time m) where
   unfolding entry-ids entry-at
   id-of-entry k h i b s =
       let f = entry-found k h i b
-      in let t = every-at (λ (i : ℕ). eqb (getD (block-at k) (153 + i) 0) (id-of m (getD (block-at k) (345 + i) 0))) (getD (block-at k) 21 0) i s (f .0)
+      in let t = every-at (λ (i : ℕ). eqb (getD (block-at k) (key-ctxt-id-column + i) 0) (id-of m (getD (block-at k) (entry-context-ref-column + i) 0))) (getD (block-at k) 21 0) i s (f .0)
       in let n : (getD ((cpu-at M k) .queue) i no-entry) .«context_ref» < size-n m = fits .cpu k h .entry i b .name
       in id-is _ n ∙ ap (λ (e : Entry). id-of m (e .«context_ref»)) (f .1)
-      ∙ sym (eqb-true (getD (block-at k) (153 + i) 0) (id-of m (getD (block-at k) (345 + i) 0)) t)
+      ∙ sym (eqb-true (getD (block-at k) (key-ctxt-id-column + i) 0) (id-of m (getD (block-at k) (entry-context-ref-column + i) 0)) t)
       ∙ sym (ap (λ (e : Entry). e .key .«ctxt_id») (f .1))
 
   ids-of-entries : (k : ℕ) → k < size-c m → (i : ℕ) → i < length ((cpu-at M k) .queue)

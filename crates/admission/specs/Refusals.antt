@@ -6,6 +6,7 @@ use Rattle.columns.specs.Common.{if_then_else_}
 use Rattle.context.specs.declared.Context.{Context}
 use Rattle.percpu.specs.declared.PercpuBlock.{PercpuBlock}
 use Rattle.machine.specs.Machine.{Machine, context-at, cpu-at}
+use Rattle.numbers.specs.Limits.{max-elapsed}
 
 -- the CPU's queue and its current, in-charge and idle contexts are free, and where current and in charge differ the latter's address space is not 2
 unfoldable pub is-locked : PercpuBlock → (current sched idle : Context) → Bool
@@ -23,7 +24,7 @@ decision-locked M k =
 
 -- over 2^52 - 1 past the CPU's schedule time
 abbrev pub is-late : ℕ → PercpuBlock → Bool
-is-late time p = ltb 4503599627370495 (time - p .«schedule_time»)
+is-late time p = ltb max-elapsed (time - p .«schedule_time»)
 
 -- operations 1 and 2
 unfoldable pub decision-refusal : Machine → (k time : ℕ) → ℕ

@@ -9,6 +9,7 @@ ghost use Rattle.machine.specs.Machine.{Machine};
 ghost use Rattle.machine.specs.Encode.{encode};
 ghost use Rattle.machine.specs.Shape.{Image, Fits};
 ghost use Rattle.admission.specs.Refusals.{is-locked, is-late, decision-locked, decision-refusal, direct-refusal};
+ghost use Rattle.numbers.specs.Limits.{max-elapsed};
 
 fn is_locked(p: PercpuBlock, current: Context, sched: Context, idle: Context) -> bool
     ensures { λ r. ⌜ r ≡ is-locked p current sched idle ⌝ }
@@ -32,12 +33,12 @@ fn is_locked(p: PercpuBlock, current: Context, sched: Context, idle: Context) ->
 }
 
 fn is_late(time: u64, since: u64) -> bool
-    ensures { λ r. ⌜ r ≡ ltb 4503599627370495 (time - since) ⌝ }
+    ensures { λ r. ⌜ r ≡ ltb max-elapsed (time - since) ⌝ }
 {
     if time < since {
         return false;
     }
-    4503599627370495 < time - since
+    numbers::MAX_ELAPSED < time - since
 }
 
 // Another than the idle context is switched to while the idle context is current.
@@ -56,9 +57,9 @@ fn decision_locked(m: &[u64], c: usize, n: usize, k: usize) -> bool
     ensures { λ r. ⌜ ((M : Machine) → now (m .entry) ≡ encode M → Fits c n M → r ≡ decision-locked M k) ⌝ }
 {
     let p = stages::load_block(m, c, n, k);
-    let current = machine::load(m, c, n, machine::index(p.current_ctxt));
-    let sched = machine::load(m, c, n, machine::index(p.sched_ctxt));
-    let idle = machine::load(m, c, n, machine::index(p.idle_ctxt));
+    let current = machine::load(m, c, n, numbers::index(p.current_ctxt));
+    let sched = machine::load(m, c, n, numbers::index(p.sched_ctxt));
+    let idle = machine::load(m, c, n, numbers::index(p.idle_ctxt));
     is_locked(p, current, sched, idle)
 }
 
@@ -93,7 +94,7 @@ pub fn direct_refusal(m: &[u64], c: usize, n: usize, k: usize, time: u64, x: usi
         return 6;
     }
     let p = stages::load_block(m, c, n, k);
-    if leaves_idle(p, machine::word(x)) {
+    if leaves_idle(p, numbers::word(x)) {
         return 7;
     }
     if is_late(time, p.schedule_time) {

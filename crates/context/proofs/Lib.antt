@@ -1,2 +1,1 @@
-pub mod Charged
-pub mod Bounds
+pub mod Woken

@@ -18,6 +18,9 @@ unfoldable pub unblocked : Context → Changed
 unblocked c =
     if is-soft-blocked (c .status) then record { context = with-status Runnable c; done = true } else record { context = c; done = false }
 
--- made runnable at its wake: no wake is left
+abbrev pub without-wake : Context → Context
+without-wake c = with-has-wake false (with-wake 0 c)
+
+-- a soft-blocked context made runnable at its wake
 abbrev pub woken : Context → Context
-woken c = with-status Runnable (with-has-wake false (with-wake 0 c))
+woken c = with-status Runnable (without-wake c)

@@ -2,4 +2,4 @@ pub mod Status
 pub mod Words
 pub mod With
 pub mod Block
-pub mod Charge
+pub mod Key

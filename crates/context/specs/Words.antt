@@ -9,6 +9,9 @@ use Rattle.context.specs.declared.Context.{Context}
 use Rattle.context.specs.Status.{status-number, status-of, status-back}
 use Rattle.columns.specs.Common.{mark, mark-back}
 
+abbrev pub record-size : ℕ
+record-size = 26
+
 unfoldable pub context-words : Context → List ℕ
 context-words c =
     mark (c .gone) ∷
@@ -101,6 +104,6 @@ context-of-words c = λ j.
       «addr_space» = c .«addr_space»;
     }
 
-pub length-context-words : (c : Context) → length (context-words c) ≡ 26
+pub length-context-words : (c : Context) → length (context-words c) ≡ record-size
 unfolding context-words
 length-context-words c = refl

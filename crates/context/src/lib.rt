@@ -1,5 +1,6 @@
 // A context's record: what the scheduler reads and writes of it (context/context.rs).
-mod charging;
+mod key;
+pub mod places;
 mod record;
 
 pub use record::load_context;
@@ -9,7 +10,7 @@ pub use record::store_context;
 ghost use mathlib.Core.Path.{_≡_};
 ghost use mathlib.Core.Bool.{Bool, true, false};
 ghost use Rattle.context.specs.With.{with-status};
-ghost use Rattle.context.specs.Block.{blocked-as, unblocked};
+ghost use Rattle.context.specs.Block.{blocked-as, unblocked, without-wake};
 ghost use Rattle.context.specs.Status.{is-runnable, is-soft-blocked};
 
 pub enum Status {
@@ -167,5 +168,13 @@ impl Context {
             context: self,
             done: false,
         }
+    }
+    // At its wake, of which nothing is left.
+    pub fn wake_up(mut self) -> Changed
+        ensures { λ r. ⌜ r ≡ unblocked (without-wake self) ⌝ }
+    {
+        self.has_wake = false;
+        self.wake = 0;
+        self.unblock_no_ipi()
     }
 }

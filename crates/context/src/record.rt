@@ -1,11 +1,11 @@
-// The 26 words of a context's record.
+// The words of a context's record.
 use crate::Context;
 use crate::Status;
 ghost use mathlib.Core.Path.{_≡_};
 ghost use Prim.Native.Nat.{ℕ, _<_, _≤_};
 ghost use lib.ListN.{length};
 ghost use Rattle.context.specs.Status.{status-number, status-of};
-ghost use Rattle.context.specs.Words.{context-words, context-of};
+ghost use Rattle.context.specs.Words.{context-words, context-of, record-size};
 
 pub fn status_number(s: Status) -> u64
     ensures { λ r. ⌜ r ≡ status-number s ⌝ }
@@ -34,7 +34,7 @@ pub fn status_of(x: u64) -> Status
 }
 
 pub fn load_context(w: &[u64]) -> Context
-    requires { ⌜ length (now w) ≡ 26 ⌝ }
+    requires { ⌜ length (now w) ≡ record-size ⌝ }
     ensures { λ r. ⌜ r ≡ context-of (now (w .entry)) ⌝ }
 {
     let status = status_of(w[2]);
@@ -69,7 +69,7 @@ pub fn load_context(w: &[u64]) -> Context
 }
 
 pub fn store_context(w: &mut [u64], c: Context)
-    requires { ⌜ length (now w) ≡ 26 ⌝ }
+    requires { ⌜ length (now w) ≡ record-size ⌝ }
     ensures { λ r. ⌜ now (w .exit) ≡ context-words c ⌝ }
 {
     let s = c.status;

@@ -1,7 +1,7 @@
 -- What a turn adds to a CPU's counters. Assumes nothing.
 use mathlib.Core.Bool.{Bool}
 use Prim.Native.Nat.{ℕ, _+_, _<_}
-use Rattle.columns.specs.Common.{if_then_else_}
+use Rattle.columns.specs.Common.{mark}
 use Rattle.cpu_stats.specs.declared.CpuState.{CpuState}
 use Rattle.cpu_stats.specs.declared.CpuState.the-variants.{Idle, Kernel, User}
 use Rattle.cpu_stats.specs.declared.CpuStats.{CpuStats}
@@ -18,10 +18,9 @@ unfoldable pub time-added : ℕ → CpuStats → CpuStats
 time-added ms c = time-to (c .state) ms c
 
 -- a switch is counted, and counted again as one of a system call if it was made inside of one
-unfoldable pub switch-added : Bool → CpuStats → CpuStats
+abbrev pub switch-added : Bool → CpuStats → CpuStats
 switch-added inside c =
-    if inside then stats-syscall-switches (c .«syscall_switches» + 1) (stats-context-switches (c .«context_switches» + 1) c)
-    else stats-context-switches (c .«context_switches» + 1) c
+    stats-context-switches (c .«context_switches» + 1) (stats-syscall-switches (c .«syscall_switches» + mark inside) c)
 
 -- each counter is in document 01's range
 pub record CountersBelow (bound : ℕ) (c : CpuStats) : Type 0 where

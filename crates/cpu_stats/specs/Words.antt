@@ -8,6 +8,9 @@ use lib.ListN.{length, getD}
 use Rattle.cpu_stats.specs.declared.CpuStats.{CpuStats}
 use Rattle.cpu_stats.specs.State.{state-number, state-of, state-back}
 
+abbrev pub stats-size : ℕ
+stats-size = 6
+
 unfoldable pub stats-words : CpuStats → List ℕ
 stats-words c =
     state-number (c .state) ∷
@@ -40,6 +43,6 @@ stats-of-words c = λ j.
       «syscall_switches» = c .«syscall_switches»;
     }
 
-pub length-stats-words : (c : CpuStats) → length (stats-words c) ≡ 6
+pub length-stats-words : (c : CpuStats) → length (stats-words c) ≡ stats-size
 unfolding stats-words
 length-stats-words c = refl

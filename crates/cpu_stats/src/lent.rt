@@ -7,6 +7,7 @@ ghost use Prim.Native.Nat.{ℕ, _<_};
 ghost use Rattle.cpu_stats.specs.With.{stats-state};
 ghost use Rattle.cpu_stats.specs.Counted.{time-added, switch-added, CountersBelow};
 ghost use Rattle.cpu_stats.specs.Updated.{updated, InRange};
+ghost use Rattle.numbers.specs.Limits.{number-range, half-range};
 
 pub enum Change {
     State(CpuState),
@@ -25,7 +26,7 @@ pub fn set_state(stats: &mut CpuStats, new_state: CpuState)
 }
 
 pub fn add_time(stats: &mut CpuStats, ms: u64)
-    requires { ⌜ (CountersBelow 9223372036854775808 (now stats)) × (ms < 4611686018427387904) ⌝ }
+    requires { ⌜ (CountersBelow half-range (now stats)) × (ms < number-range) ⌝ }
     ensures { λ r. ⌜ now (stats .exit) ≡ time-added ms (now (stats .entry)) ⌝ }
 {
     let s = *stats;
@@ -34,7 +35,7 @@ pub fn add_time(stats: &mut CpuStats, ms: u64)
 }
 
 pub fn add_context_switch(stats: &mut CpuStats, inside_syscall: bool)
-    requires { ⌜ CountersBelow 9223372036854775808 (now stats) ⌝ }
+    requires { ⌜ CountersBelow half-range (now stats) ⌝ }
     ensures { λ r. ⌜ now (stats .exit) ≡ switch-added «inside_syscall» (now (stats .entry)) ⌝ }
 {
     let s = *stats;
@@ -51,7 +52,7 @@ fn with_state(stats: CpuStats, new_state: CpuState) -> CpuStats
 }
 
 fn with_time(stats: CpuStats, ms: u64) -> CpuStats
-    requires { ⌜ (CountersBelow 9223372036854775808 stats) × (ms < 4611686018427387904) ⌝ }
+    requires { ⌜ (CountersBelow half-range stats) × (ms < number-range) ⌝ }
     ensures { λ r. ⌜ r ≡ time-added ms stats ⌝ }
 {
     let mut s = stats;
@@ -60,7 +61,7 @@ fn with_time(stats: CpuStats, ms: u64) -> CpuStats
 }
 
 fn with_switch(stats: CpuStats, inside_syscall: bool) -> CpuStats
-    requires { ⌜ CountersBelow 9223372036854775808 stats ⌝ }
+    requires { ⌜ CountersBelow half-range stats ⌝ }
     ensures { λ r. ⌜ r ≡ switch-added «inside_syscall» stats ⌝ }
 {
     let mut s = stats;

@@ -4,6 +4,7 @@ ghost use Prim.Native.Nat.{ℕ, _<_, _≤_};
 ghost use Rattle.cpu_stats.specs.State.{state-number, state-of};
 ghost use Rattle.cpu_stats.specs.With.{stats-state};
 ghost use Rattle.cpu_stats.specs.Counted.{time-added, switch-added, CountersBelow};
+ghost use Rattle.numbers.specs.Limits.{number-range, half-range};
 
 pub mod lent;
 
@@ -66,8 +67,8 @@ impl CpuStats {
     }
 
     pub fn add_time(mut self, ms: u64) -> Accounted
-        requires { ⌜ CountersBelow 9223372036854775808 self ⌝ }
-        requires { ⌜ ms < 4611686018427387904 ⌝ }
+        requires { ⌜ CountersBelow half-range self ⌝ }
+        requires { ⌜ ms < number-range ⌝ }
         ensures { λ r. ⌜ (r .stats ≡ time-added ms self) × (r .state ≡ self .state) ⌝ }
     {
         let state = self.state;
@@ -97,7 +98,7 @@ impl CpuStats {
     }
 
     pub fn add_context_switch(mut self, inside_syscall: bool) -> CpuStats
-        requires { ⌜ CountersBelow 9223372036854775808 self ⌝ }
+        requires { ⌜ CountersBelow half-range self ⌝ }
         ensures { λ r. ⌜ r ≡ switch-added «inside_syscall» self ⌝ }
     {
         self.context_switches += 1;

@@ -1,23 +1,24 @@
 -- What is printed, from what the call answered. Assumes nothing.
-use mathlib.Core.Path.{_≡_, ap, _∙_}
+use mathlib.Core.Path.{_≡_, refl, ap, _∙_}
 use mathlib.Core.Bool.{not}
 use Prim.Native.Nat.{ℕ, _+_, _-_, _%_, _<_, _≤_}
 use native.Mathlib.Omega.{arith}
 use mathlib.Core.List.{List}
 use lib.Dec.{ltb, eqb}
-use lib.ListN.{length, take, length-take}
+use lib.ListN.{length, getD, take, length-take}
 use borrow.Author.Tests.{ne-eqb, lt-ltb, le-ltb}
 use Rattle.machine.specs.Encode.{cpu-place}
 use Rattle.image.specs.Refusal.{size-c, size-n}
 use Rattle.image.proofs.Admitted.{passed}
-use Rattle.operations.specs.declared.Answer.{Answer}
-use Rattle.operations.specs.Reply.{Reply, reply}
+use Rattle.answer.specs.declared.Answer.{Answer}
+use Rattle.context_ops.specs.Reply.{Reply, reply}
 use Rattle.ronthuyal.specs.Call.{call}
 use Rattle.ronthuyal.proofs.Accepts.{accepts}
-use Rattle.decide.specs.declared.answer.Line.{Line}
+use Rattle.decide.specs.declared.output.Line.{Line}
 use Rattle.decide.specs.declared.input.Head.{Head}
 use Rattle.decide.specs.Input.{head-of, image-words, kept}
 use Rattle.decide.specs.Line.{refused, accepted, shown, call-line, line}
+use Rattle.percpu.specs.Places.{block-size}
 
 pub shown-refused : {a : Answer} {m' : List ℕ} {y : Reply} {l : Line} (n cpu : ℕ) → reply a m' ≡ y → (a .refusal ≡ 0 → ⊥) → l ≡ refused (a .refusal) → l ≡ shown n cpu y
 unfolding shown
@@ -28,9 +29,14 @@ pub shown-accepted : {a : Answer} {m' : List ℕ} {y : Reply} {l : Line} (n cpu 
 unfolding shown
 shown-accepted {a} n cpu n' k e f hn hk h = rw (← e, f, ← hn, ← hk) h
 
+-- the block's place is p, as the code has it
+pub accepted-at : (n cpu result p : ℕ) (m : List ℕ) → p ≡ cpu-place n cpu
+    → record { refusal = 0; result = result; «sched_ctxt» = getD m (p + 2) 0; «current_ctxt» = getD m (p + 1) 0; v = getD m (p + 19) 0 } ≡ accepted n cpu result m
+accepted-at n cpu result p m h = rw h refl
+
 -- the block lies in the image
 pub in-image : {a : Answer} {m' : List ℕ} (m : List ℕ) (operation cpu time context n k : ℕ) → reply a m' ≡ call m operation cpu time context → a .refusal ≡ 0 → n ≡ size-n m → k ≡ cpu
-    → length m' ≡ length m → (n ≤ 64) × (k ≤ 3) × (cpu-place n k + 665 ≤ length m')
+    → length m' ≡ length m → (n ≤ 64) × (k ≤ 3) × (cpu-place n k + block-size ≤ length m')
 in-image m operation cpu time context n k e z hn hk l =
     let s = accepts m cpu time context z operation e
     in let p = passed time m (s .none)

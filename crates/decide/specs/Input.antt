@@ -1,9 +1,14 @@
 -- The words of an input, 64 bits each, lowest byte first. Assumes nothing.
-use Prim.Native.Nat.{ℕ, _+_, _-_, _*_, _/_, min}
+use Prim.Native.Nat.{ℕ, _+_, _-_, _*_, _/_, _^_, min}
 use mathlib.Core.List.{List}
 use lib.ListN.{length, getD}
 use Rattle.columns.specs.Common.{tabulate}
 use Rattle.decide.specs.declared.input.Head.{Head}
+use Rattle.machine.specs.Encode.{max-image-size}
+
+-- the greatest number of four bytes
+abbrev pub max-half : ℕ
+max-half = 2 ^ 32 - 1
 
 -- four bytes from place i on
 unfoldable pub half-at : List ℕ → ℕ → ℕ
@@ -19,6 +24,6 @@ head-of s = record { operation = word-at s 0; cpu = word-at s 1; time = word-at 
 abbrev pub image-words : List ℕ → ℕ → List ℕ
 image-words s n = tabulate n (λ (i : ℕ). word-at s (i + 4))
 
--- how many of them are kept: the longest image has 4326
+-- how many of them are kept: one more than the longest image has
 abbrev pub kept : List ℕ → ℕ
-kept s = min (length s / 8 - 4) 4327
+kept s = min (length s / 8 - 4) (max-image-size + 1)

@@ -7,9 +7,9 @@ use lib.ListN.{length, getD}
 use Rattle.columns.specs.Common.{if_then_else_}
 use Rattle.machine.specs.Encode.{cpu-place}
 use Rattle.image.specs.Refusal.{size-n}
-use Rattle.operations.specs.Reply.{Reply}
+use Rattle.context_ops.specs.Reply.{Reply}
 use Rattle.ronthuyal.specs.Call.{call}
-use Rattle.decide.specs.declared.answer.Line.{Line}
+use Rattle.decide.specs.declared.output.Line.{Line}
 use Rattle.decide.specs.declared.input.Head.{Head}
 use Rattle.decide.specs.Input.{head-of, image-words, kept}
 

@@ -3,7 +3,7 @@ use libc::STDIN_FILENO;
 ghost use mathlib.Core.Path.{_≡_};
 ghost use Prim.Native.Nat.{_+_, _*_, _≤_};
 ghost use lib.ListN.{length};
-ghost use Rattle.decide.specs.Input.{half-at, word-at, head-of, image-words};
+ghost use Rattle.decide.specs.Input.{half-at, word-at, head-of, image-words, max-half};
 
 pub struct Head {
     pub operation: u64,
@@ -20,7 +20,7 @@ fn wide(b: u8) -> u64
 
 fn half(s: &[u8], at: usize) -> u64
     requires { ⌜ at + 4 ≤ length (now s) ⌝ }
-    ensures { λ r. ⌜ (r ≡ half-at (now (s .entry)) at) × (r ≤ 4294967295) ⌝ }
+    ensures { λ r. ⌜ (r ≡ half-at (now (s .entry)) at) × (r ≤ max-half) ⌝ }
 {
     let a = wide(s[at]);
     let b = wide(s[at + 1]);

@@ -10,20 +10,20 @@ use lib.ListN.{length}
 use borrow.Author.Tests.{eq-eqb, ne-eqb, lt-ltb}
 use Rattle.columns.specs.Common.{is-empty}
 use Rattle.columns.proofs.Tests.{by-test}
-use Rattle.run_queue.specs.declared.Entry.{Entry}
+use Rattle.entries.specs.declared.Entry.{Entry}
 use Rattle.percpu.specs.declared.PercpuBlock.{PercpuBlock}
 use Rattle.percpu.specs.Cpu.{Cpu}
 use Rattle.percpu.specs.With.{block-v, block-stealable, cpu-block}
 use Rattle.machine.specs.Machine.{Machine, cpu-at}
 use Rattle.machine.specs.Encode.{encode}
 use Rattle.machine.specs.Shape.{Fits}
-use Rattle.decision.specs.State.{State, state-of, on-cpu, is-some}
-use Rattle.decision.specs.Steal.{mark-stealable}
-use Rattle.decision.specs.SwitchTo.{advance, next-context}
+use Rattle.model.specs.State.{State, state-of, on-cpu, is-some}
+use Rattle.model.specs.Steal.{mark-stealable}
 use Rattle.stages.specs.Stage.{Staged, Ranged}
 use Rattle.stages.specs.Read.{BlockFits}
 use Rattle.stages.proofs.Compose.{stage-as}
 use Rattle.handover.specs.Handed.{advance-by, advanced-by}
+use Rattle.model.specs.Handover.{advance, next-context}
 
 -- the definition's words for `somebody`
 pub advance-is : (runs : Bool) (w : Option ℕ) (ticks : ℕ) (s : State) → advance-by (is-some w || runs) ticks s ≡ advance runs w ticks s

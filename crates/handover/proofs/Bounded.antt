@@ -12,23 +12,25 @@ use Rattle.weights.specs.Weights.{weight}
 use Rattle.percpu.specs.Cpu.{Cpu}
 use Rattle.percpu.specs.With.{cpu-sched-ctxt}
 use Rattle.machine.specs.Shape.{CpuFits}
-use Rattle.decision.specs.State.{State, at, put-context, on-cpu, remove-key, queue-key, with-new-key, is-some, holder}
-use Rattle.decision.specs.Wakeups.{entry-of}
-use Rattle.decision.specs.Steal.{mark-stealable}
-use Rattle.decision.specs.SwitchTo.{advance, requeue, hand-over}
-use Rattle.decision.proofs.Cases.{pick}
+use Rattle.model.specs.State.{State, at, put-context, on-cpu, remove-key, is-some, holder}
+use Rattle.model.specs.Steal.{mark-stealable}
+use Rattle.model.proofs.Cases.{pick}
 use Rattle.stages.specs.Stage.{ContextBelow, CpuBelow, StateBelow}
 use Rattle.stages.proofs.Kept.{context-more, cpu-more, state-more, context-kept, entry-kept, removal-kept}
 use Rattle.handover.specs.Handed.{given-up, taken}
+use Rattle.numbers.specs.Limits.{max-number}
+use Rattle.stages.specs.Bounds.{t-counted, max-gain}
+use Rattle.context.specs.Key.{queue-key, with-new-key, entry-of}
+use Rattle.model.specs.Handover.{advance, requeue, hand-over}
 
-pub advance-below : {n t b : ℕ} (runs : Bool) (w : Option ℕ) (ticks : ℕ) (s : State) → ticks ≤ 2305843009213693952 → StateBelow n t b s → StateBelow n t (b + 2305843009213693952) (advance runs w ticks s)
+pub advance-below : {n t b : ℕ} (runs : Bool) (w : Option ℕ) (ticks : ℕ) (s : State) → ticks ≤ max-gain → StateBelow n t b s → StateBelow n t (b + max-gain) (advance runs w ticks s)
 unfolding advance
 advance-below {n} {t} {b} runs w ticks s l o =
     let h : t ≤ t = omega arith
-    in let g : b ≤ b + 2305843009213693952 = omega arith
+    in let g : b ≤ b + max-gain = omega arith
     in let u = cpu-more h g (o .cpu)
     in
-    pick (StateBelow n t (b + 2305843009213693952)) ((is-some w || runs) && not (eqb (s .cpu .block .«total_weight») 0))
+    pick (StateBelow n t (b + max-gain)) ((is-some w || runs) && not (eqb (s .cpu .block .«total_weight») 0))
     (λ e.
     record {
       context = λ x i. context-more h g (o .context x i);
@@ -101,9 +103,9 @@ module _ {n t b : ℕ} (s : State) (f : CpuFits n (s .cpu)) (o : StateBelow n t 
       entry-kept (put-context x (with-new-key (holder s)) without) (context-kept without without-below x (with-new-key (holder s)) keyed-below)
       (entry-of x (weight ((holder s) .prio)) (holder s)) (held .vtime) (held .vd)
 
-  module _ (time : ℕ) (was-idle : Bool) (l : time ≤ 4611686018427387903) where
+  module _ (time : ℕ) (was-idle : Bool) (l : time ≤ max-number) where
     abbrev later : ℕ
-    later = t + 4611686018427387904
+    later = t + t-counted
 
     given-below : ContextBelow later b (given-up time was-idle (holder s))
     given-below =

@@ -14,12 +14,13 @@ use Rattle.percpu.specs.With.{block-sched-ctxt, cpu-block}
 use Rattle.machine.specs.Machine.{Machine, context-at, cpu-at}
 use Rattle.machine.specs.Encode.{encode}
 use Rattle.machine.specs.Shape.{ContextFits, Fits, Image}
-use Rattle.decision.specs.State.{State, at, state-of, put-context, on-cpu}
-use Rattle.decision.specs.SwitchTo.{hand-over}
+use Rattle.model.specs.State.{State, at, state-of, put-context, on-cpu}
 use Rattle.stages.specs.Stage.{Staged, Ranged}
 use Rattle.stages.specs.Read.{BlockFits}
 use Rattle.stages.proofs.Compose.{stage-then, stage-as}
 use Rattle.handover.specs.Handed.{given-up, taken, taken-over, handed-by}
+use Rattle.stages.specs.Bounds.{t-timed}
+use Rattle.model.specs.Handover.{hand-over}
 
 module _ (q : Context) (time : ℕ) (was-idle : Bool) where
   pub given-idle : was-idle ≡ true → with-currently-scheduled false q ≡ given-up time was-idle q
@@ -57,7 +58,7 @@ at-values time was-idle x s = refl
 
 module _ {c n : ℕ} {m : List ℕ} (k : ℕ) (b : PercpuBlock) (hb : (M : Machine) → m ≡ encode M → Fits c n M → b ≡ cpu-at M k .block) (y : ℕ) (hy : y ≡ b .«sched_ctxt»)
     (q : Context) (hq : (M : Machine) → m ≡ encode M → Fits c n M → q ≡ context-at (M .contexts) y) where
-  pub time-below : {u : ℕ} → Ranged c n 4611686027017322496 u m → y < n → q .«sched_cpu_time» ≤ 4611686027017322496
+  pub time-below : {u : ℕ} → Ranged c n t-timed u m → y < n → q .«sched_cpu_time» ≤ t-timed
   time-below r l = rw (hq (r .M) (r .eq) (r .fits)) (r .below .context y l .sched-cpu-time)
 
   pub handed-as : (time : ℕ) (was-idle : Bool) (x : ℕ) {m' : List ℕ} → Staged c n k m m' false (λ (s : State). handed-by time was-idle x y b q s) → Staged c n k m m' false (λ (s : State). hand-over time was-idle x s)

@@ -9,22 +9,22 @@ use Rattle.columns.proofs.Tests.{by-test}
 use Rattle.context.specs.declared.Context.{Context}
 use Rattle.weights.specs.Weights.{weight}
 use Rattle.weights.proofs.Table.{weight-low, weight-high}
-use Rattle.run_queue.specs.declared.Entry.{Entry}
-use Rattle.run_queue.specs.declared.Key.{Key}
+use Rattle.entries.specs.declared.Entry.{Entry}
+use Rattle.entries.specs.declared.Key.{Key}
 use Rattle.percpu.specs.declared.PercpuBlock.{PercpuBlock}
 use Rattle.machine.specs.Machine.{Machine, context-at, cpu-at}
 use Rattle.machine.specs.Encode.{encode}
 use Rattle.machine.specs.Shape.{ContextFits, EntryFits, Fits, Image}
-use Rattle.decision.specs.State.{State, at, state-of, put-context, insert-entry, remove-key, queue-key, with-new-key}
-use Rattle.decision.specs.Wakeups.{entry-of}
-use Rattle.decision.specs.SwitchTo.{requeue}
+use Rattle.model.specs.State.{State, at, state-of, put-context, insert-entry, remove-key}
 use Rattle.stages.specs.Stage.{Staged}
 use Rattle.stages.proofs.Compose.{stage-then, stage-as}
 use Rattle.stages.proofs.Reading.{unchanged}
 use Rattle.handover.specs.Handed.{taken-out-by, requeued-by}
+use Rattle.context.specs.Key.{queue-key, with-new-key, entry-of}
+use Rattle.model.specs.Handover.{requeue}
 
 pub entry-as : (q : Context) (x w y : ℕ) → w ≡ weight (q .prio) → y ≡ x
-    → record { key = record { vd = q .vd; «rem_slice» = q .«rem_slice»; «ctxt_id» = q .«debug_id» }; vtime = q .vtime; weight = w; «context_ref» = y } ≡ entry-of x (weight (q .prio)) q
+    → entry-of y w q ≡ entry-of x (weight (q .prio)) q
 entry-as q x w y e f = rw (e, f)
 
 pub entry-fits : {c n : ℕ} {e : Entry} (q : Context) (x : ℕ) → e ≡ entry-of x (weight (q .prio)) q → x < n → ContextFits c q → EntryFits n e
@@ -35,8 +35,9 @@ entry-fits q x z l o =
 pub keyed-fits : {c : ℕ} {q' : Context} (q : Context) → q' ≡ with-new-key q → ContextFits c q → ContextFits c q'
 keyed-fits q e o = rw e (record { cpu-id = o .cpu-id; prio = o .prio; rem-slice = o .rem-slice })
 
-pub taken-out : {c n k : ℕ} {m m' : List ℕ} (q : Context) → q .«has_queue_key» ≡ true → Staged c n k m m' false (λ (s : State). remove-key (queue-key q) s) → Staged c n k m m' false (λ (s : State). taken-out-by q s)
-taken-out q e t = stage-as t (λ M z o. (rw e, λ a d. refl))
+pub taken-out : {c n k : ℕ} {m m' : List ℕ} {key : Key} (q : Context) → q .«has_queue_key» ≡ true → key ≡ queue-key q → Staged c n k m m' false (λ (s : State). remove-key key s)
+    → Staged c n k m m' false (λ (s : State). taken-out-by q s)
+taken-out q e f t = stage-as t (λ M z o. (rw (e, f), λ a d. refl))
 
 pub taken-not : {c n k : ℕ} {m : List ℕ} (q : Context) → q .«has_queue_key» ≡ false → Image c n m → Staged c n k m m false (λ (s : State). taken-out-by q s)
 taken-not {k = k} q e i = unchanged k (λ (s : State). taken-out-by q s) i (λ M z o. rw e)

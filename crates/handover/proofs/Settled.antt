@@ -8,19 +8,19 @@ use native.Mathlib.Omega.{arith}
 use Rattle.columns.specs.Common.{if_then_else_}
 use lib.Dec.{eqb}
 use Rattle.machine.specs.Shape.{CpuFits, Image}
-use Rattle.decision.specs.State.{State, on-cpu, is-some}
-use Rattle.decision.specs.Steal.{Stealing, mark-stealable}
-use Rattle.decision.specs.SwitchTo.{advance, requeue}
-use Rattle.decision.specs.Decision.{settled}
-use Rattle.decision.proofs.Cases.{pick}
+use Rattle.model.specs.State.{State, on-cpu, is-some}
+use Rattle.model.specs.Steal.{Stealing, mark-stealable}
+use Rattle.model.proofs.Cases.{pick}
 use Rattle.stages.specs.Stage.{Staged, StateBelow}
 use Rattle.stages.proofs.Compose.{stage-then, stage-full, stage-as}
 use Rattle.stages.proofs.Reading.{unchanged}
 use Rattle.handover.specs.Handed.{advance-by, sent-back-by, settled-by}
 use Rattle.handover.proofs.Bounded.{advance-below, requeue-below, stealable-below}
+use Rattle.stages.specs.Bounds.{max-gain}
+use Rattle.model.specs.Handover.{advance, requeue, settled}
 
 -- the definition's words
-pub settled-is : (k time : ℕ) (runs : Bool) (ticks : ℕ) (l : Stealing) → settled-by (is-some (l .winner)) runs ticks (l .state) ≡ settled k time runs ticks l
+pub settled-is : (k time : ℕ) (runs : Bool) (ticks : ℕ) (l : Stealing) → settled-by (is-some (l .winner)) runs ticks (l .state) ≡ settled runs ticks l
 unfolding settled advance
 settled-is k time runs ticks l = refl
 
@@ -48,7 +48,7 @@ module _ {c n k : ℕ} {m m' m'' : List ℕ} (won runs : Bool) (ticks : ℕ) {so
   settled-room f w = stage-then h (subst (λ (x : Bool). Staged c n k m m'' x (λ (s : State). sent-back-by won runs (advance-by (won || runs) ticks s))) f first) w
 
 -- what all of it adds
-module _ {n t b : ℕ} (won runs : Bool) (ticks : ℕ) (s : State) (l : ticks ≤ 2305843009213693952) (f : CpuFits n (s .cpu)) (o : StateBelow n t b s) where
+module _ {n t b : ℕ} (won runs : Bool) (ticks : ℕ) (s : State) (l : ticks ≤ max-gain) (f : CpuFits n (s .cpu)) (o : StateBelow n t b s) where
   abbrev moved : State
   moved = advance-by (won || runs) ticks s
 
@@ -73,11 +73,11 @@ module _ {n t b : ℕ} (won runs : Bool) (ticks : ℕ) (s : State) (l : ticks �
       })
       (λ e. f)
 
-  moved-below : StateBelow n t (b + 2305843009213693952) moved
+  moved-below : StateBelow n t (b + max-gain) moved
   unfolding advance
   moved-below = advance-below (won || runs) none ticks s l o
 
-  pub settled-below : StateBelow n t (b + 2305843009213693952) (settled-by won runs ticks s)
+  pub settled-below : StateBelow n t (b + max-gain) (settled-by won runs ticks s)
   settled-below =
       stealable-below (sent-back-by won runs moved)
-      (pick (StateBelow n t (b + 2305843009213693952)) (won && runs) (λ e. requeue-below moved moved-fits moved-below) (λ e. moved-below))
+      (pick (StateBelow n t (b + max-gain)) (won && runs) (λ e. requeue-below moved moved-fits moved-below) (λ e. moved-below))

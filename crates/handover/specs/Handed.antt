@@ -9,10 +9,10 @@ use Rattle.weights.specs.Weights.{weight}
 use Rattle.percpu.specs.declared.PercpuBlock.{PercpuBlock}
 use Rattle.percpu.specs.Cpu.{Cpu}
 use Rattle.percpu.specs.With.{block-v, block-sched-ctxt, cpu-block, cpu-v}
-use Rattle.decision.specs.State.{State, at, put-context, on-cpu, insert-entry, remove-key, queue-key, with-new-key}
-use Rattle.decision.specs.Wakeups.{entry-of}
-use Rattle.decision.specs.Steal.{mark-stealable}
-use Rattle.decision.specs.SwitchTo.{requeue}
+use Rattle.model.specs.State.{State, at, put-context, on-cpu, insert-entry, remove-key}
+use Rattle.model.specs.Steal.{mark-stealable}
+use Rattle.context.specs.Key.{queue-key, with-new-key, entry-of}
+use Rattle.model.specs.Handover.{requeue}
 
 -- `advance` where `somebody` says whether somebody won or a runnable holder stays
 abbrev pub advance-by : Bool → ℕ → State → State

@@ -4,13 +4,14 @@ ghost use mathlib.Core.Path.{_≡_};
 ghost use mathlib.Core.Bool.{Bool, false};
 ghost use Prim.Native.Nat.{ℕ, _<_, _≤_};
 ghost use Rattle.machine.specs.Shape.{Image};
-ghost use Rattle.decision.specs.State.{State, on-cpu};
-ghost use Rattle.decision.specs.Steal.{mark-stealable};
+ghost use Rattle.model.specs.State.{State, on-cpu};
+ghost use Rattle.model.specs.Steal.{mark-stealable};
 ghost use Rattle.stages.specs.Stage.{Staged, Ranged};
 ghost use Rattle.handover.specs.Handed.{advanced-by, advance-by};
+ghost use Rattle.stages.specs.Bounds.{t-timed, b-stolen, max-gain};
 
 fn advanced(mut b: PercpuBlock, elapsed_ticks: u64, somebody: bool) -> PercpuBlock
-    requires { ⌜ (b .v ≤ 9799832792379424766) × («elapsed_ticks» ≤ 2305843009213693952) ⌝ }
+    requires { ⌜ (b .v ≤ b-stolen) × («elapsed_ticks» ≤ max-gain) ⌝ }
     ensures { λ r. ⌜ r ≡ advanced-by somebody «elapsed_ticks» b ⌝ }
 {
     if somebody {
@@ -26,8 +27,8 @@ fn advanced(mut b: PercpuBlock, elapsed_ticks: u64, somebody: bool) -> PercpuBlo
 // `somebody`: a context won, or a runnable holder stays.
 pub fn advance(m: &mut [u64], c: usize, n: usize, k: usize, elapsed_ticks: u64, somebody: bool)
     requires { ⌜ Image c n (now m) ⌝ }
-    requires { ⌜ (k < c) × («elapsed_ticks» ≤ 2305843009213693952) ⌝ }
-    requires { ⌜ Ranged c n 4611686027017322496 9799832792379424766 (now m) ⌝ }
+    requires { ⌜ (k < c) × («elapsed_ticks» ≤ max-gain) ⌝ }
+    requires { ⌜ Ranged c n t-timed b-stolen (now m) ⌝ }
     ensures { λ r. ⌜ Staged c n k (now (m .entry)) (now (m .exit)) false (λ (s : State). advance-by somebody «elapsed_ticks» s) ⌝ }
 {
     let b = stages::load_block(m, c, n, k);

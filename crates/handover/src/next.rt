@@ -6,9 +6,9 @@ ghost use Prim.Native.Nat.{_<_};
 ghost use Rattle.machine.specs.Machine.{Machine};
 ghost use Rattle.machine.specs.Encode.{encode};
 ghost use Rattle.machine.specs.Shape.{Image, Fits};
-ghost use Rattle.decision.specs.State.{state-of};
-ghost use Rattle.decision.specs.SwitchTo.{next-context};
+ghost use Rattle.model.specs.State.{state-of};
 ghost use Rattle.picked.specs.Names.{picked-of};
+ghost use Rattle.model.specs.Handover.{next-context};
 
 // Nobody won: a runnable holder keeps the slice, and so does the idle context.
 fn without_winner(m: &[u64], c: usize, n: usize, k: usize, runs: bool) -> Picked
@@ -23,7 +23,7 @@ fn without_winner(m: &[u64], c: usize, n: usize, k: usize, runs: bool) -> Picked
     if b.sched_ctxt == b.idle_ctxt {
         return Picked::Nobody;
     }
-    Picked::Somebody(machine::index(b.idle_ctxt))
+    Picked::Somebody(numbers::index(b.idle_ctxt))
 }
 
 // `runs`: the holder is runnable.

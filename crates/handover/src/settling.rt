@@ -5,18 +5,10 @@ ghost use mathlib.Core.Path.{_≡_};
 ghost use mathlib.Core.Bool.{Bool, _||_};
 ghost use Prim.Native.Nat.{ℕ, _<_, _≤_};
 ghost use Rattle.machine.specs.Shape.{Image};
-ghost use Rattle.decision.specs.State.{State};
+ghost use Rattle.model.specs.State.{State};
 ghost use Rattle.stages.specs.Stage.{Staged, Ranged};
 ghost use Rattle.handover.specs.Handed.{sent-back-by, settled-by};
-
-fn either(a: bool, b: bool) -> bool
-    ensures { λ r. ⌜ r ≡ (a || b) ⌝ }
-{
-    if a {
-        return true;
-    }
-    b
-}
+ghost use Rattle.stages.specs.Bounds.{t-timed, b-stolen, max-gain};
 
 // True if there is no room in the queue.
 fn send_back(m: &mut [u64], c: usize, n: usize, k: usize, won: bool, runs: bool) -> bool
@@ -44,11 +36,11 @@ pub fn settle(
     runs: bool,
 ) -> bool
     requires { ⌜ Image c n (now m) ⌝ }
-    requires { ⌜ (k < c) × («elapsed_ticks» ≤ 2305843009213693952) ⌝ }
-    requires { ⌜ Ranged c n 4611686027017322496 9799832792379424766 (now m) ⌝ }
+    requires { ⌜ (k < c) × («elapsed_ticks» ≤ max-gain) ⌝ }
+    requires { ⌜ Ranged c n t-timed b-stolen (now m) ⌝ }
     ensures { λ r. ⌜ Staged c n k (now (m .entry)) (now (m .exit)) r (λ (s : State). settled-by won runs «elapsed_ticks» s) ⌝ }
 {
-    let somebody = either(won, runs);
+    let somebody = numbers::either(won, runs);
     advancing::advance(m, c, n, k, elapsed_ticks, somebody);
     if send_back(m, c, n, k, won, runs) {
         return true;

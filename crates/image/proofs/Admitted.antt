@@ -10,20 +10,22 @@ use borrow.Author.Tests.{eq-eqb, ne-eqb, leb-true, ltb-true, ltb-false, eqb-true
 use Rattle.columns.specs.Common.{every, if_then_else_, tabulate}
 use Rattle.columns.specs.Blocks.{part, length-part}
 use native.Mathlib.Numerals.{add-one}
-use Rattle.run_queue.specs.Order.{before, sooner}
+use Rattle.entries.specs.Order.{before, sooner}
 use Rattle.percpu.specs.Layout.{entry-at, timer-at}
 use Rattle.columns.proofs.Tests.{by-test, every-at, and-both, past}
 use Rattle.columns.proofs.Tabulate.{length-tabulate, getD-tabulate}
-use Rattle.context.specs.Words.{context-of}
+use Rattle.context.specs.Words.{context-of, record-size}
 use Rattle.percpu.specs.Layout.{cpu-of}
 use Rattle.machine.specs.Machine.{Machine, context-at, cpu-at, no-context, no-cpu}
 use Rattle.machine.specs.Encode.{encode, decode, context-place, cpu-place}
 use Rattle.machine.specs.Shape.{ContextFits, CpuFits, Fits, Image}
 use Rattle.machine.proofs.Encoded.{WholeImage, encode-decode}
-use Rattle.image.specs.Ranges.{most, context-in-range, block-in-range, contexts-in-range, blocks-in-range}
+use Rattle.image.specs.Ranges.{context-in-range, block-in-range, contexts-in-range, blocks-in-range, blocks-in-range-to, contexts-in-range-to}
 use Rattle.image.specs.Structure.{structure, block-structure, ids-differ, names-live, entry-ids, keys-rise, timers-rise}
-use Rattle.image.specs.Refusal.{size-c, size-n, in-bounds, ranges, sized-refusal, image-refusal}
+use Rattle.image.specs.Refusal.{size-c, size-n, in-bounds, ranges, sized-refusal, image-refusal, ranges-to}
 use Rattle.image.proofs.InRange.{whole-context, context-fits, Rising, BlockInRange, in-range, whole-block, cpu-fits}
+use Rattle.percpu.specs.Places.{block-size}
+use Rattle.numbers.specs.Limits.{max-number}
 
 pub bounded : (size greatest : ℕ) → in-bounds size greatest ≡ true → (1 ≤ size) × (size ≤ greatest)
 unfolding in-bounds
@@ -34,62 +36,62 @@ bounded size greatest e =
 
 -- what the ranges say
 pub record InRanges (time : ℕ) (m : List ℕ) : Type 0 where
-  pub time-most : time ≤ most
+  pub time-most : time ≤ max-number
   pub contexts : contexts-in-range (size-c m) (size-n m) m ≡ true
   pub blocks : blocks-in-range (size-c m) (size-n m) m ≡ true
 
 pub in-ranges : (time : ℕ) (m : List ℕ) → ranges time m ≡ true → InRanges time m
-unfolding ranges
+unfolding ranges ranges-to
 in-ranges time m e =
-    let p = and-both (leb time most) _ e
+    let p = and-both (leb time max-number) _ e
     in let q = and-both (contexts-in-range (size-c m) (size-n m) m) (blocks-in-range (size-c m) (size-n m) m) (p .1)
-    in record { time-most = leb-true time most (p .0); contexts = q .0; blocks = q .1 }
+    in record { time-most = leb-true time max-number (p .0); contexts = q .0; blocks = q .1 }
 
 -- what no refusal says
 pub record Passed (time : ℕ) (m : List ℕ) : Type 0 where
   pub cpus : (1 ≤ size-c m) × (size-c m ≤ 4)
   pub names : (1 ≤ size-n m) × (size-n m ≤ 64)
-  pub size : length m ≡ 2 + 26 * size-n m + 665 * size-c m
+  pub size : length m ≡ cpu-place (size-n m) (size-c m)
   pub words : InRanges time m
   pub structured : structure (size-c m) (size-n m) m ≡ true
 
 -- the rest of the check, of an image whose sizes are in their bounds; c and n are the sizes as the code has them
 module _ (time : ℕ) (m : List ℕ) (c n : ℕ) (hc : c ≡ size-c m) (hn : n ≡ size-n m) where
-  fits : length m ≡ 2 + 26 * n + 665 * c → eqb (length m) (2 + 26 * size-n m + 665 * size-c m) ≡ true
-  fits e = eq-eqb (length m) (2 + 26 * size-n m + 665 * size-c m) (rw (← hc, ← hn) e)
+  fits : length m ≡ cpu-place n c → eqb (length m) (cpu-place (size-n m) (size-c m)) ≡ true
+  fits e = eq-eqb (length m) (cpu-place (size-n m) (size-c m)) (rw (← hc, ← hn) e)
 
-  pub wrong-length : (length m ≡ 2 + 26 * n + 665 * c → ⊥) → 2 ≡ sized-refusal time m
+  pub wrong-length : (length m ≡ cpu-place n c → ⊥) → 2 ≡ sized-refusal time m
   unfolding sized-refusal
-  wrong-length e = rw (ne-eqb (length m) (2 + 26 * size-n m + 665 * size-c m) (λ z. e (rw (hc, hn) z)))
+  wrong-length e = rw (ne-eqb (length m) (cpu-place (size-n m) (size-c m)) (λ z. e (rw (hc, hn) z)))
 
-  pub out-of-range : length m ≡ 2 + 26 * n + 665 * c → ranges time m ≡ false → 3 ≡ sized-refusal time m
+  pub out-of-range : length m ≡ cpu-place n c → ranges time m ≡ false → 3 ≡ sized-refusal time m
   unfolding sized-refusal
   out-of-range e r = rw (fits e, r)
 
   pub blocks-in : ranges time m ≡ true → blocks-in-range c n m ≡ true
   blocks-in r = rw (hc, hn) (in-ranges time m r .blocks)
 
-  pub broken : length m ≡ 2 + 26 * n + 665 * c → ranges time m ≡ true → structure c n m ≡ false → 4 ≡ sized-refusal time m
+  pub broken : length m ≡ cpu-place n c → ranges time m ≡ true → structure c n m ≡ false → 4 ≡ sized-refusal time m
   unfolding sized-refusal
   broken e r t = rw (fits e, r, rw (hc, hn) at t)
 
-  pub not-refused : length m ≡ 2 + 26 * n + 665 * c → ranges time m ≡ true → structure c n m ≡ true → 0 ≡ sized-refusal time m
+  pub not-refused : length m ≡ cpu-place n c → ranges time m ≡ true → structure c n m ≡ true → 0 ≡ sized-refusal time m
   unfolding sized-refusal
   not-refused e r t = rw (fits e, r, rw (hc, hn) at t)
 
 pub record PassedSized (time : ℕ) (m : List ℕ) : Type 0 where
-  pub size : length m ≡ 2 + 26 * size-n m + 665 * size-c m
+  pub size : length m ≡ cpu-place (size-n m) (size-c m)
   pub words : InRanges time m
   pub structured : structure (size-c m) (size-n m) m ≡ true
 
 passed-sized : (time : ℕ) (m : List ℕ) → sized-refusal time m ≡ 0 → PassedSized time m
 unfolding sized-refusal
 passed-sized time m e =
-    let d = past (not (eqb (length m) (2 + 26 * size-n m + 665 * size-c m))) 2 _ (λ z. omega arith) e
+    let d = past (not (eqb (length m) (cpu-place (size-n m) (size-c m)))) 2 _ (λ z. omega arith) e
     in let f = past (not (ranges time m)) 3 _ (λ z. omega arith) (d .1)
     in let g = past (not (structure (size-c m) (size-n m) m)) 4 0 (λ z. omega arith) (f .1)
     in record {
-      size = eqb-true (length m) (2 + 26 * size-n m + 665 * size-c m) (not-false _ (d .0));
+      size = eqb-true (length m) (cpu-place (size-n m) (size-c m)) (not-false _ (d .0));
       words = in-ranges time m (not-false _ (f .0));
       structured = not-false _ (g .0);
     }
@@ -134,20 +136,20 @@ rising b s =
 
 module _ {time : ℕ} (m : List ℕ) (p : Passed time m) where
   abbrev record-at : ℕ → List ℕ
-  record-at x = part m (context-place x) 26
+  record-at x = part m (context-place x) record-size
 
   abbrev block-at : ℕ → List ℕ
-  block-at k = part m (cpu-place (size-n m) k) 665
+  block-at k = part m (cpu-place (size-n m) k) block-size
 
-  block-length : (k : ℕ) → k < size-c m → length (block-at k) ≡ 665
-  block-length k h = length-part m (cpu-place (size-n m) k) 665 (omega (arith, p .size))
+  block-length : (k : ℕ) → k < size-c m → length (block-at k) ≡ block-size
+  block-length k h = length-part m (cpu-place (size-n m) k) block-size (omega (arith, p .size))
 
   pub a-context : (x : ℕ) → x < size-n m → context-in-range (size-c m) (record-at x) ≡ true
-  unfolding contexts-in-range
+  unfolding contexts-in-range-to
   a-context x h = every-at (λ (x : ℕ). context-in-range (size-c m) (record-at x)) (size-n m) x (p .words .contexts) h
 
   pub a-block : (k : ℕ) → k < size-c m → BlockInRange (size-n m) (block-at k)
-  unfolding blocks-in-range
+  unfolding blocks-in-range-to
   a-block k h = in-range _ _ (every-at (λ (k : ℕ). block-in-range (size-n m) (block-at k)) (size-c m) k (p .words .blocks) h)
 
   pub block-structure-of : (k : ℕ) → k < size-c m → eqb (getD (block-at k) 0 0) 0 ≡ false → BlockStructure m (block-at k)

@@ -12,7 +12,9 @@ use Rattle.columns.specs.Blocks.{part, part-is}
 use Rattle.columns.proofs.Tests.{every-at, and-both}
 use Rattle.percpu.specs.Layout.{counter}
 use Rattle.machine.specs.Encode.{context-place, cpu-place}
-use Rattle.image.specs.Ranges.{within, block-most, array-least, array-most, used, unused, array-in-range, context-in-range, block-in-range}
+use Rattle.image.specs.Ranges.{within, block-most, array-least, array-most, used, unused, array-in-range, context-in-range, block-in-range, array-in-range-to, block-most-to}
+use Rattle.context.specs.Words.{record-size}
+use Rattle.percpu.specs.Places.{block-size}
 
 small : every (λ (j : ℕ). ltb (getD counter j 0) 25) 10 ≡ true
 unfolding every counter
@@ -26,7 +28,7 @@ unfolding within
 within-at table w k i e h = leb-true _ _ (every-at (λ (j : ℕ). leb (getD w j 0) (getD table j 0)) k i e h)
 
 tops : (n : ℕ) → every (λ (j : ℕ). eqb (getD (block-most n) (getD counter j 0) 0) 64) 10 ≡ true
-unfolding every counter block-most
+unfolding every counter block-most-to
 tops n = refl
 
 -- a count is at most 64
@@ -51,18 +53,18 @@ module _ (n : ℕ) (b : List ℕ) (j s k low high : ℕ) (hs : s ≡ getD counte
   count-is = hk ∙ ap (λ (i : ℕ). getD b i 0) hs
 
   pub array-used : {r : Bool} → r ≡ used lent k low high → r ≡ false → false ≡ array-in-range n b j
-  unfolding array-in-range
+  unfolding array-in-range-to
   array-used e f = rw (← count-is, ← hl, ← hh, ← lent-is, ← e, f)
 
   pub array-unused : {r t : Bool} → r ≡ used lent k low high → r ≡ true → t ≡ unused lent k → t ≡ array-in-range n b j
-  unfolding array-in-range
+  unfolding array-in-range-to
   array-unused e f g = rw (← count-is, ← hl, ← hh, ← lent-is, ← e, f, ← g)
 
 -- a record and a block, as the code lends them
-pub context-lent : (c : ℕ) (m : List ℕ) (x : ℕ) {r : Bool} → r ≡ context-in-range c (take (context-place x + 26 - context-place x) (drop (context-place x) m))
-    → r ≡ context-in-range c (part m (context-place x) 26)
-context-lent c m x e = e ∙ rw (part-is m (context-place x) (context-place x + 26) 26 refl)
+pub context-lent : (c : ℕ) (m : List ℕ) (x : ℕ) {at : ℕ} → at ≡ context-place x → {r : Bool} → r ≡ context-in-range c (take (at + record-size - at) (drop at m))
+    → r ≡ context-in-range c (part m (context-place x) record-size)
+context-lent c m x {at} p e = e ∙ rw (part-is m at (at + record-size) record-size refl, p)
 
-pub block-lent : (n : ℕ) (m : List ℕ) (k names : ℕ) {r : Bool} → names ≡ n
-    → r ≡ block-in-range names (take (cpu-place n k + 665 - cpu-place n k) (drop (cpu-place n k) m)) → r ≡ block-in-range n (part m (cpu-place n k) 665)
-block-lent n m k names q e = e ∙ rw (q, part-is m (cpu-place n k) (cpu-place n k + 665) 665 refl)
+pub block-lent : (n : ℕ) (m : List ℕ) (k names : ℕ) {at : ℕ} → at ≡ cpu-place n k → {r : Bool} → names ≡ n
+    → r ≡ block-in-range names (take (at + block-size - at) (drop at m)) → r ≡ block-in-range n (part m (cpu-place n k) block-size)
+block-lent n m k names {at} p q e = e ∙ rw (q, part-is m at (at + block-size) block-size refl, p)

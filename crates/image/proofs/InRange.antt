@@ -12,38 +12,39 @@ use Rattle.columns.specs.Common.{every, if_then_else_, tabulate}
 use Rattle.columns.specs.Blocks.{part}
 use Rattle.columns.proofs.Tests.{by-test, every-at, and-both}
 use Rattle.columns.proofs.Tabulate.{part-get, length-tabulate, getD-tabulate}
-use Rattle.context.specs.Words.{context-of}
-use Rattle.run_queue.specs.declared.Entry.{Entry}
-use Rattle.run_queue.specs.declared.Timer.{Timer}
-use Rattle.run_queue.specs.Order.{entry-before, sooner}
-use Rattle.run_queue.proofs.Orders.{before-trans, sooner-trans}
+use Rattle.context.specs.Words.{context-of, record-size}
+use Rattle.entries.specs.declared.Entry.{Entry}
+use Rattle.entries.specs.declared.Timer.{Timer}
+use Rattle.entries.specs.Order.{entry-before, sooner}
+use Rattle.entries.proofs.Orders.{before-trans, sooner-trans}
 use Rattle.percpu.specs.Words.{block-of}
 use Rattle.percpu.specs.Layout.{cpu-of, entry-at, timer-at, counter, no-entry, no-timer}
 use Rattle.percpu.proofs.Whole.{Whole}
 use Rattle.machine.specs.Shape.{ContextFits, EntryFits, CpuFits}
 use Rattle.machine.proofs.Encoded.{WholeContext}
-use Rattle.image.specs.Ranges.{within, zero-words, context-most, gone-most, context-in-range, block-most, array-least, array-most, used, unused, array-in-range, block-in-range}
+use Rattle.image.specs.Ranges.{within, zero-words, context-most, gone-most, context-in-range, block-most, array-least, array-most, used, unused, array-in-range, block-in-range, array-in-range-to, array-most-to, block-in-range-to, block-most-to, context-in-range-to, context-most-to}
 use Rattle.image.proofs.Checked.{within-at, counter-small}
 use Rattle.image.proofs.Risen.{sorted-tabulate}
+use Rattle.percpu.specs.Places.{entry-context-ref-column, local-wakeup-list-column, ipi-context-wakeup-list-column, block-size}
 
 -- a gone record's table is below a live one's
-below : (c : ℕ) → every (λ (i : ℕ). leb (getD gone-most i 0) (getD (context-most c) i 0)) 26 ≡ true
-unfolding every gone-most context-most
+below : (c : ℕ) → every (λ (i : ℕ). leb (getD gone-most i 0) (getD (context-most c) i 0)) record-size ≡ true
+unfolding every gone-most context-most-to
 below c = let t : leb 0 c ≡ true = le-leb 0 c (omega arith) in rw t
 
-pub context-at-most : (c : ℕ) (w : List ℕ) → context-in-range c w ≡ true → (i : ℕ) → i < 26 → getD w i 0 ≤ getD (context-most c) i 0
-unfolding context-in-range
+pub context-at-most : (c : ℕ) (w : List ℕ) → context-in-range c w ≡ true → (i : ℕ) → i < record-size → getD w i 0 ≤ getD (context-most c) i 0
+unfolding context-in-range-to
 context-at-most c w e i h =
     by-test (eqb (getD w 0 0) 1)
     (λ t.
-    let g : getD w i 0 ≤ getD gone-most i 0 = within-at gone-most w 26 i (rw t at e) h
+    let g : getD w i 0 ≤ getD gone-most i 0 = within-at gone-most w record-size i (rw t at e) h
     in let f : getD gone-most i 0 ≤ getD (context-most c) i 0
-    = leb-true _ _ (every-at (λ (i : ℕ). leb (getD gone-most i 0) (getD (context-most c) i 0)) 26 i (below c) h)
+    = leb-true _ _ (every-at (λ (i : ℕ). leb (getD gone-most i 0) (getD (context-most c) i 0)) record-size i (below c) h)
     in omega arith)
-    (λ t. within-at (context-most c) w 26 i (and-both (within (context-most c) w 26) _ (rw t at e) .0) h)
+    (λ t. within-at (context-most c) w record-size i (and-both (within (context-most c) w record-size) _ (rw t at e) .0) h)
 
 pub whole-context : (c : ℕ) (w : List ℕ) → context-in-range c w ≡ true → WholeContext w
-unfolding context-most
+unfolding context-most-to
 whole-context c w e =
     let at = context-at-most c w e
     in record {
@@ -60,7 +61,7 @@ whole-context c w e =
     }
 
 pub context-fits : (c : ℕ) (w : List ℕ) → context-in-range c w ≡ true → ContextFits c (context-of w)
-unfolding context-most context-of
+unfolding context-most-to context-of
 context-fits c w e =
     let at = context-at-most c w e
     in record { cpu-id = at 5 (omega arith); prio = at 16 (omega arith); rem-slice = at 19 (omega arith) }
@@ -74,13 +75,13 @@ pub record BlockInRange (n : ℕ) (b : List ℕ) : Type 0 where
   pub absent : getD b 0 0 ≡ 0 → (i : ℕ) → i < 25 → getD b i 0 ≡ 0
 
 tops : (n : ℕ) → every (λ (j : ℕ). eqb (getD (block-most n) (getD counter j 0) 0) 64) 10 ≡ true
-unfolding every counter block-most
+unfolding every counter block-most-to
 tops n = refl
 
-absent : (n : ℕ) (b : List ℕ) → zero-words b 665 ≡ true → BlockInRange n b
+absent : (n : ℕ) (b : List ℕ) → zero-words b block-size ≡ true → BlockInRange n b
 unfolding zero-words
 absent n b e =
-    let at : (i : ℕ) → i < 665 → getD b i 0 ≡ 0 = λ i h. eqb-true _ _ (every-at (λ (i : ℕ). eqb (getD b i 0) 0) 665 i e h)
+    let at : (i : ℕ) → i < block-size → getD b i 0 ≡ 0 = λ i h. eqb-true _ _ (every-at (λ (i : ℕ). eqb (getD b i 0) 0) block-size i e h)
     in let none : (j : ℕ) → j < 10 → getD b (getD counter j 0) 0 ≡ 0 = λ j h. at (getD counter j 0) (omega (arith, counter-small j h))
     in record {
       scalar = λ i h. omega (arith, at i (omega arith));
@@ -94,7 +95,7 @@ module _ (n : ℕ) (b : List ℕ) (e : within (block-most n) b 25 ≡ true) (a :
   array : (j : ℕ) → j < 10
       → (used (part b (25 + 64 * j) 64) (getD b (getD counter j 0) 0) (getD array-least j 0) (getD (array-most n) j 0) ≡ true)
       × (unused (part b (25 + 64 * j) 64) (getD b (getD counter j 0) 0) ≡ true)
-  unfolding array-in-range
+  unfolding array-in-range-to
   array j h = and-both _ _ (every-at (array-in-range n b) 10 j a h)
 
   few : (j : ℕ) → j < 10 → getD b (getD counter j 0) 0 ≤ 64
@@ -130,13 +131,13 @@ module _ (n : ℕ) (b : List ℕ) (e : within (block-most n) b 25 ≡ true) (a :
       }
 
 pub in-range : (n : ℕ) (b : List ℕ) → block-in-range n b ≡ true → BlockInRange n b
-unfolding block-in-range
+unfolding block-in-range-to
 in-range n b e =
     by-test (eqb (getD b 0 0) 0) (λ t. absent n b (rw t at e))
     (λ t. let p = and-both (within (block-most n) b 25) _ (rw t at e) in present n b (p .0) (p .1) (eqb-false (getD b 0 0) 0 t))
 
-pub whole-block : (n : ℕ) (b : List ℕ) → length b ≡ 665 → BlockInRange n b → Whole b
-unfolding block-most
+pub whole-block : (n : ℕ) (b : List ℕ) → length b ≡ block-size → BlockInRange n b → Whole b
+unfolding block-most-to
 whole-block n b l k =
     let at = k .scalar
     in record {
@@ -164,7 +165,7 @@ pub record Rising (b : List ℕ) : Type 0 where
   pub timers : (i : ℕ) → suc i < getD b 22 0 → sooner (timer-at b i) (timer-at b (suc i)) ≡ true
 
 pub cpu-fits : (n : ℕ) (b : List ℕ) → 1 ≤ n → BlockInRange n b → Rising b → CpuFits n (cpu-of b)
-unfolding cpu-of block-of block-most counter array-least array-most entry-at timer-at
+unfolding cpu-of block-of block-most-to counter array-least array-most-to entry-at timer-at
 cpu-fits n b p k r =
     let at = k .scalar
     in record {
@@ -173,13 +174,13 @@ cpu-fits n b p k r =
       idle = omega (arith, at 3 (omega arith));
       queue = rw (length-tabulate (getD b 21 0) (entry-at b)) (at 21 (omega arith));
       timers = rw (length-tabulate (getD b 22 0) (timer-at b)) (at 22 (omega arith));
-      local = rw (length-tabulate (getD b 23 0) (λ (i : ℕ). getD b (537 + i) 0)) (at 23 (omega arith));
-      ipi = rw (length-tabulate (getD b 24 0) (λ (i : ℕ). getD b (601 + i) 0)) (at 24 (omega arith));
+      local = rw (length-tabulate (getD b 23 0) (λ (i : ℕ). getD b (local-wakeup-list-column + i) 0)) (at 23 (omega arith));
+      ipi = rw (length-tabulate (getD b 24 0) (λ (i : ℕ). getD b (ipi-context-wakeup-list-column + i) 0)) (at 24 (omega arith));
       entry = λ i. found (EntryFits n) (getD b 21 0) i (entry-at b) no-entry
           (λ g. record { name = omega (arith, k .high 5 i (omega arith) g); light = k .high 4 i (omega arith) g; heavy = k .low 4 i (omega arith) g });
       timer = λ i. found (λ (t : Timer). t .«context_ref» < n) (getD b 22 0) i (timer-at b) no-timer (λ g. omega (arith, k .high 7 i (omega arith) g));
-      local-name = λ i. found (λ (x : ℕ). x < n) (getD b 23 0) i (λ (i : ℕ). getD b (537 + i) 0) 0 (λ g. omega (arith, k .high 8 i (omega arith) g));
-      ipi-name = λ i. found (λ (x : ℕ). x < n) (getD b 24 0) i (λ (i : ℕ). getD b (601 + i) 0) 0 (λ g. omega (arith, k .high 9 i (omega arith) g));
+      local-name = λ i. found (λ (x : ℕ). x < n) (getD b 23 0) i (λ (i : ℕ). getD b (local-wakeup-list-column + i) 0) 0 (λ g. omega (arith, k .high 8 i (omega arith) g));
+      ipi-name = λ i. found (λ (x : ℕ). x < n) (getD b 24 0) i (λ (i : ℕ). getD b (ipi-context-wakeup-list-column + i) 0) 0 (λ g. omega (arith, k .high 9 i (omega arith) g));
       keys-rise = sorted-tabulate entry-before (λ x y z. before-trans (x .key) (y .key) (z .key)) (getD b 21 0) (entry-at b) (r .keys);
       timers-rise = sorted-tabulate sooner sooner-trans (getD b 22 0) (timer-at b) (r .timers);
     }
@@ -187,25 +188,25 @@ cpu-fits n b p k r =
 -- names in a block are below n
 module _ (n : ℕ) (b : List ℕ) (p : 1 ≤ n) (e : block-in-range n b ≡ true) where
   pub current-name : getD b 1 0 < n
-  unfolding block-most
+  unfolding block-most-to
   current-name = omega (arith, in-range n b e .scalar 1 (omega arith))
 
   pub sched-name : getD b 2 0 < n
-  unfolding block-most
+  unfolding block-most-to
   sched-name = omega (arith, in-range n b e .scalar 2 (omega arith))
 
   pub idle-name : getD b 3 0 < n
-  unfolding block-most
+  unfolding block-most-to
   idle-name = omega (arith, in-range n b e .scalar 3 (omega arith))
 
   pub queue-count : getD b 21 0 ≤ 64
-  unfolding block-most
+  unfolding block-most-to
   queue-count = in-range n b e .scalar 21 (omega arith)
 
   pub timer-count : getD b 22 0 ≤ 64
-  unfolding block-most
+  unfolding block-most-to
   timer-count = in-range n b e .scalar 22 (omega arith)
 
-  pub entry-name : (i : ℕ) → i < getD b 21 0 → getD b (345 + i) 0 < n
-  unfolding counter array-most
+  pub entry-name : (i : ℕ) → i < getD b 21 0 → getD b (entry-context-ref-column + i) 0 < n
+  unfolding counter array-most-to
   entry-name i h = omega (arith, in-range n b e .high 5 i (omega arith) h)

@@ -5,7 +5,7 @@ use Prim.Native.Nat.{ℕ, zero, suc, _<_}
 use native.Mathlib.Omega.{arith}
 use mathlib.Core.List.{List, [], _∷_}
 use Rattle.columns.specs.Common.{All, tabulate}
-use Rattle.run_queue.specs.Sorted.{Sorted}
+use Rattle.entries.specs.Sorted.{Sorted}
 
 module _ {A : Type 0} (lt : A → A → Bool) (trans : (a b c : A) → lt a b ≡ true → lt b c ≡ true → lt a c ≡ true) where
   above : (n : ℕ) (f : ℕ → A) (x : A) → ((i : ℕ) → suc i < n → lt (f i) (f (suc i)) ≡ true) → (0 < n → lt x (f 0) ≡ true)

@@ -17,8 +17,9 @@ use Rattle.percpu.specs.Layout.{entry-at, timer-at}
 use Rattle.table.specs.Keys.{key-at}
 use Rattle.timers.proofs.Table.{same-order}
 use Rattle.image.specs.Rises.{rises}
-use Rattle.image.specs.Ranges.{block-in-range, blocks-in-range}
+use Rattle.image.specs.Ranges.{block-in-range, blocks-in-range, blocks-in-range-to}
 use Rattle.image.specs.Structure.{id-of, is-new, keys-rise, timers-rise, block-structure}
+use Rattle.percpu.specs.Places.{key-ctxt-id-column, timer-wake-column, timer-context-ref-column, block-size}
 
 -- neighbours in an order, as the code has them: a is item i and z the next
 pub neighbours : {A : Type 0} (t : A → A → Bool) (f : ℕ → A) (i : ℕ) (a z : A) {r v : Bool} → a ≡ f i → z ≡ f (i + 1) → r ≡ t a z → r ≡ v → t (f i) (f (i + 1)) ≡ v
@@ -50,26 +51,26 @@ seen-more m seen y id h p q l e x g =
     (λ u. let v : x ≡ y = omega (arith, ltb-false x y u) in absurd (eqb-false h (id-of m x % 64) t (q ∙ ap (λ (k : ℕ). k % 64) (p ∙ ap (id-of m) (sym v))))))
 
 -- the block of CPU k, as the code lends it; names is n as a word
-module _ (c n k names : ℕ) (m : List ℕ) (q : names ≡ n) where
+module _ (c n k names : ℕ) (m : List ℕ) {at : ℕ} (p : at ≡ cpu-place n k) (q : names ≡ n) where
   abbrev lent : List ℕ
-  lent = take (cpu-place n k + 665 - cpu-place n k) (drop (cpu-place n k) m)
+  lent = take (at + block-size - at) (drop at m)
 
-  lent-is : lent ≡ part m (cpu-place n k) 665
-  lent-is = part-is m (cpu-place n k) (cpu-place n k + 665) 665 refl
+  lent-is : lent ≡ part m (cpu-place n k) block-size
+  lent-is = part-is m at (at + block-size) block-size refl ∙ rw p
 
   pub lent-in-range : k < c → blocks-in-range c n m ≡ true → block-in-range names lent ≡ true
-  unfolding blocks-in-range
-  lent-in-range h e = rw (q, lent-is) (every-at (λ (k : ℕ). block-in-range n (part m (cpu-place n k) 665)) c k e h)
+  unfolding blocks-in-range-to
+  lent-in-range h e = rw (q, lent-is) (every-at (λ (k : ℕ). block-in-range n (part m (cpu-place n k) block-size)) c k e h)
 
-  pub lent-structure : {r : Bool} → r ≡ block-structure m lent → r ≡ block-structure m (part m (cpu-place n k) 665)
+  pub lent-structure : {r : Bool} → r ≡ block-structure m lent → r ≡ block-structure m (part m (cpu-place n k) block-size)
   lent-structure e = e ∙ rw (lent-is)
 
 -- keys and timers that rise, from the columns
-pub keys-are : (b : List ℕ) (k : ℕ) {r : Bool} → k ≡ getD b 21 0 → r ≡ rises b 25 89 153 k → r ≡ keys-rise b
+pub keys-are : (b : List ℕ) (k : ℕ) {r : Bool} → k ≡ getD b 21 0 → r ≡ rises b 25 89 key-ctxt-id-column k → r ≡ keys-rise b
 unfolding rises keys-rise key-at entry-at
 keys-are b k h e = e ∙ rw h
 
-pub timers-are : (b : List ℕ) (k : ℕ) {r : Bool} → k ≡ getD b 22 0 → r ≡ rises b 409 409 473 k → r ≡ timers-rise b
+pub timers-are : (b : List ℕ) (k : ℕ) {r : Bool} → k ≡ getD b 22 0 → r ≡ rises b timer-wake-column timer-wake-column timer-context-ref-column k → r ≡ timers-rise b
 unfolding rises timers-rise key-at timer-at
 timers-are b k h e =
     e ∙ rw h (ap (λ (f : ℕ → Bool). every f (getD b 22 0 - 1)) (λ j i. same-order (timer-at b i) (timer-at b (i + 1)) j))

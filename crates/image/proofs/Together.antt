@@ -10,9 +10,12 @@ use lib.Bits.{bitAnd, bitOr, or-add-and, and-le-l, and-le-r, or-lt}
 use borrow.Author.Tests.{leb-true, leb-false, le-leb, lt-leb}
 use Rattle.columns.specs.Common.{every, fold, All}
 use Rattle.columns.proofs.Tests.{by-test, and-both, every-at, clash}
-use Rattle.image.specs.Ranges.{most, most-id, free, full-slice, within, context-most}
+use Rattle.image.specs.Ranges.{within, context-most, context-most-to}
 use Rattle.image.specs.Singles.{single-words}
 use Rattle.image.proofs.Checked.{within-at}
+use Rattle.context.specs.Words.{record-size}
+use Rattle.weights.specs.Weights.{full-slice}
+use Rattle.numbers.specs.Limits.{max-id, max-number, max-word}
 
 or-least : (a b : ℕ) → (a ≤ bitOr a b) × (b ≤ bitOr a b)
 or-least a b = (omega (arith, or-add-and a b, and-le-r a b), omega (arith, or-add-and a b, and-le-l a b))
@@ -36,22 +39,22 @@ module _ (c : ℕ) (w : List ℕ) where
   numbers = fold bitOr (getD w 6 0) (getD w 7 0 ∷ getD w 8 0 ∷ getD w 9 0 ∷ getD w 13 0 ∷ getD w 17 0 ∷ getD w 18 0 ∷ getD w 22 0 ∷ [])
 
   -- all words are in their ranges: so are those taken together
-  taken : within (context-most c) w 26 ≡ true → (leb marks 1 && (leb numbers most && single-words c w)) ≡ true
-  unfolding context-most single-words
+  taken : within (context-most c) w record-size ≡ true → (leb marks 1 && (leb numbers max-number && single-words c w)) ≡ true
+  unfolding context-most-to single-words
   taken e =
-      let at : (i : ℕ) → i < 26 → getD w i 0 ≤ getD (context-most c) i 0 = λ i h. within-at (context-most c) w 26 i e h
+      let at : (i : ℕ) → i < record-size → getD w i 0 ≤ getD (context-most c) i 0 = λ i h. within-at (context-most c) w record-size i e h
       in let m : marks < 2 ^ 1 = together-below 1 (getD w 0 0) (getD w 3 0 ∷ getD w 4 0 ∷ getD w 11 0 ∷ getD w 12 0 ∷ getD w 14 0 ∷ getD w 15 0 ∷ getD w 20 0 ∷ getD w 21 0 ∷ []) (omega (arith, at 0 (omega arith))) (omega (arith, at 3 (omega arith)), (omega (arith, at 4 (omega arith)), (omega (arith, at 11 (omega arith)), (omega (arith, at 12 (omega arith)), (omega (arith, at 14 (omega arith)), (omega (arith, at 15 (omega arith)), (omega (arith, at 20 (omega arith)), (omega (arith, at 21 (omega arith)), tt))))))))
       in let q : numbers < 2 ^ 62 = together-below 62 (getD w 6 0) (getD w 7 0 ∷ getD w 8 0 ∷ getD w 9 0 ∷ getD w 13 0 ∷ getD w 17 0 ∷ getD w 18 0 ∷ getD w 22 0 ∷ []) (omega (arith, at 6 (omega arith))) (omega (arith, at 7 (omega arith)), (omega (arith, at 8 (omega arith)), (omega (arith, at 9 (omega arith)), (omega (arith, at 13 (omega arith)), (omega (arith, at 17 (omega arith)), (omega (arith, at 18 (omega arith)), (omega (arith, at 22 (omega arith)), tt)))))))
-      in rw (le-leb marks 1 (omega arith), le-leb numbers most (omega arith), le-leb (getD w 1 0) most-id (at 1 (omega arith)), le-leb (getD w 2 0) 5 (at 2 (omega arith)), le-leb (getD w 5 0) c (at 5 (omega arith)), le-leb (getD w 10 0) free (at 10 (omega arith)), le-leb (getD w 16 0) 39 (at 16 (omega arith)), le-leb (getD w 19 0) full-slice (at 19 (omega arith)), le-leb (getD w 23 0) full-slice (at 23 (omega arith)), le-leb (getD w 24 0) 2 (at 24 (omega arith)), le-leb (getD w 25 0) 2 (at 25 (omega arith)))
+      in rw (le-leb marks 1 (omega arith), le-leb numbers max-number (omega arith), le-leb (getD w 1 0) max-id (at 1 (omega arith)), le-leb (getD w 2 0) 5 (at 2 (omega arith)), le-leb (getD w 5 0) c (at 5 (omega arith)), le-leb (getD w 10 0) max-word (at 10 (omega arith)), le-leb (getD w 16 0) 39 (at 16 (omega arith)), le-leb (getD w 19 0) full-slice (at 19 (omega arith)), le-leb (getD w 23 0) full-slice (at 23 (omega arith)), le-leb (getD w 24 0) 2 (at 24 (omega arith)), le-leb (getD w 25 0) 2 (at 25 (omega arith)))
 
   -- those taken together are in their ranges: so are all words
-  given : (leb marks 1 && (leb numbers most && single-words c w)) ≡ true → within (context-most c) w 26 ≡ true
-  unfolding within every context-most single-words
+  given : (leb marks 1 && (leb numbers max-number && single-words c w)) ≡ true → within (context-most c) w record-size ≡ true
+  unfolding within every context-most-to single-words
   given e =
       let (a, r) = and-both (leb marks 1) _ e
-      in let (b, s) = and-both (leb numbers most) _ r
+      in let (b, s) = and-both (leb numbers max-number) _ r
       in let h : marks ≤ 1 = leb-true marks 1 a
-      in let g : numbers ≤ most = leb-true numbers most b
+      in let g : numbers ≤ max-number = leb-true numbers max-number b
       in let (m₀, m) = together-least (getD w 0 0) (getD w 3 0 ∷ getD w 4 0 ∷ getD w 11 0 ∷ getD w 12 0 ∷ getD w 14 0 ∷ getD w 15 0 ∷ getD w 20 0 ∷ getD w 21 0 ∷ [])
       in let (q₀, q) = together-least (getD w 6 0) (getD w 7 0 ∷ getD w 8 0 ∷ getD w 9 0 ∷ getD w 13 0 ∷ getD w 17 0 ∷ getD w 18 0 ∷ getD w 22 0 ∷ [])
       in let (t25, s25) = and-both _ (leb (getD w 25 0) 2) s
@@ -59,22 +62,22 @@ module _ (c : ℕ) (w : List ℕ) where
       in let (t23, s23) = and-both _ (leb (getD w 23 0) full-slice) t24
       in let (t19, s19) = and-both _ (leb (getD w 19 0) full-slice) t23
       in let (t16, s16) = and-both _ (leb (getD w 16 0) 39) t19
-      in let (t10, s10) = and-both _ (leb (getD w 10 0) free) t16
+      in let (t10, s10) = and-both _ (leb (getD w 10 0) max-word) t16
       in let (t5, s5) = and-both _ (leb (getD w 5 0) c) t10
-      in let (t2, s2) = and-both (leb (getD w 1 0) most-id) (leb (getD w 2 0) 5) t5
-      in rw (le-leb (getD w 0 0) 1 (omega (arith, m₀)), t2, s2, le-leb (getD w 3 0) 1 (omega (arith, m .0)), le-leb (getD w 4 0) 1 (omega (arith, m .1 .0)), s5, le-leb (getD w 6 0) most (omega (arith, q₀)), le-leb (getD w 7 0) most (omega (arith, q .0)), le-leb (getD w 8 0) most (omega (arith, q .1 .0)), le-leb (getD w 9 0) most (omega (arith, q .1 .1 .0)), s10, le-leb (getD w 11 0) 1 (omega (arith, m .1 .1 .0)), le-leb (getD w 12 0) 1 (omega (arith, m .1 .1 .1 .0)), le-leb (getD w 13 0) most (omega (arith, q .1 .1 .1 .0)), le-leb (getD w 14 0) 1 (omega (arith, m .1 .1 .1 .1 .0)), le-leb (getD w 15 0) 1 (omega (arith, m .1 .1 .1 .1 .1 .0)), s16, le-leb (getD w 17 0) most (omega (arith, q .1 .1 .1 .1 .0)), le-leb (getD w 18 0) most (omega (arith, q .1 .1 .1 .1 .1 .0)), s19, le-leb (getD w 20 0) 1 (omega (arith, m .1 .1 .1 .1 .1 .1 .0)), le-leb (getD w 21 0) 1 (omega (arith, m .1 .1 .1 .1 .1 .1 .1 .0)), le-leb (getD w 22 0) most (omega (arith, q .1 .1 .1 .1 .1 .1 .0)), s23, s24, s25)
+      in let (t2, s2) = and-both (leb (getD w 1 0) max-id) (leb (getD w 2 0) 5) t5
+      in rw (le-leb (getD w 0 0) 1 (omega (arith, m₀)), t2, s2, le-leb (getD w 3 0) 1 (omega (arith, m .0)), le-leb (getD w 4 0) 1 (omega (arith, m .1 .0)), s5, le-leb (getD w 6 0) max-number (omega (arith, q₀)), le-leb (getD w 7 0) max-number (omega (arith, q .0)), le-leb (getD w 8 0) max-number (omega (arith, q .1 .0)), le-leb (getD w 9 0) max-number (omega (arith, q .1 .1 .0)), s10, le-leb (getD w 11 0) 1 (omega (arith, m .1 .1 .0)), le-leb (getD w 12 0) 1 (omega (arith, m .1 .1 .1 .0)), le-leb (getD w 13 0) max-number (omega (arith, q .1 .1 .1 .0)), le-leb (getD w 14 0) 1 (omega (arith, m .1 .1 .1 .1 .0)), le-leb (getD w 15 0) 1 (omega (arith, m .1 .1 .1 .1 .1 .0)), s16, le-leb (getD w 17 0) max-number (omega (arith, q .1 .1 .1 .1 .0)), le-leb (getD w 18 0) max-number (omega (arith, q .1 .1 .1 .1 .1 .0)), s19, le-leb (getD w 20 0) 1 (omega (arith, m .1 .1 .1 .1 .1 .1 .0)), le-leb (getD w 21 0) 1 (omega (arith, m .1 .1 .1 .1 .1 .1 .1 .0)), le-leb (getD w 22 0) max-number (omega (arith, q .1 .1 .1 .1 .1 .1 .0)), s23, s24, s25)
 
-  pub within-is : within (context-most c) w 26 ≡ (leb marks 1 && (leb numbers most && single-words c w))
+  pub within-is : within (context-most c) w record-size ≡ (leb marks 1 && (leb numbers max-number && single-words c w))
   within-is =
-      by-test (within (context-most c) w 26) (λ e. e ∙ sym (taken e))
-      (λ e. by-test (leb marks 1 && (leb numbers most && single-words c w)) (λ f. clash (given f) e) (λ f. e ∙ sym f))
+      by-test (within (context-most c) w record-size) (λ e. e ∙ sym (taken e))
+      (λ e. by-test (leb marks 1 && (leb numbers max-number && single-words c w)) (λ f. clash (given f) e) (λ f. e ∙ sym f))
 
   -- as the code goes through them
-  pub marks-out : 1 < marks → false ≡ within (context-most c) w 26
+  pub marks-out : 1 < marks → false ≡ within (context-most c) w record-size
   marks-out h = rw (within-is, lt-leb marks 1 h)
 
-  pub numbers-out : marks ≤ 1 → most < numbers → false ≡ within (context-most c) w 26
-  numbers-out h g = rw (within-is, le-leb marks 1 h, lt-leb numbers most g)
+  pub numbers-out : marks ≤ 1 → max-number < numbers → false ≡ within (context-most c) w record-size
+  numbers-out h g = rw (within-is, le-leb marks 1 h, lt-leb numbers max-number g)
 
-  pub all-in : {r : Bool} → marks ≤ 1 → numbers ≤ most → r ≡ single-words c w → r ≡ within (context-most c) w 26
-  all-in h g e = rw (within-is, le-leb marks 1 h, le-leb numbers most g) e
+  pub all-in : {r : Bool} → marks ≤ 1 → numbers ≤ max-number → r ≡ single-words c w → r ≡ within (context-most c) w record-size
+  all-in h g e = rw (within-is, le-leb marks 1 h, le-leb numbers max-number g) e

@@ -5,8 +5,10 @@ use mathlib.Core.List.{List}
 use lib.Dec.{ltb, leb, eqb}
 use lib.ListN.{length, getD}
 use Rattle.columns.specs.Common.{if_then_else_}
-use Rattle.image.specs.Ranges.{most, contexts-in-range, blocks-in-range}
+use Rattle.image.specs.Ranges.{contexts-in-range-to, blocks-in-range-to}
 use Rattle.image.specs.Structure.{structure}
+use Rattle.machine.specs.Encode.{cpu-place}
+use Rattle.numbers.specs.Limits.{max-number}
 
 -- C and N: the CPU and context counts
 abbrev pub size-c : List ℕ → ℕ
@@ -18,14 +20,17 @@ size-n m = getD m 1 0
 unfoldable pub in-bounds : ℕ → ℕ → Bool
 in-bounds size greatest = ltb 0 size && leb size greatest
 
+-- every word is in its range, where `top` is the greatest of those that a call can raise
+unfoldable pub ranges-to : ℕ → List ℕ → Bool
+ranges-to top m = contexts-in-range-to top (size-c m) (size-n m) m && blocks-in-range-to top (size-c m) (size-n m) m
+
 unfoldable pub ranges : ℕ → List ℕ → Bool
-ranges time m =
-    leb time most && (contexts-in-range (size-c m) (size-n m) m && blocks-in-range (size-c m) (size-n m) m)
+ranges time m = leb time max-number && ranges-to max-number m
 
 -- of an image whose sizes are in their bounds
 unfoldable pub sized-refusal : ℕ → List ℕ → ℕ
 sized-refusal time m =
-    if not (eqb (length m) (2 + 26 * size-n m + 665 * size-c m)) then 2 else
+    if not (eqb (length m) (cpu-place (size-n m) (size-c m))) then 2 else
     if not (ranges time m) then 3 else
     if not (structure (size-c m) (size-n m) m) then 4 else 0
 

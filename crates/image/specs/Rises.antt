@@ -3,7 +3,7 @@ use mathlib.Core.Bool.{Bool}
 use mathlib.Core.List.{List}
 use Prim.Native.Nat.{ℕ, _+_, _-_}
 use Rattle.columns.specs.Common.{every}
-use Rattle.run_queue.specs.Order.{before}
+use Rattle.entries.specs.Order.{before}
 use Rattle.table.specs.Keys.{key-at}
 
 unfoldable pub rises : List ℕ → (s t u k : ℕ) → Bool

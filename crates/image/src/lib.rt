@@ -8,6 +8,7 @@ ghost use mathlib.Core.Bool.{Bool, true, false};
 ghost use Prim.Native.Nat.{ℕ, _+_, _*_, _<_, _≤_};
 ghost use lib.ListN.{length, getD};
 ghost use Rattle.image.specs.Refusal.{in-bounds, ranges, sized-refusal, image-refusal};
+ghost use Rattle.machine.specs.Encode.{cpu-place};
 
 fn in_bounds(size: u64, greatest: u64) -> bool
     ensures { λ r. ⌜ r ≡ in-bounds size greatest ⌝ }
@@ -20,15 +21,15 @@ fn in_bounds(size: u64, greatest: u64) -> bool
 
 // The ranges of an image that has the length its sizes give.
 fn in_ranges(m: &[u64], time: u64) -> bool
-    requires { ⌜ length (now m) ≡ 2 + 26 * getD (now m) 1 0 + 665 * getD (now m) 0 0 ⌝ }
+    requires { ⌜ length (now m) ≡ cpu-place (getD (now m) 1 0) (getD (now m) 0 0) ⌝ }
     requires { ⌜ (getD (now m) 0 0 ≤ 4) × (1 ≤ getD (now m) 1 0) × (getD (now m) 1 0 ≤ 64) ⌝ }
     ensures { λ r. ⌜ r ≡ ranges time (now (m .entry)) ⌝ }
 {
-    if ranges::MOST < time {
+    if numbers::MAX_NUMBER < time {
         return false;
     }
-    let c = machine::index(m[0]);
-    let n = machine::index(m[1]);
+    let c = numbers::index(m[0]);
+    let n = numbers::index(m[1]);
     if !records::contexts_in_range(m, m[0], n) {
         return false;
     }
@@ -40,9 +41,9 @@ fn sized_refusal(m: &[u64], time: u64) -> u64
     requires { ⌜ (2 ≤ length (now m)) × (getD (now m) 0 0 ≤ 4) × (1 ≤ getD (now m) 1 0) × (getD (now m) 1 0 ≤ 64) ⌝ }
     ensures { λ r. ⌜ r ≡ sized-refusal time (now (m .entry)) ⌝ }
 {
-    let c = machine::index(m[0]);
-    let n = machine::index(m[1]);
-    if m.len() != 2 + 26 * n + 665 * c {
+    let c = numbers::index(m[0]);
+    let n = numbers::index(m[1]);
+    if m.len() != machine::cpu_place(n, c) {
         return 2;
     }
     if !in_ranges(m, time) {

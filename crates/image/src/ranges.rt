@@ -1,4 +1,11 @@
 // Every word of the CPUs' blocks in its range.
+use numbers::MAX_ID;
+use numbers::MAX_NUMBER;
+use numbers::MAX_WORD;
+use percpu::places;
+use weights::FULL_SLICE;
+use weights::MAX_WEIGHT;
+use weights::MIN_WEIGHT;
 ghost use mathlib.Core.Path.{_≡_};
 ghost use mathlib.Core.Bool.{Bool, true, false};
 ghost use Prim.Native.Nat.{ℕ, _+_, _-_, _*_, _<_, _≤_};
@@ -6,19 +13,23 @@ ghost use lib.ListN.{length, getD};
 ghost use Rattle.columns.specs.Common.{every};
 ghost use Rattle.percpu.specs.Layout.{counter};
 ghost use Rattle.image.specs.Ranges.{within, zero-words, block-most, array-least, array-most, used, unused, array-in-range, block-in-range, blocks-in-range};
+ghost use Rattle.percpu.specs.Places.{block-size, front-size};
+ghost use Rattle.machine.specs.Encode.{cpu-place};
 
-// 2^62 - 1: the greatest of a number that has no range of its own.
-pub const MOST: u64 = 4611686018427387903;
+const COUNTER: [usize; 10] = [
+    places::QUEUE_COUNT,
+    places::QUEUE_COUNT,
+    places::QUEUE_COUNT,
+    places::QUEUE_COUNT,
+    places::QUEUE_COUNT,
+    places::QUEUE_COUNT,
+    places::TIMERS_COUNT,
+    places::TIMERS_COUNT,
+    places::LOCAL_COUNT,
+    places::IPI_COUNT,
+];
 
-pub const MOST_ID: u64 = 4294967295;
-
-pub const FREE: u64 = 18446744073709551615;
-
-pub const FULL_SLICE: u64 = 9663676416;
-
-const COUNTER: [usize; 10] = [21, 21, 21, 21, 21, 21, 22, 22, 23, 24];
-
-const ARRAY_LEAST: [u64; 10] = [0, 0, 0, 0, 15, 0, 0, 0, 0, 0];
+const ARRAY_LEAST: [u64; 10] = [0, 0, 0, 0, MIN_WEIGHT, 0, 0, 0, 0, 0];
 
 pub fn within(table: &[u64], w: &[u64], k: usize) -> bool
     requires { ⌜ (k ≤ length (now table)) × (k ≤ length (now w)) ⌝ }
@@ -81,7 +92,7 @@ fn unused(a: &[u64], k: usize) -> bool
 
 fn counter_of(j: usize) -> usize
     requires { ⌜ j < 10 ⌝ }
-    ensures { λ r. ⌜ (r ≡ getD counter j 0) × (r < 25) ⌝ }
+    ensures { λ r. ⌜ (r ≡ getD counter j 0) × (r < front-size) ⌝ }
 {
     COUNTER[j]
 }
@@ -94,14 +105,14 @@ fn array_least(j: usize) -> u64
 }
 
 fn array_in_range(b: &[u64], n: u64, j: usize, high: u64) -> bool
-    requires { ⌜ length (now b) ≡ 665 ⌝ }
-    requires { ⌜ within (block-most n) (now b) 25 ≡ true ⌝ }
+    requires { ⌜ length (now b) ≡ block-size ⌝ }
+    requires { ⌜ within (block-most n) (now b) front-size ≡ true ⌝ }
     requires { ⌜ (j < 10) × (high ≡ getD (array-most n) j 0) ⌝ }
     ensures { λ r. ⌜ r ≡ array-in-range n (now (b .entry)) j ⌝ }
 {
     let s = counter_of(j);
-    let k = machine::index(b[s]);
-    let at = 25 + 64 * j;
+    let k = numbers::index(b[s]);
+    let at = places::FRONT_SIZE + 64 * j;
     let end = at + 64;
     let low = array_least(j);
     if !used(&b[at..end], k, low, high) {
@@ -111,20 +122,20 @@ fn array_in_range(b: &[u64], n: u64, j: usize, high: u64) -> bool
 }
 
 fn arrays_in_range(b: &[u64], n: u64) -> bool
-    requires { ⌜ length (now b) ≡ 665 ⌝ }
-    requires { ⌜ within (block-most n) (now b) 25 ≡ true ⌝ }
+    requires { ⌜ length (now b) ≡ block-size ⌝ }
+    requires { ⌜ within (block-most n) (now b) front-size ≡ true ⌝ }
     requires { ⌜ 1 ≤ n ⌝ }
     ensures { λ r. ⌜ r ≡ every (array-in-range n (now (b .entry))) 10 ⌝ }
 {
     let last = n - 1;
     let high = [
-        MOST,
+        MAX_NUMBER,
         FULL_SLICE,
-        MOST_ID,
-        MOST,
-        88761,
+        MAX_ID,
+        MAX_NUMBER,
+        MAX_WEIGHT,
         last,
-        MOST,
+        MAX_NUMBER,
         last,
         last,
         last,
@@ -140,56 +151,56 @@ fn arrays_in_range(b: &[u64], n: u64) -> bool
 }
 
 pub fn block_in_range(b: &[u64], n: u64) -> bool
-    requires { ⌜ length (now b) ≡ 665 ⌝ }
+    requires { ⌜ length (now b) ≡ block-size ⌝ }
     requires { ⌜ 1 ≤ n ⌝ }
     ensures { λ r. ⌜ r ≡ block-in-range n (now (b .entry)) ⌝ }
 {
     if b[0] == 0 {
-        return zero_words(b, 665);
+        return zero_words(b, places::BLOCK_SIZE);
     }
     let last = n - 1;
-    let scalars = [
+    let front = [
         1,
         last,
         last,
         last,
-        MOST,
-        MOST,
+        MAX_NUMBER,
+        MAX_NUMBER,
         1,
         1,
         1,
-        MOST,
-        MOST,
-        FREE,
+        MAX_NUMBER,
+        MAX_NUMBER,
+        MAX_WORD,
         2,
-        MOST,
-        MOST,
-        MOST,
-        MOST,
-        MOST,
+        MAX_NUMBER,
+        MAX_NUMBER,
+        MAX_NUMBER,
+        MAX_NUMBER,
+        MAX_NUMBER,
         1,
-        MOST,
-        MOST,
+        MAX_NUMBER,
+        MAX_NUMBER,
         64,
         64,
         64,
         64,
     ];
-    if !within(&scalars, b, 25) {
+    if !within(&front, b, places::FRONT_SIZE) {
         return false;
     }
     arrays_in_range(b, n)
 }
 
 pub fn blocks_in_range(m: &[u64], c: usize, n: usize) -> bool
-    requires { ⌜ (length (now m) ≡ 2 + 26 * n + 665 * c) × (1 ≤ n) × (n ≤ 64) × (c ≤ 4) ⌝ }
+    requires { ⌜ (length (now m) ≡ cpu-place n c) × (1 ≤ n) × (n ≤ 64) × (c ≤ 4) ⌝ }
     ensures { λ r. ⌜ r ≡ blocks-in-range c n (now (m .entry)) ⌝ }
 {
-    let names = machine::word(n);
+    let names = numbers::word(n);
     let mut k = 0;
     while k < c {
-        let at = 2 + 26 * n + 665 * k;
-        let end = at + 665;
+        let at = machine::cpu_place(n, k);
+        let end = at + places::BLOCK_SIZE;
         if !block_in_range(&m[at..end], names) {
             return false;
         }

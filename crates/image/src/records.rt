@@ -1,19 +1,22 @@
 // Every word of the contexts' records in its range.
 use crate::ranges;
-use crate::ranges::FREE;
-use crate::ranges::FULL_SLICE;
-use crate::ranges::MOST;
-use crate::ranges::MOST_ID;
+use context::places::RECORD_SIZE;
+use numbers::MAX_ID;
+use numbers::MAX_NUMBER;
+use numbers::MAX_WORD;
+use weights::FULL_SLICE;
 ghost use mathlib.Core.Path.{_≡_};
 ghost use mathlib.Core.Bool.{Bool, true, false};
 ghost use Prim.Native.Nat.{ℕ, _+_, _-_, _*_, _<_, _≤_};
 ghost use lib.ListN.{length};
 ghost use Rattle.image.specs.Singles.{single-words};
 ghost use Rattle.image.specs.Ranges.{within, context-most, wake-marked, key-marked, context-in-range, contexts-in-range};
+ghost use Rattle.context.specs.Words.{record-size};
+ghost use Rattle.machine.specs.Encode.{context-place};
 
-const GONE_MOST: [u64; 26] = [
+const GONE_MOST: [u64; RECORD_SIZE] = [
     1,
-    MOST_ID,
+    MAX_ID,
     0,
     0,
     0,
@@ -41,7 +44,7 @@ const GONE_MOST: [u64; 26] = [
 ];
 
 fn wake_marked(w: &[u64]) -> bool
-    requires { ⌜ length (now w) ≡ 26 ⌝ }
+    requires { ⌜ length (now w) ≡ record-size ⌝ }
     ensures { λ r. ⌜ r ≡ wake-marked (now (w .entry)) ⌝ }
 {
     if w[12] == 1 {
@@ -51,7 +54,7 @@ fn wake_marked(w: &[u64]) -> bool
 }
 
 fn key_marked(w: &[u64]) -> bool
-    requires { ⌜ length (now w) ≡ 26 ⌝ }
+    requires { ⌜ length (now w) ≡ record-size ⌝ }
     ensures { λ r. ⌜ r ≡ key-marked (now (w .entry)) ⌝ }
 {
     if w[21] == 1 {
@@ -65,10 +68,10 @@ fn key_marked(w: &[u64]) -> bool
 
 // Words with a bound of their own.
 fn single_words(w: &[u64], c: u64) -> bool
-    requires { ⌜ length (now w) ≡ 26 ⌝ }
+    requires { ⌜ length (now w) ≡ record-size ⌝ }
     ensures { λ r. ⌜ r ≡ single-words c (now (w .entry)) ⌝ }
 {
-    if MOST_ID < w[1] {
+    if MAX_ID < w[1] {
         return false;
     }
     if 5 < w[2] {
@@ -77,7 +80,7 @@ fn single_words(w: &[u64], c: u64) -> bool
     if c < w[5] {
         return false;
     }
-    if FREE < w[10] {
+    if MAX_WORD < w[10] {
         return false;
     }
     if 39 < w[16] {
@@ -97,27 +100,27 @@ fn single_words(w: &[u64], c: u64) -> bool
 
 // Words that share a bound of all ones are taken together: none is above it if all of them together are not.
 fn live_in_range(w: &[u64], c: u64) -> bool
-    requires { ⌜ length (now w) ≡ 26 ⌝ }
-    ensures { λ r. ⌜ r ≡ within (context-most c) (now (w .entry)) 26 ⌝ }
+    requires { ⌜ length (now w) ≡ record-size ⌝ }
+    ensures { λ r. ⌜ r ≡ within (context-most c) (now (w .entry)) record-size ⌝ }
 {
     let marks = w[0] | w[3] | w[4] | w[11] | w[12] | w[14] | w[15] | w[20] | w[21];
     if 1 < marks {
         return false;
     }
     let numbers = w[6] | w[7] | w[8] | w[9] | w[13] | w[17] | w[18] | w[22];
-    if MOST < numbers {
+    if MAX_NUMBER < numbers {
         return false;
     }
     single_words(w, c)
 }
 
 fn context_in_range(w: &[u64], c: u64) -> bool
-    requires { ⌜ length (now w) ≡ 26 ⌝ }
+    requires { ⌜ length (now w) ≡ record-size ⌝ }
     ensures { λ r. ⌜ r ≡ context-in-range c (now (w .entry)) ⌝ }
 {
     if w[0] == 1 {
         let gone = GONE_MOST;
-        return ranges::within(&gone, w, 26);
+        return ranges::within(&gone, w, RECORD_SIZE);
     }
     if !live_in_range(w, c) {
         return false;
@@ -129,13 +132,13 @@ fn context_in_range(w: &[u64], c: u64) -> bool
 }
 
 pub fn contexts_in_range(m: &[u64], c: u64, n: usize) -> bool
-    requires { ⌜ (2 + 26 * n ≤ length (now m)) × (n ≤ 64) ⌝ }
+    requires { ⌜ (context-place n ≤ length (now m)) × (n ≤ 64) ⌝ }
     ensures { λ r. ⌜ r ≡ contexts-in-range c n (now (m .entry)) ⌝ }
 {
     let mut x = 0;
     while x < n {
-        let at = 2 + 26 * x;
-        let end = at + 26;
+        let at = machine::context_place(x);
+        let end = at + RECORD_SIZE;
         if !context_in_range(&m[at..end], c) {
             return false;
         }

@@ -9,10 +9,11 @@ use Rattle.columns.specs.Common.{tabulate}
 use Rattle.columns.specs.Blocks.{cat, part, length-part}
 use Rattle.columns.proofs.Tabulate.{tabulate-is, length-tabulate, mark-word, cat-front, cat-tabulate}
 use Rattle.context.specs.Status.{status-forth}
-use Rattle.context.specs.Words.{context-words, context-of, length-context-words}
+use Rattle.context.specs.Words.{context-words, context-of, length-context-words, record-size}
 use Rattle.percpu.specs.Layout.{cpu-words, cpu-of, length-cpu-words}
 use Rattle.percpu.proofs.Whole.{Whole, cpu-words-of}
 use Rattle.machine.specs.Encode.{encode, decode, context-place, cpu-place}
+use Rattle.percpu.specs.Places.{block-size}
 
 -- a record whose marks are 0 or 1, and whose status is one
 pub record WholeContext (w : List ℕ) : Type 0 where
@@ -27,7 +28,7 @@ pub record WholeContext (w : List ℕ) : Type 0 where
   pub is-active : getD w 20 0 ≤ 1
   pub has-queue-key : getD w 21 0 ≤ 1
 
-pub context-words-of : (w : List ℕ) → length w ≡ 26 → WholeContext w → context-words (context-of w) ≡ w
+pub context-words-of : (w : List ℕ) → length w ≡ record-size → WholeContext w → context-words (context-of w) ≡ w
 unfolding context-words context-of tabulate
 context-words-of w h k =
     let t : tabulate (length w) (λ (i : ℕ). getD w i 0) ≡ w = tabulate-is 0 w (λ (i : ℕ). getD w i 0) (λ i b. refl)
@@ -46,9 +47,9 @@ context-words-of w h k =
     (rw h at t)
 
 pub record WholeImage (m : List ℕ) : Type 0 where
-  pub size : length m ≡ 2 + 26 * getD m 1 0 + 665 * getD m 0 0
-  pub context : (x : ℕ) → x < getD m 1 0 → WholeContext (part m (context-place x) 26)
-  pub cpu : (k : ℕ) → k < getD m 0 0 → Whole (part m (cpu-place (getD m 1 0) k) 665)
+  pub size : length m ≡ 2 + record-size * getD m 1 0 + block-size * getD m 0 0
+  pub context : (x : ℕ) → x < getD m 1 0 → WholeContext (part m (context-place x) record-size)
+  pub cpu : (k : ℕ) → k < getD m 0 0 → Whole (part m (cpu-place (getD m 1 0) k) block-size)
 
 part-drop : (r : List ℕ) (a o k : ℕ) → part r (a + o) k ≡ part (drop a r) o k
 unfolding part
@@ -63,12 +64,12 @@ unfolding encode decode
 encode-decode [] v = absurd (omega (arith, v .size))
 encode-decode (x ∷ []) v = absurd (omega (arith, v .size))
 encode-decode (x ∷ y ∷ r) v =
-    let c : cat cpu-words 665 length-cpu-words (tabulate x (λ (k : ℕ). cpu-of (part (x ∷ y ∷ r) (cpu-place y k) 665))) ≡ drop (26 * y) r
-    = cat-tabulate cpu-words 665 length-cpu-words x (λ (k : ℕ). cpu-of (part (x ∷ y ∷ r) (cpu-place y k) 665)) (drop (26 * y) r)
+    let c : cat cpu-words block-size length-cpu-words (tabulate x (λ (k : ℕ). cpu-of (part (x ∷ y ∷ r) (cpu-place y k) block-size))) ≡ drop (record-size * y) r
+    = cat-tabulate cpu-words block-size length-cpu-words x (λ (k : ℕ). cpu-of (part (x ∷ y ∷ r) (cpu-place y k) block-size)) (drop (record-size * y) r)
     (rw (length-drop) (omega (arith, v .size)))
-    (λ k h. cpu-words-of _ (v .cpu k h) ∙ skip-two x y r (2 + 26 * y + 665 * k) (26 * y + 665 * k) 665 (omega arith) ∙ part-drop r (26 * y) (665 * k) 665)
-    in let a : cat context-words 26 length-context-words (tabulate y (λ (i : ℕ). context-of (part (x ∷ y ∷ r) (context-place i) 26))) ++ drop (26 * y) r ≡ r
-    = cat-front context-words 26 length-context-words y (λ (i : ℕ). context-of (part (x ∷ y ∷ r) (context-place i) 26)) r
-    (λ i h. context-words-of (part (x ∷ y ∷ r) (2 + 26 * i) 26) (length-part (x ∷ y ∷ r) (2 + 26 * i) 26 (omega (arith, v .size))) (v .context i h)
-    ∙ skip-two x y r (2 + 26 * i) (26 * i) 26 (omega arith))
+    (λ k h. cpu-words-of _ (v .cpu k h) ∙ skip-two x y r (cpu-place y k) (record-size * y + block-size * k) block-size (omega arith) ∙ part-drop r (record-size * y) (block-size * k) block-size)
+    in let a : cat context-words record-size length-context-words (tabulate y (λ (i : ℕ). context-of (part (x ∷ y ∷ r) (context-place i) record-size))) ++ drop (record-size * y) r ≡ r
+    = cat-front context-words record-size length-context-words y (λ (i : ℕ). context-of (part (x ∷ y ∷ r) (context-place i) record-size)) r
+    (λ i h. context-words-of (part (x ∷ y ∷ r) (2 + record-size * i) record-size) (length-part (x ∷ y ∷ r) (2 + record-size * i) record-size (omega (arith, v .size))) (v .context i h)
+    ∙ skip-two x y r (2 + record-size * i) (record-size * i) record-size (omega arith))
     in rw (length-tabulate x, length-tabulate y, c, a)

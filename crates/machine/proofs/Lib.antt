@@ -3,3 +3,4 @@ pub mod Steps
 pub mod Decoded
 pub mod Encoded
 pub mod LookUps
+pub mod Looked

@@ -13,7 +13,7 @@ use Rattle.columns.specs.Blocks.{part}
 use Rattle.columns.proofs.Tabulate.{part-get}
 use Rattle.columns.proofs.Tests.{by-test}
 use Rattle.cpu_stats.specs.Words.{stats-words}
-use Rattle.context.specs.Words.{context-words}
+use Rattle.context.specs.Words.{context-words, record-size}
 use Rattle.percpu.specs.Words.{block-words}
 use Rattle.percpu.specs.Layout.{cpu-words, counts}
 use Rattle.machine.specs.declared.Lookup.{Lookup}
@@ -25,6 +25,7 @@ use Rattle.machine.specs.Encode.{encode, context-place, cpu-place}
 use Rattle.machine.specs.Shape.{Fits, Image}
 use Rattle.machine.specs.LookUp.{look-up, get-percpu-block}
 use Rattle.machine.proofs.Places.{context-part, block-is}
+use Rattle.percpu.specs.Places.{block-size}
 
 pub mark-true : (b : Bool) → mark b ≡ 1 → b ≡ true
 mark-true true e = refl
@@ -36,14 +37,14 @@ mark-false false n = refl
 
 module _ {c n : ℕ} (m : List ℕ) (x : ℕ) (M : Machine) (e : m ≡ encode M) (o : Fits c n M) where
   -- a word of a record, and of a block
-  pub context-word : (j : ℕ) → x < n → j < 26 → getD m (context-place x + j) 0 ≡ getD (context-words (context-at (M .contexts) x)) j 0
+  pub context-word : (j : ℕ) → x < n → j < record-size → getD m (context-place x + j) 0 ≡ getD (context-words (context-at (M .contexts) x)) j 0
   context-word j h g =
-      sym (part-get m (context-place x) 26 j g)
-      ∙ ap (λ (l : List ℕ). getD (part l (context-place x) 26) j 0) e
+      sym (part-get m (context-place x) record-size j g)
+      ∙ ap (λ (l : List ℕ). getD (part l (context-place x) record-size) j 0) e
       ∙ ap (λ (l : List ℕ). getD l j 0) (context-part M x no-context (rw (o .contexts) h))
 
-  pub block-word : (j : ℕ) → x < c → j < 665 → getD m (cpu-place n x + j) 0 ≡ getD (cpu-words (cpu-at M x)) j 0
-  block-word j h g = sym (part-get m (cpu-place n x) 665 j g) ∙ ap (λ (l : List ℕ). getD l j 0) (block-is m x h M e o)
+  pub block-word : (j : ℕ) → x < c → j < block-size → getD m (cpu-place n x + j) 0 ≡ getD (cpu-words (cpu-at M x)) j 0
+  block-word j h g = sym (part-get m (cpu-place n x) block-size j g) ∙ ap (λ (l : List ℕ). getD l j 0) (block-is m x h M e o)
 
   pub gone-word : x < n → getD m (context-place x) 0 ≡ mark ((context-at (M .contexts) x) .gone)
   unfolding context-words
@@ -62,14 +63,15 @@ module _ {c n : ℕ} (m : List ℕ) (x : ℕ) (M : Machine) (e : m ≡ encode M)
     near : i < n → leb (length (M .contexts)) x ≡ false
     near h = lt-leb (length (M .contexts)) x (omega (arith, o .contexts))
 
-    pub look-gone : i < n → getD m (context-place i) 0 ≡ 1 → Gone ≡ look-up M x
+    -- at: where the record of i stands
+    pub look-gone : {at : ℕ} → at ≡ context-place i → i < n → getD m at 0 ≡ 1 → Gone ≡ look-up M x
     unfolding look-up
-    look-gone h t = rw (near h, mark-true ((context-at (M .contexts) x) .gone) (sym (gone-word (rw q at h)) ∙ rw q at t))
+    look-gone p h t = rw (near h, mark-true ((context-at (M .contexts) x) .gone) (sym (gone-word (rw q at h)) ∙ rw (p, q) at t))
 
-    pub look-live : i < n → (getD m (context-place i) 0 ≡ 1 → ⊥) → Live i ≡ look-up M x
+    pub look-live : {at : ℕ} → at ≡ context-place i → i < n → (getD m at 0 ≡ 1 → ⊥) → Live i ≡ look-up M x
     unfolding look-up
-    look-live h t =
-        rw (near h, mark-false ((context-at (M .contexts) x) .gone) (λ z. t (ap (λ (j : ℕ). getD m (context-place j) 0) q ∙ gone-word (rw q at h) ∙ z)))
+    look-live p h t =
+        rw (near h, mark-false ((context-at (M .contexts) x) .gone) (λ z. t (ap (λ (j : ℕ). getD m j 0) (p ∙ ap context-place q) ∙ gone-word (rw q at h) ∙ z)))
         (ap Live q)
 
     pub cpu-far : c ≤ i → Absent ≡ get-percpu-block M x
@@ -79,14 +81,15 @@ module _ {c n : ℕ} (m : List ℕ) (x : ℕ) (M : Machine) (e : m ≡ encode M)
     close : i < c → leb (length (M .cpus)) x ≡ false
     close h = lt-leb (length (M .cpus)) x (omega (arith, o .cpus))
 
-    pub cpu-present : i < c → getD m (cpu-place n i) 0 ≡ 1 → Present i ≡ get-percpu-block M x
+    -- at: where the block of i stands
+    pub cpu-present : {at : ℕ} → at ≡ cpu-place n i → i < c → getD m at 0 ≡ 1 → Present i ≡ get-percpu-block M x
     unfolding get-percpu-block
-    cpu-present h t = rw (close h, mark-true (cpu-at M x .block .present) (sym (present-word (rw q at h)) ∙ rw q at t)) (ap Present q)
+    cpu-present p h t = rw (close h, mark-true (cpu-at M x .block .present) (sym (present-word (rw q at h)) ∙ rw (p, q) at t)) (ap Present q)
 
-    pub cpu-absent : i < c → (getD m (cpu-place n i) 0 ≡ 1 → ⊥) → Absent ≡ get-percpu-block M x
+    pub cpu-absent : {at : ℕ} → at ≡ cpu-place n i → i < c → (getD m at 0 ≡ 1 → ⊥) → Absent ≡ get-percpu-block M x
     unfolding get-percpu-block
-    cpu-absent h t =
-        rw (close h, mark-false (cpu-at M x .block .present) (λ z. t (ap (λ (j : ℕ). getD m (cpu-place n j) 0) q ∙ present-word (rw q at h) ∙ z)))
+    cpu-absent p h t =
+        rw (close h, mark-false (cpu-at M x .block .present) (λ z. t (ap (λ (j : ℕ). getD m j 0) (p ∙ ap (cpu-place n) q) ∙ present-word (rw q at h) ∙ z)))
 
 -- what an answer of `look_up` or `get_percpu_block` says of the machine
 pub record IsLive (M : Machine) (x i : ℕ) : Type 0 where

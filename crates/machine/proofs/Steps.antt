@@ -6,7 +6,7 @@ use lib.ListN.{length, getD, set, length-set}
 use Rattle.context.specs.declared.Context.{Context}
 use Rattle.percpu.specs.Cpu.{Cpu}
 use Rattle.machine.specs.Machine.{Machine, context-at, cpu-at, set-context, set-cpu, no-context, no-cpu}
-use Rattle.machine.specs.Encode.{encode}
+use Rattle.machine.specs.Encode.{encode, cpu-place}
 use Rattle.machine.specs.Shape.{ContextFits, CpuFits, Fits, Image, Step}
 use Rattle.machine.proofs.Places.{length-encode}
 
@@ -14,7 +14,7 @@ use Rattle.machine.proofs.Places.{length-encode}
 pub record Size (c n : ℕ) (m : List ℕ) : Type 0 where
   pub cpus : c ≤ 4
   pub contexts : n ≤ 64
-  pub size : length m ≡ 2 + 26 * n + 665 * c
+  pub size : length m ≡ cpu-place n c
 
 pub sized : {c n : ℕ} {m : List ℕ} → Image c n m → Size c n m
 sized {c} {n} {m} i =

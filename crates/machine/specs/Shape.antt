@@ -4,14 +4,15 @@ use Prim.Native.Nat.{ℕ, _<_, _≤_}
 use mathlib.Core.List.{List}
 use lib.ListN.{length, getD}
 use Rattle.context.specs.declared.Context.{Context}
-use Rattle.run_queue.specs.declared.Entry.{Entry}
-use Rattle.run_queue.specs.declared.Timer.{Timer}
-use Rattle.run_queue.specs.Order.{entry-before, sooner}
-use Rattle.run_queue.specs.Sorted.{Sorted}
+use Rattle.entries.specs.declared.Entry.{Entry}
+use Rattle.entries.specs.declared.Timer.{Timer}
+use Rattle.entries.specs.Order.{entry-before, sooner}
+use Rattle.entries.specs.Sorted.{Sorted}
 use Rattle.percpu.specs.Cpu.{Cpu}
 use Rattle.percpu.specs.Layout.{no-entry, no-timer}
 use Rattle.machine.specs.Machine.{Machine, context-at, cpu-at}
 use Rattle.machine.specs.Encode.{encode}
+use Rattle.weights.specs.Weights.{full-slice, min-weight, max-weight}
 
 -- The ranges that no accepted call leaves: names, weights, priorities and slices; and the order of keys and timers. What grows (times, vtime, vd, V) is not here.
 
@@ -19,13 +20,13 @@ use Rattle.machine.specs.Encode.{encode}
 pub record ContextFits (c : ℕ) (x : Context) : Type 0 where
   pub cpu-id : x .«cpu_id» ≤ c
   pub prio : x .prio ≤ 39
-  pub rem-slice : x .«rem_slice» ≤ 9663676416
+  pub rem-slice : x .«rem_slice» ≤ full-slice
 
 -- of an entry, where there are n contexts
 pub record EntryFits (n : ℕ) (e : Entry) : Type 0 where
   pub name : e .«context_ref» < n
-  pub light : e .weight ≤ 88761
-  pub heavy : 15 ≤ e .weight
+  pub light : e .weight ≤ max-weight
+  pub heavy : min-weight ≤ e .weight
 
 -- of a CPU
 pub record CpuFits (n : ℕ) (p : Cpu) : Type 0 where

@@ -1,11 +1,13 @@
 // The machine image: where a context's record and a CPU's block stand, and looking them up.
 // In every function m is the image of a machine of c CPUs and n contexts.
 use context::Context;
+use context::places::RECORD_SIZE;
+use percpu::places::BLOCK_SIZE;
 ghost use mathlib.Core.Path.{_≡_};
 ghost use Prim.Native.Nat.{ℕ, _+_, _*_, _<_, _≤_};
 ghost use lib.ListN.{length, getD};
 ghost use Rattle.machine.specs.Machine.{Machine, context-at, set-context};
-ghost use Rattle.machine.specs.Encode.{encode};
+ghost use Rattle.machine.specs.Encode.{encode, context-place, cpu-place};
 ghost use Rattle.machine.specs.Shape.{Image, Fits, ContextFits, Went};
 ghost use Rattle.machine.specs.LookUp.{look-up, get-percpu-block};
 
@@ -21,16 +23,23 @@ pub enum CpuLookup {
     Absent,
 }
 
-pub fn index(x: u64) -> usize
-    ensures { λ r. ⌜ r ≡ x ⌝ }
+// the words of the longest image: 64 contexts and 4 CPUs
+pub const MAX_IMAGE_SIZE: usize = 2 + RECORD_SIZE * 64 + BLOCK_SIZE * 4;
+
+// where the record of context x begins
+pub fn context_place(x: usize) -> usize
+    requires { ⌜ x ≤ 64 ⌝ }
+    ensures { λ r. ⌜ r ≡ context-place x ⌝ }
 {
-    x as usize
+    2 + RECORD_SIZE * x
 }
 
-pub fn word(x: usize) -> u64
-    ensures { λ r. ⌜ r ≡ x ⌝ }
+// where the block of CPU k begins, of n contexts; that of the CPU behind the last is the image's length
+pub fn cpu_place(n: usize, k: usize) -> usize
+    requires { ⌜ (n ≤ 64) × (k ≤ 4) ⌝ }
+    ensures { λ r. ⌜ r ≡ cpu-place n k ⌝ }
 {
-    x as u64
+    context_place(n) + BLOCK_SIZE * k
 }
 
 pub fn load(m: &[u64], c: usize, n: usize, x: usize) -> Context
@@ -38,8 +47,8 @@ pub fn load(m: &[u64], c: usize, n: usize, x: usize) -> Context
     requires { ⌜ x < n ⌝ }
     ensures { λ r. ⌜ ((M : Machine) → now (m .entry) ≡ encode M → Fits c n M → r ≡ context-at (M .contexts) x) ⌝ }
 {
-    let at = 2 + 26 * x;
-    let end = at + 26;
+    let at = context_place(x);
+    let end = at + RECORD_SIZE;
     context::load_context(&m[at..end])
 }
 
@@ -49,8 +58,8 @@ pub fn store(m: &mut [u64], c: usize, n: usize, x: usize, q: Context)
     requires { ⌜ ContextFits c q ⌝ }
     ensures { λ r. ⌜ Went c n (now (m .entry)) (now (m .exit)) (λ (M : Machine). set-context x q M) ⌝ }
 {
-    let at = 2 + 26 * x;
-    let end = at + 26;
+    let at = context_place(x);
+    let end = at + RECORD_SIZE;
     context::store_context(&mut m[at..end], q);
 }
 
@@ -59,11 +68,11 @@ pub fn look_up(m: &[u64], c: usize, n: usize, x: u64) -> Lookup
     requires { ⌜ Image c n (now m) ⌝ }
     ensures { λ r. ⌜ ((M : Machine) → now (m .entry) ≡ encode M → Fits c n M → r ≡ look-up M x) ⌝ }
 {
-    let i = index(x);
+    let i = numbers::index(x);
     if n <= i {
         return Lookup::Gone;
     }
-    let at = 2 + 26 * i;
+    let at = context_place(i);
     if m[at] == 1 {
         return Lookup::Gone;
     }
@@ -75,11 +84,11 @@ pub fn get_percpu_block(m: &[u64], c: usize, n: usize, k: u64) -> CpuLookup
     requires { ⌜ Image c n (now m) ⌝ }
     ensures { λ r. ⌜ ((M : Machine) → now (m .entry) ≡ encode M → Fits c n M → r ≡ get-percpu-block M k) ⌝ }
 {
-    let i = index(k);
+    let i = numbers::index(k);
     if c <= i {
         return CpuLookup::Absent;
     }
-    let at = 2 + 26 * n + 665 * i;
+    let at = cpu_place(n, i);
     if m[at] == 1 {
         return CpuLookup::Present(i);
     }

@@ -8,11 +8,12 @@ use Rattle.columns.specs.Common.{tabulate}
 use Rattle.columns.specs.Blocks.{flat, part, col-get}
 use Rattle.columns.proofs.Tabulate.{tabulate-is, getD-map}
 use Rattle.cpu_stats.specs.Words.{stats-words, stats-of, stats-of-words}
-use Rattle.run_queue.specs.declared.Entry.{Entry}
-use Rattle.run_queue.specs.declared.Timer.{Timer}
+use Rattle.entries.specs.declared.Entry.{Entry}
+use Rattle.entries.specs.declared.Timer.{Timer}
 use Rattle.percpu.specs.Cpu.{Cpu}
 use Rattle.percpu.specs.Words.{block-words, block-of, block-of-words}
 use Rattle.percpu.specs.Layout.{cpu-words, cpu-of, entry-at, timer-at, no-entry, no-timer, counts, columns, front-length}
+use Rattle.percpu.specs.Places.{local-wakeup-list-column, ipi-context-wakeup-list-column}
 
 -- lists that fit into their arrays
 pub record Short (c : Cpu) : Type 0 where
@@ -56,12 +57,12 @@ module _ (c : Cpu) where
       }
 
   pub local-is : (i : ℕ) → i < length (c .«local_wakeup_list») → length (c .«local_wakeup_list») ≤ 64
-      → getD (cpu-words c) (537 + i) 0 ≡ getD (c .«local_wakeup_list») i 0
+      → getD (cpu-words c) (local-wakeup-list-column + i) 0 ≡ getD (c .«local_wakeup_list») i 0
   unfolding cpu-words columns
   local-is i h g = col-get front (columns c) 25 8 (front-length c) (omega arith) i h g
 
   pub ipi-is : (i : ℕ) → i < length (c .«ipi_context_wakeup_list») → length (c .«ipi_context_wakeup_list») ≤ 64
-      → getD (cpu-words c) (601 + i) 0 ≡ getD (c .«ipi_context_wakeup_list») i 0
+      → getD (cpu-words c) (ipi-context-wakeup-list-column + i) 0 ≡ getD (c .«ipi_context_wakeup_list») i 0
   unfolding cpu-words columns
   ipi-is i h g = col-get front (columns c) 25 9 (front-length c) (omega arith) i h g
 
@@ -78,14 +79,14 @@ module _ (c : Cpu) where
   timers-is g = tabulate-is no-timer (c .timers) (timer-at (cpu-words c)) (λ i h. timer-is i h g)
 
   locals-is : length (c .«local_wakeup_list») ≤ 64
-      → tabulate (getD (cpu-words c) 23 0) (λ (i : ℕ). getD (cpu-words c) (537 + i) 0) ≡ c .«local_wakeup_list»
+      → tabulate (getD (cpu-words c) 23 0) (λ (i : ℕ). getD (cpu-words c) (local-wakeup-list-column + i) 0) ≡ c .«local_wakeup_list»
   unfolding cpu-words block-words stats-words counts
-  locals-is g = tabulate-is 0 (c .«local_wakeup_list») (λ (i : ℕ). getD (cpu-words c) (537 + i) 0) (λ i h. local-is i h g)
+  locals-is g = tabulate-is 0 (c .«local_wakeup_list») (λ (i : ℕ). getD (cpu-words c) (local-wakeup-list-column + i) 0) (λ i h. local-is i h g)
 
   ipis-is : length (c .«ipi_context_wakeup_list») ≤ 64
-      → tabulate (getD (cpu-words c) 24 0) (λ (i : ℕ). getD (cpu-words c) (601 + i) 0) ≡ c .«ipi_context_wakeup_list»
+      → tabulate (getD (cpu-words c) 24 0) (λ (i : ℕ). getD (cpu-words c) (ipi-context-wakeup-list-column + i) 0) ≡ c .«ipi_context_wakeup_list»
   unfolding cpu-words block-words stats-words counts
-  ipis-is g = tabulate-is 0 (c .«ipi_context_wakeup_list») (λ (i : ℕ). getD (cpu-words c) (601 + i) 0) (λ i h. ipi-is i h g)
+  ipis-is g = tabulate-is 0 (c .«ipi_context_wakeup_list») (λ (i : ℕ). getD (cpu-words c) (ipi-context-wakeup-list-column + i) 0) (λ i h. ipi-is i h g)
 
   pub cpu-of-words : Short c → cpu-of (cpu-words c) ≡ c
   unfolding cpu-of

@@ -12,14 +12,15 @@ use Rattle.columns.specs.Blocks.{flat, part}
 use Rattle.columns.proofs.Tabulate.{tabulate-is, length-tabulate, map-tabulate, mark-word, part-get, cat-tabulate, column-is}
 use Rattle.cpu_stats.specs.State.{state-number, state-of, state-forth}
 use Rattle.cpu_stats.specs.Words.{stats-words, stats-of}
-use Rattle.run_queue.specs.declared.Entry.{Entry}
-use Rattle.run_queue.specs.declared.Timer.{Timer}
+use Rattle.entries.specs.declared.Entry.{Entry}
+use Rattle.entries.specs.declared.Timer.{Timer}
 use Rattle.percpu.specs.Cpu.{Cpu}
 use Rattle.percpu.specs.Words.{block-words, block-of}
 use Rattle.percpu.specs.Layout.{cpu-words, cpu-of, entry-at, timer-at, counts, columns, counter}
+use Rattle.percpu.specs.Places.{local-wakeup-list-column, ipi-context-wakeup-list-column, block-size}
 
 pub record Whole (b : List ℕ) : Type 0 where
-  pub size : length b ≡ 665
+  pub size : length b ≡ block-size
   pub queue : getD b 21 0 ≤ 64
   pub timers : getD b 22 0 ≤ 64
   pub local : getD b 23 0 ≤ 64
@@ -43,9 +44,9 @@ module _ (b : List ℕ) (w : Whole b) where
       ap (pad 64) (map-tabulate f (getD b 21 0) (entry-at b) ∙ ap (tabulate (getD b 21 0)) (λ t i. k i t))
       ∙ column j (getD b 21 0) h (w .queue) (rw e)
 
-  timer-column : (f : Timer → ℕ) (j : ℕ) → j < 10 → getD counter j 0 ≡ 22 → ((i : ℕ) → f (timer-at b i) ≡ getD b (25 + 64 * j + i) 0)
+  timer-context-ref-column : (f : Timer → ℕ) (j : ℕ) → j < 10 → getD counter j 0 ≡ 22 → ((i : ℕ) → f (timer-at b i) ≡ getD b (25 + 64 * j + i) 0)
       → pad 64 (map f (tabulate (getD b 22 0) (timer-at b))) ≡ part b (25 + 64 * j) 64
-  timer-column f j h e k =
+  timer-context-ref-column f j h e k =
       ap (pad 64) (map-tabulate f (getD b 22 0) (timer-at b) ∙ ap (tabulate (getD b 22 0)) (λ t i. k i t))
       ∙ column j (getD b 22 0) h (w .timers) (rw e)
 
@@ -57,8 +58,8 @@ module _ (b : List ℕ) (w : Whole b) where
   each (suc (suc (suc zero))) h = queue-column (λ (e : Entry). e .vtime) 3 h refl (λ i. refl)
   each (suc (suc (suc (suc zero)))) h = queue-column (λ (e : Entry). e .weight) 4 h refl (λ i. refl)
   each (suc (suc (suc (suc (suc zero))))) h = queue-column (λ (e : Entry). e .«context_ref») 5 h refl (λ i. refl)
-  each (suc (suc (suc (suc (suc (suc zero)))))) h = timer-column (λ (t : Timer). t .wake) 6 h refl (λ i. refl)
-  each (suc (suc (suc (suc (suc (suc (suc zero))))))) h = timer-column (λ (t : Timer). t .«context_ref») 7 h refl (λ i. refl)
+  each (suc (suc (suc (suc (suc (suc zero)))))) h = timer-context-ref-column (λ (t : Timer). t .wake) 6 h refl (λ i. refl)
+  each (suc (suc (suc (suc (suc (suc (suc zero))))))) h = timer-context-ref-column (λ (t : Timer). t .«context_ref») 7 h refl (λ i. refl)
   each (suc (suc (suc (suc (suc (suc (suc (suc zero)))))))) h = column 8 (getD b 23 0) (omega arith) (w .local) refl
   each (suc (suc (suc (suc (suc (suc (suc (suc (suc zero))))))))) h = column 9 (getD b 24 0) (omega arith) (w .ipi) refl
   each (suc (suc (suc (suc (suc (suc (suc (suc (suc (suc j)))))))))) h = absurd (omega arith)
@@ -84,8 +85,8 @@ module _ (b : List ℕ) (w : Whole b) where
         state-forth (getD b 12 0) (w .state),
         length-tabulate (getD b 21 0) (entry-at b),
         length-tabulate (getD b 22 0) (timer-at b),
-        length-tabulate (getD b 23 0) (λ (i : ℕ). getD b (537 + i) 0),
-        length-tabulate (getD b 24 0) (λ (i : ℕ). getD b (601 + i) 0),
+        length-tabulate (getD b 23 0) (λ (i : ℕ). getD b (local-wakeup-list-column + i) 0),
+        length-tabulate (getD b 24 0) (λ (i : ℕ). getD b (ipi-context-wakeup-list-column + i) 0),
       )
       (rw l at t)
 

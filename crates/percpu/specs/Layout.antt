@@ -1,14 +1,15 @@
--- The 665 words of a CPU's block: 21 scalars, four counts, and ten arrays of 64. Assumes nothing.
+-- The words of a CPU's block: its scalars, four counts, and ten columns of 64. Assumes nothing.
 use mathlib.Core.Path.{_≡_, refl, sym, ap, _∙_}
 use Prim.Native.Nat.{ℕ, _+_, _*_}
 use mathlib.Core.List.{List, [], _∷_, _++_, map}
 use lib.ListN.{length, getD, length-append}
 use Rattle.columns.specs.Common.{tabulate}
 use Rattle.columns.specs.Blocks.{flat, length-flat}
-use Rattle.run_queue.specs.declared.Entry.{Entry}
-use Rattle.run_queue.specs.declared.Timer.{Timer}
+use Rattle.entries.specs.declared.Entry.{Entry}
+use Rattle.entries.specs.declared.Timer.{Timer}
 use Rattle.percpu.specs.Cpu.{Cpu}
 use Rattle.percpu.specs.Words.{block-words, block-of, length-block-words}
+use Rattle.percpu.specs.Places.{queue-count, timers-count, local-count, ipi-count, front-size, key-vd-column, key-rem-slice-column, key-ctxt-id-column, entry-vtime-column, entry-weight-column, entry-context-ref-column, timer-wake-column, timer-context-ref-column, local-wakeup-list-column, ipi-context-wakeup-list-column, block-size}
 
 unfoldable pub counts : Cpu → List ℕ
 counts c =
@@ -36,14 +37,14 @@ cpu-words c = (block-words (c .block) ++ counts c) ++ flat (columns c)
 unfoldable pub entry-at : List ℕ → ℕ → Entry
 entry-at b i =
     record {
-      key = record { vd = getD b (25 + i) 0; «rem_slice» = getD b (89 + i) 0; «ctxt_id» = getD b (153 + i) 0 };
-      vtime = getD b (217 + i) 0;
-      weight = getD b (281 + i) 0;
-      «context_ref» = getD b (345 + i) 0;
+      key = record { vd = getD b (key-vd-column + i) 0; «rem_slice» = getD b (key-rem-slice-column + i) 0; «ctxt_id» = getD b (key-ctxt-id-column + i) 0 };
+      vtime = getD b (entry-vtime-column + i) 0;
+      weight = getD b (entry-weight-column + i) 0;
+      «context_ref» = getD b (entry-context-ref-column + i) 0;
     }
 
 unfoldable pub timer-at : List ℕ → ℕ → Timer
-timer-at b i = record { wake = getD b (409 + i) 0; «context_ref» = getD b (473 + i) 0 }
+timer-at b i = record { wake = getD b (timer-wake-column + i) 0; «context_ref» = getD b (timer-context-ref-column + i) 0 }
 
 -- what a list gives past its end
 unfoldable pub no-entry : Entry
@@ -56,20 +57,21 @@ unfoldable pub cpu-of : List ℕ → Cpu
 cpu-of b =
     record {
       block = block-of b;
-      queue = tabulate (getD b 21 0) (entry-at b);
-      timers = tabulate (getD b 22 0) (timer-at b);
-      «local_wakeup_list» = tabulate (getD b 23 0) (λ (i : ℕ). getD b (537 + i) 0);
-      «ipi_context_wakeup_list» = tabulate (getD b 24 0) (λ (i : ℕ). getD b (601 + i) 0);
+      queue = tabulate (getD b queue-count 0) (entry-at b);
+      timers = tabulate (getD b timers-count 0) (timer-at b);
+      «local_wakeup_list» = tabulate (getD b local-count 0) (λ (i : ℕ). getD b (local-wakeup-list-column + i) 0);
+      «ipi_context_wakeup_list» = tabulate (getD b ipi-count 0) (λ (i : ℕ). getD b (ipi-context-wakeup-list-column + i) 0);
     }
 
-pub front-length : (c : Cpu) → length (block-words (c .block) ++ counts c) ≡ 25
+pub front-length : (c : Cpu) → length (block-words (c .block) ++ counts c) ≡ front-size
 unfolding counts
 front-length c = rw (length-append, length-block-words)
 
-pub length-cpu-words : (c : Cpu) → length (cpu-words c) ≡ 665
+pub length-cpu-words : (c : Cpu) → length (cpu-words c) ≡ block-size
 unfolding cpu-words columns
 length-cpu-words c = rw (length-append, front-length, length-flat)
 
 -- which word of the block counts array j
 unfoldable pub counter : List ℕ
-counter = 21 ∷ 21 ∷ 21 ∷ 21 ∷ 21 ∷ 21 ∷ 22 ∷ 22 ∷ 23 ∷ 24 ∷ []
+counter =
+    queue-count ∷ queue-count ∷ queue-count ∷ queue-count ∷ queue-count ∷ queue-count ∷ timers-count ∷ timers-count ∷ local-count ∷ ipi-count ∷ []

@@ -8,8 +8,8 @@ use lib.ListN.{length, getD}
 use Rattle.percpu.specs.declared.PercpuBlock.{PercpuBlock}
 use Rattle.percpu.specs.Cpu.{Cpu}
 use Rattle.cpu_stats.specs.declared.CpuStats.{CpuStats}
-use Rattle.run_queue.specs.declared.Entry.{Entry}
-use Rattle.run_queue.specs.declared.Timer.{Timer}
+use Rattle.entries.specs.declared.Entry.{Entry}
+use Rattle.entries.specs.declared.Timer.{Timer}
 
 abbrev pub block-present : Bool → PercpuBlock → PercpuBlock
 block-present x c =

@@ -7,6 +7,7 @@ use lib.Dec.{eqb}
 use lib.ListN.{length, getD}
 use Rattle.percpu.specs.declared.PercpuBlock.{PercpuBlock}
 use Rattle.columns.specs.Common.{mark, mark-back}
+use Rattle.percpu.specs.Places.{scalars-size}
 use Rattle.columns.specs.Blocks.{part}
 use Rattle.cpu_stats.specs.declared.CpuStats.{CpuStats}
 use Rattle.cpu_stats.specs.Words.{stats-words, stats-of, stats-of-words}
@@ -60,6 +61,6 @@ block-of-words c = λ j.
       «total_weight» = c .«total_weight»;
     }
 
-pub length-block-words : (c : PercpuBlock) → length (block-words c) ≡ 21
+pub length-block-words : (c : PercpuBlock) → length (block-words c) ≡ scalars-size
 unfolding block-words stats-words
 length-block-words c = refl

@@ -1,10 +1,14 @@
 // A CPU's block without its arrays (percpu.rs and `ContextSwitchPercpu` of context/switch.rs).
+pub mod places;
+
 use cpu_stats::CpuStats;
 ghost use mathlib.Core.Path.{_≡_};
 ghost use Prim.Native.Nat.{ℕ, _<_, _≤_};
 ghost use lib.ListN.{length};
-ghost use Rattle.cpu_stats.specs.Words.{stats-of};
+ghost use Rattle.cpu_stats.specs.Words.{stats-of, stats-size};
 ghost use Rattle.percpu.specs.Words.{block-words, block-of};
+ghost use Rattle.percpu.specs.Places.{scalars-size};
+ghost use Rattle.percpu.specs.With.{block-stats};
 
 pub struct PercpuBlock {
     pub present: bool,
@@ -27,8 +31,34 @@ pub struct PercpuBlock {
     pub total_weight: u64,
 }
 
+impl PercpuBlock {
+    // The block anew: the prover does not cover a store to a field that holds an enum.
+    pub fn with_stats(self, stats: CpuStats) -> PercpuBlock
+        ensures { λ r. ⌜ r ≡ block-stats stats self ⌝ }
+    {
+        PercpuBlock {
+            present: self.present,
+            current_ctxt: self.current_ctxt,
+            sched_ctxt: self.sched_ctxt,
+            idle_ctxt: self.idle_ctxt,
+            schedule_time: self.schedule_time,
+            pit_ticks: self.pit_ticks,
+            being_sigkilled: self.being_sigkilled,
+            inside_syscall: self.inside_syscall,
+            stealable: self.stealable,
+            queue_len: self.queue_len,
+            published_weight: self.published_weight,
+            steal_counter: self.steal_counter,
+            stats,
+            queue_locked: self.queue_locked,
+            v: self.v,
+            total_weight: self.total_weight,
+        }
+    }
+}
+
 fn load_stats(w: &[u64]) -> CpuStats
-    requires { ⌜ length (now w) ≡ 6 ⌝ }
+    requires { ⌜ length (now w) ≡ stats-size ⌝ }
     ensures { λ r. ⌜ r ≡ stats-of (now (w .entry)) ⌝ }
 {
     let state = cpu_stats::state_of(w[0]);
@@ -43,7 +73,7 @@ fn load_stats(w: &[u64]) -> CpuStats
 }
 
 pub fn load_block(w: &[u64]) -> PercpuBlock
-    requires { ⌜ length (now w) ≡ 21 ⌝ }
+    requires { ⌜ length (now w) ≡ scalars-size ⌝ }
     ensures { λ r. ⌜ r ≡ block-of (now (w .entry)) ⌝ }
 {
     let stats = load_stats(&w[12..18]);
@@ -68,7 +98,7 @@ pub fn load_block(w: &[u64]) -> PercpuBlock
 }
 
 pub fn store_block(w: &mut [u64], c: PercpuBlock)
-    requires { ⌜ length (now w) ≡ 21 ⌝ }
+    requires { ⌜ length (now w) ≡ scalars-size ⌝ }
     ensures { λ r. ⌜ now (w .exit) ≡ block-words c ⌝ }
 {
     let s = c.stats;

@@ -1,17 +1,17 @@
 // Replays calls that a text lists: a case is the numbers operation, CPU, time, context, the image's length, how many of its
 // words are not 0, and these as pairs of place and value. Printed are refusal, result and interrupt mark, how many
 // words the call changed, and these as pairs of place and new value. A line that begins with # is printed as it is.
-mod numbers;
+mod text;
 
+use answer::Answer;
 use libc::STDIN_FILENO;
 use libc::STDOUT_FILENO;
-use operations::Answer;
 
 // As long as the longest image, and one word more: such an image is refused by its length.
-const LONGEST: usize = 4327;
+const LONGEST: usize = machine::MAX_IMAGE_SIZE + 1;
 
 fn put(m: &mut [u64], at: u64, value: u64) {
-    let i = machine::index(at);
+    let i = numbers::index(at);
     if i < m.len() {
         m[i] = value;
     }
@@ -54,7 +54,7 @@ fn show_changed(m: &[u64], old: &[u64]) {
     while i < LONGEST {
         let value = get(m, i);
         if value != get(old, i) {
-            show(machine::word(i));
+            show(numbers::word(i));
             show(value);
         }
         i += 1;
@@ -72,8 +72,8 @@ fn words(s: &[u8], from: usize, k: u64, m: &mut [u64], old: &mut [u64]) -> usize
     let mut at = from;
     let mut i: u64 = 0;
     while i < k {
-        let place = numbers::next(s, at);
-        let value = numbers::next(s, place.end);
+        let place = text::next(s, at);
+        let value = text::next(s, place.end);
         put(m, place.value, value.value);
         put(old, place.value, value.value);
         at = value.end;
@@ -101,12 +101,12 @@ struct Head {
 }
 
 fn read_head(s: &[u8], from: usize) -> Head {
-    let operation = numbers::next(s, from);
-    let cpu = numbers::next(s, operation.end);
-    let time = numbers::next(s, cpu.end);
-    let context = numbers::next(s, time.end);
-    let length = numbers::next(s, context.end);
-    let words = numbers::next(s, length.end);
+    let operation = text::next(s, from);
+    let cpu = text::next(s, operation.end);
+    let time = text::next(s, cpu.end);
+    let context = text::next(s, time.end);
+    let length = text::next(s, context.end);
+    let words = text::next(s, length.end);
     Head {
         operation: operation.value,
         cpu: cpu.value,
@@ -125,7 +125,7 @@ fn prepare(s: &[u8], h: Head, m: &mut [u64], old: &mut [u64]) -> usize {
 }
 
 fn play(m: &mut [u64], h: Head) -> Answer {
-    let n = machine::index(h.length);
+    let n = numbers::index(h.length);
     if n <= m.len() {
         return ronthuyal::ronthuyal_call(&mut m[0..n], h.operation, h.cpu, h.time, h.context);
     }
@@ -143,7 +143,7 @@ fn case(s: &[u8], from: usize, m: &mut [u64], old: &mut [u64]) -> usize {
 
 // A line that is printed as it is, and where the text goes on.
 fn comment(s: &[u8], from: usize) -> usize {
-    let end = numbers::line_end(s, from);
+    let end = text::line_end(s, from);
     if from <= end {
         if end <= s.len() {
             io::write_all(STDOUT_FILENO, &s[from..end]);
@@ -154,16 +154,16 @@ fn comment(s: &[u8], from: usize) -> usize {
 }
 
 fn item(s: &[u8], from: usize, m: &mut [u64], old: &mut [u64]) -> usize {
-    if numbers::is_comment(s, from) {
+    if text::is_comment(s, from) {
         return comment(s, from);
     }
     case(s, from, m, old)
 }
 
 fn replay(s: &[u8], m: &mut [u64], old: &mut [u64]) {
-    let mut at = numbers::skip(s, 0);
+    let mut at = text::skip(s, 0);
     while at < s.len() {
-        let next = numbers::skip(s, item(s, at, m, old));
+        let next = text::skip(s, item(s, at, m, old));
         if next <= at {
             return;
         }
@@ -206,7 +206,7 @@ fn take_turn(text: &mut [u8], have: usize, m: &mut [u64], old: &mut [u64]) -> Tu
         return Turn { have, more: false };
     }
     let total = have + got;
-    let end = numbers::last_line(text, total);
+    let end = text::last_line(text, total);
     if end <= total {
         replay(&text[0..end], m, old);
         shift(text, end, total);
@@ -234,7 +234,7 @@ fn run_in(text: &mut [u8], m: &mut [u64], old: &mut [u64]) {
 // Replays the cases that standard input lists, each on a line of its own of at most 65,535 bytes.
 pub fn run() {
     let mut text = io::large_buffer();
-    let mut m = [0u64; 4327];
-    let mut old = [0u64; 4327];
+    let mut m = [0u64; LONGEST];
+    let mut old = [0u64; LONGEST];
     run_in(&mut text, &mut m, &mut old);
 }

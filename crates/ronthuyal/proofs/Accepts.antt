@@ -18,11 +18,11 @@ use Rattle.machine.specs.Outcome.{Outcome}
 use Rattle.machine.proofs.LookUps.{present}
 use Rattle.image.specs.Refusal.{size-c, image-refusal}
 use Rattle.image.proofs.Admitted.{passed, decoded-fits}
-use Rattle.decision.specs.Accepted.{Call, by-tick, by-switch, by-direct-switch}
-use Rattle.operations.specs.declared.Answer.{Answer}
-use Rattle.operations.specs.Named.{named, named-on}
-use Rattle.operations.specs.Reply.{Reply, reply, refuse, reply-to, reply-on}
-use Rattle.decisions.specs.Reply.{decide-by, decide, direct-switch-by, direct-switch}
+use Rattle.model.specs.Accepted.{Call, by-tick, by-switch, by-direct-switch}
+use Rattle.answer.specs.declared.Answer.{Answer}
+use Rattle.context_ops.specs.Named.{named, named-on}
+use Rattle.context_ops.specs.Reply.{Reply, reply, refuse, reply-to, reply-on}
+use Rattle.switch_ops.specs.Reply.{decide-by, decide, direct-switch-by, direct-switch}
 use Rattle.ronthuyal.specs.declared.Checked.{Checked}
 use Rattle.ronthuyal.specs.declared.Checked.the-variants.{Refused, Passed}
 use Rattle.ronthuyal.specs.Call.{check, checked, checked-by, call}

@@ -13,15 +13,15 @@ use Rattle.machine.specs.Machine.{Machine}
 use Rattle.machine.specs.Encode.{encode, decode}
 use Rattle.machine.specs.Shape.{Fits, Image}
 use Rattle.image.specs.Refusal.{size-c, size-n, image-refusal}
-use Rattle.image.specs.Ranges.{most}
 use Rattle.image.proofs.Admitted.{passed, decoded, decoded-fits, admitted}
 use Rattle.stages.specs.Stage.{Ranged}
 use Rattle.admission.proofs.Bounds.{ranged}
-use Rattle.operations.specs.declared.Answer.{Answer}
-use Rattle.operations.specs.Reply.{Reply, reply, refuse}
+use Rattle.answer.specs.declared.Answer.{Answer}
+use Rattle.context_ops.specs.Reply.{Reply, reply, refuse}
 use Rattle.ronthuyal.specs.declared.Checked.{Checked}
 use Rattle.ronthuyal.specs.declared.Checked.the-variants.{Refused, Passed}
 use Rattle.ronthuyal.specs.Call.{check, checked, checked-by, no-operation-call}
+use Rattle.numbers.specs.Limits.{max-number}
 
 -- the check, from its refusal r; c and n are the sizes as the code has them
 pub check-refused : (m : List ℕ) (time r : ℕ) → r ≡ image-refusal time m → (r ≡ 0 → ⊥) → Refused r ≡ check m time
@@ -77,10 +77,10 @@ module _ (m : List ℕ) (time : ℕ) (w : Checked) (e : w ≡ check m time) wher
   pub call-none : (c n : ℕ) → w ≡ Passed c n → image-refusal time m ≡ 0
   call-none c n g = is-passed m time c n (sym g ∙ e) .none
 
-  pub call-time : (c n : ℕ) → w ≡ Passed c n → time ≤ most
+  pub call-time : (c n : ℕ) → w ≡ Passed c n → time ≤ max-number
   call-time c n g = passed time m (call-none c n g) .words .time-most
 
-  pub call-ranged : (c n : ℕ) → w ≡ Passed c n → Ranged c n most most m
+  pub call-ranged : (c n : ℕ) → w ≡ Passed c n → Ranged c n max-number max-number m
   call-ranged c n g = let p = is-passed m time c n (sym g ∙ e) in rw (p .cpus, p .names) (ranged m (passed time m (p .none)))
 
   pub call-machine : {A : Machine → Type 0} (c n : ℕ) → w ≡ Passed c n → ((M : Machine) → m ≡ encode M → Fits c n M → A M) → A (decode m)

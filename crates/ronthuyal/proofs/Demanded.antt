@@ -17,13 +17,13 @@ use Rattle.machine.specs.Shape.{Fits}
 use Rattle.machine.specs.LookUp.{look-up, get-percpu-block}
 use Rattle.machine.specs.Outcome.{Outcome}
 use Rattle.machine.proofs.LookUps.{live, present}
-use Rattle.decision.specs.Accepted.{Call, by-tick, by-switch, by-direct-switch, outcome, decides, Accepted}
-use Rattle.decision.specs.Demand3.{Demand3}
-use Rattle.decision.proofs.Demand.{demand-3}
+use Rattle.model.specs.Accepted.{Call, by-tick, by-switch, by-direct-switch, outcome, decides, Accepted}
+use Rattle.model.specs.Demand3.{Demand3}
+use Rattle.model.proofs.Demand.{demand-3}
 use Rattle.admission.proofs.Soundness.{sound}
-use Rattle.operations.specs.declared.Answer.{Answer}
-use Rattle.operations.specs.Reply.{reply, refuse, replied}
-use Rattle.decisions.specs.Reply.{refusal, decide-on, decide-by, decide, direct-switch-by, direct-switch, Replies}
+use Rattle.answer.specs.declared.Answer.{Answer}
+use Rattle.context_ops.specs.Reply.{reply, refuse, replied}
+use Rattle.switch_ops.specs.Reply.{refusal, decide-on, decide-by, decide, direct-switch-by, direct-switch, Replies}
 use Rattle.image.proofs.Admitted as admitted
 use Rattle.ronthuyal.specs.declared.Checked.{Checked}
 use Rattle.ronthuyal.specs.declared.Checked.the-variants.{Refused, Passed}

@@ -4,7 +4,7 @@ use Prim.Native.Nat.{ℕ}
 use mathlib.Core.List.{List}
 use lib.Dec.{eqb}
 use borrow.Author.Tests.{ne-eqb}
-use Rattle.operations.specs.Reply.{Reply}
+use Rattle.context_ops.specs.Reply.{Reply}
 use Rattle.ronthuyal.specs.Call.{
   tick-call,
   switch-call,

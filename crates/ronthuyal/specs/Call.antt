@@ -10,11 +10,11 @@ use Rattle.machine.specs.LookUp.{get-percpu-block}
 use Rattle.image.specs.Refusal.{size-c, size-n, image-refusal}
 use Rattle.ronthuyal.specs.declared.Checked.{Checked}
 use Rattle.ronthuyal.specs.declared.Checked.the-variants.{Refused, Passed}
-use Rattle.decision.specs.Accepted.{by-tick, by-switch}
-use Rattle.decisions.specs.Reply.{decide, direct-switch}
-use Rattle.operations.specs.Named.{named}
-use Rattle.operations.specs.Operations.{unblock-context, drain-ipi-context-wakeups, block, hard-block}
-use Rattle.operations.specs.Reply.{Reply, refuse, reply-to, reply-on}
+use Rattle.model.specs.Accepted.{by-tick, by-switch}
+use Rattle.switch_ops.specs.Reply.{decide, direct-switch}
+use Rattle.context_ops.specs.Named.{named}
+use Rattle.context_ops.specs.Operations.{unblock-context, drain-ipi-context-wakeups, block, hard-block}
+use Rattle.context_ops.specs.Reply.{Reply, refuse, reply-to, reply-on}
 
 -- refusals 1 to 4, or the counts of CPUs and contexts
 unfoldable pub check : List ℕ → ℕ → Checked

@@ -4,9 +4,9 @@ use mathlib.Core.Bool.{true}
 use Prim.Native.Nat.{ℕ}
 use mathlib.Core.List.{List}
 use Rattle.machine.specs.Encode.{decode}
-use Rattle.decision.specs.Tidy.{Tidy}
-use Rattle.decision.specs.Accepted.{Call, by-tick, by-switch, by-direct-switch, decides, ServesOwn}
-use Rattle.decision.specs.Demand3.{Demand3}
+use Rattle.model.specs.Tidy.{Tidy}
+use Rattle.model.specs.Accepted.{Call, by-tick, by-switch, by-direct-switch, decides, ServesOwn}
+use Rattle.model.specs.Demand3.{Demand3}
 
 -- the call that an operation's number and a context stand for: operations 1 to 3
 abbrev pub StandsFor : (operation context : ℕ) → Call → Type 0

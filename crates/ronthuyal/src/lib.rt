@@ -1,7 +1,7 @@
 // The calls, of any words: the image is checked, and refused by document 01's number or worked on.
-use operations::Answer;
+use answer::Answer;
 ghost use mathlib.Core.Path.{_≡_};
-ghost use Rattle.operations.specs.Reply.{reply};
+ghost use Rattle.context_ops.specs.Reply.{reply};
 ghost use Rattle.ronthuyal.specs.Call.{
   check,
   tick-call,
@@ -15,6 +15,8 @@ ghost use Rattle.ronthuyal.specs.Call.{
   call,
 };
 ghost use Rattle.ronthuyal.specs.Demand.{DemandMet};
+ghost use Rattle.ronthuyal.specs.Leaves.{Leaves};
+ghost use Rattle.numbers.specs.Limits.{max-number, max-word};
 
 // What the check of an image gives: its refusal, or the counts of its CPUs and contexts.
 pub enum Checked {
@@ -29,7 +31,7 @@ pub fn check(image: &[u64], time: u64) -> Checked
     if number != 0 {
         return Checked::Refused(number);
     }
-    Checked::Passed(machine::index(image[0]), machine::index(image[1]))
+    Checked::Passed(numbers::index(image[0]), numbers::index(image[1]))
 }
 
 // Operation 1. The result is 0 if no switch is due, else as in operation 2.
@@ -37,11 +39,12 @@ pub fn check(image: &[u64], time: u64) -> Checked
 pub extern "C" fn ronthuyal_tick(image: &mut [u64], cpu: u64, time: u64) -> Answer
     ensures { λ r. ⌜ reply r (now (image .exit)) ≡ tick-call (now (image .entry)) cpu time ⌝ }
     ensures { λ r. ⌜ DemandMet (now (image .entry)) (now (image .exit)) 1 cpu time 0 (r .refusal) ⌝ }
+    ensures { λ r. ⌜ Leaves max-word (now (image .entry)) (now (image .exit)) (r .refusal) ⌝ }
 {
     let checked = check(image, time);
     match checked {
-        Checked::Refused(number) => operations::refused(number),
-        Checked::Passed(c, n) => decisions::tick(image, c, n, cpu, time),
+        Checked::Refused(number) => answer::refused(number),
+        Checked::Passed(c, n) => switch_ops::tick(image, c, n, cpu, time),
     }
 }
 
@@ -50,11 +53,12 @@ pub extern "C" fn ronthuyal_tick(image: &mut [u64], cpu: u64, time: u64) -> Answ
 pub extern "C" fn ronthuyal_switch(image: &mut [u64], cpu: u64, time: u64) -> Answer
     ensures { λ r. ⌜ reply r (now (image .exit)) ≡ switch-call (now (image .entry)) cpu time ⌝ }
     ensures { λ r. ⌜ DemandMet (now (image .entry)) (now (image .exit)) 2 cpu time 0 (r .refusal) ⌝ }
+    ensures { λ r. ⌜ Leaves max-word (now (image .entry)) (now (image .exit)) (r .refusal) ⌝ }
 {
     let checked = check(image, time);
     match checked {
-        Checked::Refused(number) => operations::refused(number),
-        Checked::Passed(c, n) => decisions::switch(image, c, n, cpu, time),
+        Checked::Refused(number) => answer::refused(number),
+        Checked::Passed(c, n) => switch_ops::switch(image, c, n, cpu, time),
     }
 }
 
@@ -68,11 +72,12 @@ pub extern "C" fn ronthuyal_direct_switch_to(
 ) -> Answer
     ensures { λ r. ⌜ reply r (now (image .exit)) ≡ direct-switch-to-call (now (image .entry)) cpu time context ⌝ }
     ensures { λ r. ⌜ DemandMet (now (image .entry)) (now (image .exit)) 3 cpu time context (r .refusal) ⌝ }
+    ensures { λ r. ⌜ Leaves max-word (now (image .entry)) (now (image .exit)) (r .refusal) ⌝ }
 {
     let checked = check(image, time);
     match checked {
-        Checked::Refused(number) => operations::refused(number),
-        Checked::Passed(c, n) => decisions::direct_switch_to(image, c, n, cpu, time, context),
+        Checked::Refused(number) => answer::refused(number),
+        Checked::Passed(c, n) => switch_ops::direct_switch_to(image, c, n, cpu, time, context),
     }
 }
 
@@ -85,11 +90,12 @@ pub extern "C" fn ronthuyal_unblock_context(
     context: u64,
 ) -> Answer
     ensures { λ r. ⌜ reply r (now (image .exit)) ≡ unblock-context-call (now (image .entry)) cpu time context ⌝ }
+    ensures { λ r. ⌜ Leaves max-number (now (image .entry)) (now (image .exit)) (r .refusal) ⌝ }
 {
     let checked = check(image, time);
     match checked {
-        Checked::Refused(number) => operations::refused(number),
-        Checked::Passed(c, n) => operations::unblock_context(image, c, n, cpu, context),
+        Checked::Refused(number) => answer::refused(number),
+        Checked::Passed(c, n) => context_ops::unblock_context(image, c, n, cpu, context),
     }
 }
 
@@ -101,11 +107,12 @@ pub extern "C" fn ronthuyal_drain_ipi_context_wakeups(
     time: u64,
 ) -> Answer
     ensures { λ r. ⌜ reply r (now (image .exit)) ≡ drain-ipi-context-wakeups-call (now (image .entry)) cpu time ⌝ }
+    ensures { λ r. ⌜ Leaves max-number (now (image .entry)) (now (image .exit)) (r .refusal) ⌝ }
 {
     let checked = check(image, time);
     match checked {
-        Checked::Refused(number) => operations::refused(number),
-        Checked::Passed(c, n) => operations::drain_ipi_context_wakeups(image, c, n, cpu),
+        Checked::Refused(number) => answer::refused(number),
+        Checked::Passed(c, n) => context_ops::drain_ipi_context_wakeups(image, c, n, cpu),
     }
 }
 
@@ -113,11 +120,12 @@ pub extern "C" fn ronthuyal_drain_ipi_context_wakeups(
 #[no_mangle]
 pub extern "C" fn ronthuyal_block(image: &mut [u64], cpu: u64, time: u64, context: u64) -> Answer
     ensures { λ r. ⌜ reply r (now (image .exit)) ≡ block-call (now (image .entry)) cpu time context ⌝ }
+    ensures { λ r. ⌜ Leaves max-number (now (image .entry)) (now (image .exit)) (r .refusal) ⌝ }
 {
     let checked = check(image, time);
     match checked {
-        Checked::Refused(number) => operations::refused(number),
-        Checked::Passed(c, n) => operations::block(image, c, n, cpu, context),
+        Checked::Refused(number) => answer::refused(number),
+        Checked::Passed(c, n) => context_ops::block(image, c, n, cpu, context),
     }
 }
 
@@ -130,11 +138,12 @@ pub extern "C" fn ronthuyal_hard_block(
     context: u64,
 ) -> Answer
     ensures { λ r. ⌜ reply r (now (image .exit)) ≡ hard-block-call (now (image .entry)) cpu time context ⌝ }
+    ensures { λ r. ⌜ Leaves max-number (now (image .entry)) (now (image .exit)) (r .refusal) ⌝ }
 {
     let checked = check(image, time);
     match checked {
-        Checked::Refused(number) => operations::refused(number),
-        Checked::Passed(c, n) => operations::hard_block(image, c, n, cpu, context),
+        Checked::Refused(number) => answer::refused(number),
+        Checked::Passed(c, n) => context_ops::hard_block(image, c, n, cpu, context),
     }
 }
 
@@ -143,8 +152,8 @@ fn no_operation(image: &[u64], time: u64) -> Answer
 {
     let checked = check(image, time);
     match checked {
-        Checked::Refused(number) => operations::refused(number),
-        Checked::Passed(_, _) => operations::refused(5),
+        Checked::Refused(number) => answer::refused(number),
+        Checked::Passed(_, _) => answer::refused(5),
     }
 }
 
@@ -159,6 +168,7 @@ pub extern "C" fn ronthuyal_call(
 ) -> Answer
     ensures { λ r. ⌜ reply r (now (image .exit)) ≡ call (now (image .entry)) operation cpu time context ⌝ }
     ensures { λ r. ⌜ DemandMet (now (image .entry)) (now (image .exit)) operation cpu time context (r .refusal) ⌝ }
+    ensures { λ r. ⌜ Leaves max-word (now (image .entry)) (now (image .exit)) (r .refusal) ⌝ }
 {
     match operation {
         1 => ronthuyal_tick(image, cpu, time),

@@ -1,4 +1,1 @@
-pub mod Order
-pub mod Queue
-pub mod Found
-pub mod Sorted
+pub mod Put

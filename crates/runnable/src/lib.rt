@@ -2,10 +2,8 @@
 ghost use mathlib.Core.Path.{_≡_};
 ghost use mathlib.Core.Bool.{_&&_, not};
 ghost use Prim.Native.Nat.{ℕ, _<_, _≤_};
-ghost use Rattle.context.specs.Block.{woken};
 ghost use Rattle.runnable.specs.Runnable.{update-runnable, wake-has-come};
 use context::Context;
-use context::Status;
 
 // what `update_runnable` says; the record where it can be switched to, woken if its wake has come
 pub enum UpdateResult {
@@ -22,15 +20,6 @@ fn elsewhere(mark: bool, own: bool) -> bool
         return !own;
     }
     false
-}
-
-// Its wake has come: it is runnable, and no wake is left.
-fn wake_up(mut c: Context) -> Context
-    ensures { λ r. ⌜ r ≡ woken c ⌝ }
-{
-    c.has_wake = false;
-    c.wake = 0;
-    c.with_status(Status::Runnable)
 }
 
 // Soft-blocked with a wake that has come.
@@ -67,7 +56,9 @@ pub fn update_runnable(
         return UpdateResult::Skip;
     }
     if is_due(c, schedule_time) {
-        return UpdateResult::CanSwitch(wake_up(c));
+        let woken = c.wake_up();
+        let awake = woken.context;
+        return UpdateResult::CanSwitch(awake);
     }
     let status = c.status;
     if status.is_runnable() {

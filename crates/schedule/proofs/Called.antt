@@ -18,10 +18,10 @@ use Rattle.machine.specs.Machine.{Machine, cpu-at}
 use Rattle.machine.specs.Encode.{encode}
 use Rattle.machine.specs.Shape.{Fits, Image}
 use Rattle.machine.specs.Outcome.{Outcome}
-use Rattle.decision.specs.State.{State, state-of, at, on-cpu}
-use Rattle.decision.specs.Charging.{count-switch, elapsed}
-use Rattle.decision.specs.SwitchTo.{direct-switch-by}
-use Rattle.decision.specs.Decision.{finish, switch-inner, ticked, tick, switch, direct-switch-or, direct-switch-to}
+use Rattle.model.specs.State.{State, state-of, at, on-cpu}
+use Rattle.model.specs.Turn.{count-switch, elapsed}
+use Rattle.model.specs.SwitchTo.{direct-switch-by}
+use Rattle.model.specs.Schedule.{finish, switch-inner, ticked, tick, switch, direct-switch-or, direct-switch-to}
 use Rattle.stages.specs.Stage.{put-state, Stage, StateBelow, Ranged}
 use Rattle.stages.specs.Read.{BlockFits}
 use Rattle.stages.proofs.Compose.{state-put}
@@ -33,11 +33,13 @@ use Rattle.schedule.specs.Decides.{Decides, Ends}
 use Rattle.schedule.proofs.Start.{put-below}
 use Rattle.schedule.proofs.Ending.{stage-ends, stage-end, ends-as, ends-decides}
 use Rattle.schedule.proofs.Inner.{Directs, current-is, direct-made, direct-full, direct-not}
+use Rattle.numbers.specs.Limits.{max-number, max-elapsed}
+use Rattle.stages.specs.Bounds.{t-counted}
 
 abbrev pub InTime : (c n k time : ℕ) → List ℕ → Type 0
-InTime c n k time m = (M : Machine) → m ≡ encode M → Fits c n M → elapsed time (cpu-at M k) ≤ 4503599627370495
+InTime c n k time m = (M : Machine) → m ≡ encode M → Fits c n M → elapsed time (cpu-at M k) ≤ max-elapsed
 
-pub can-begin : {c n k : ℕ} {m : List ℕ} (time : ℕ) → k < c → Ranged c n 4611686018427387903 4611686018427387903 m → InTime c n k time m → CanBegin c n k time m
+pub can-begin : {c n k : ℕ} {m : List ℕ} (time : ℕ) → k < c → Ranged c n max-number max-number m → InTime c n k time m → CanBegin c n k time m
 can-begin {k = k} time h r l =
     record {
       M = r .M;
@@ -58,8 +60,8 @@ ticked-as p b e = rw e
 pub ticked-fits : {n : ℕ} (b : PercpuBlock) (t : ℕ) → BlockFits n b → BlockFits n (block-pit-ticks t b)
 ticked-fits b t o = record { current = o .current; sched = o .sched; idle = o .idle }
 
-ticked-below : {n t b : ℕ} (k time : ℕ) (s : State) → StateBelow n t b s → StateBelow n (t + 1) b (ticked k time s)
-ticked-below {n} {t} {b} k time s o =
+ticked-below : {n t b : ℕ} (s : State) → StateBelow n t b s → StateBelow n (t + 1) b (ticked s)
+ticked-below {n} {t} {b} s o =
     let u = cpu-more {t = t} {b = b} {t' = t + 1} {b' = b} (omega arith) (omega arith) (o .cpu)
     in record {
       context = λ x l. context-more (omega arith) (omega arith) (o .context x l);
@@ -79,21 +81,21 @@ ticked-below {n} {t} {b} k time s o =
       };
     }
 
-module _ {c n k : ℕ} {m m' : List ℕ} {count : ℕ} (time : ℕ) (h : k < c) (t : Stage c n k m m' false count (λ (s : State). ticked k time s) (λ (s : State). s .cpu .block .«pit_ticks» + 1)) where
+module _ {c n k : ℕ} {m m' : List ℕ} {count : ℕ} (time : ℕ) (h : k < c) (t : Stage c n k m m' false count (λ (s : State). ticked s) (λ (s : State). s .cpu .block .«pit_ticks» + 1)) where
   -- a switch counts the same whether the tick was counted before it or not
-  pub ticked-begin : Ranged c n 4611686018427387903 4611686018427387903 m → InTime c n k time m → CanBegin c n k time m'
+  pub ticked-begin : Ranged c n max-number max-number m → InTime c n k time m → CanBegin c n k time m'
   ticked-begin r l =
       let a = t .stage (r .M) (r .eq) (r .fits)
       in let s = state-of k (r .M)
-      in let o : StateBelow n 4611686018427387903 4611686018427387903 s = record { context = r .below .context; cpu = r .below .cpu k h }
-      in let z : state-of k (put-state k (ticked k time s) (r .M)) ≡ ticked k time s = state-put k (ticked k time s) (r .M) (omega (arith, r .fits .cpus)) refl
+      in let o : StateBelow n max-number max-number s = record { context = r .below .context; cpu = r .below .cpu k h }
+      in let z : state-of k (put-state k (ticked s) (r .M)) ≡ ticked s = state-put k (ticked s) (r .M) (omega (arith, r .fits .cpus)) refl
       in record {
-        M = put-state k (ticked k time s) (r .M);
+        M = put-state k (ticked s) (r .M);
         eq = a .after refl;
         fits = a .fits refl;
-        below = put-below 4611686018427387904 4611686018427387903 (omega arith) (omega arith) k (ticked k time s) (r .M) (ticked-below k time s o) (r .below);
-        counted = subst (λ (x : State). StateBelow n 4611686018427387904 4611686018427387903 (on-cpu count-switch x)) (sym z) (count-below s o);
-        in-time = subst (λ (x : State). elapsed time (x .cpu) ≤ 4503599627370495) (sym z) (l (r .M) (r .eq) (r .fits));
+        below = put-below t-counted max-number (omega arith) (omega arith) k (ticked s) (r .M) (ticked-below s o) (r .below);
+        counted = subst (λ (x : State). StateBelow n t-counted max-number (on-cpu count-switch x)) (sym z) (count-below s o);
+        in-time = subst (λ (x : State). elapsed time (x .cpu) ≤ max-elapsed) (sym z) (l (r .M) (r .eq) (r .fits));
       }
 
   count-is : (v : Bool) → ltb count 3 ≡ v → (M : Machine) → m ≡ encode M → Fits c n M → ltb (cpu-at M k .block .«pit_ticks» + 1) 3 ≡ v
@@ -104,7 +106,7 @@ module _ {c n k : ℕ} {m m' : List ℕ} {count : ℕ} (time : ℕ) (h : k < c) 
   tick-early l =
       let e = lt-ltb count 3 l
       in ends-decides
-      (ends-as {f' = λ (cpus : List Cpu) (s : State). if ltb (s .cpu .block .«pit_ticks» + 1) 3 then finish k cpus 0 (ticked k time s) else switch-inner k time cpus (ticked k time s)} (stage-end 0 t)
+      (ends-as {f' = λ (cpus : List Cpu) (s : State). if ltb (s .cpu .block .«pit_ticks» + 1) 3 then finish k cpus 0 (ticked s) else switch-inner k time cpus (ticked s)} (stage-end 0 t)
       (λ M z o cpus. rw (count-is true e M z o)))
 
   pub tick-due : {m'' : List ℕ} {full : Bool} {r : ℕ} → 3 ≤ count → Ends c n k m' m'' full r (λ (cpus : List Cpu) (s : State). switch-inner k time cpus s) → Decides c n m m'' full r (λ (M : Machine). tick k time M)
@@ -112,7 +114,7 @@ module _ {c n k : ℕ} {m m' : List ℕ} {count : ℕ} (time : ℕ) (h : k < c) 
   tick-due l u =
       let e = le-ltb count 3 l
       in ends-decides
-      (ends-as {f' = λ (cpus : List Cpu) (s : State). if ltb (s .cpu .block .«pit_ticks» + 1) 3 then finish k cpus 0 (ticked k time s) else switch-inner k time cpus (ticked k time s)} (stage-ends h t u)
+      (ends-as {f' = λ (cpus : List Cpu) (s : State). if ltb (s .cpu .block .«pit_ticks» + 1) 3 then finish k cpus 0 (ticked s) else switch-inner k time cpus (ticked s)} (stage-ends h t u)
       (λ M z o cpus. rw (count-is false e M z o)))
 
 pub switch-decides : {c n k : ℕ} {m m' : List ℕ} {full : Bool} {r : ℕ} (time : ℕ) → Ends c n k m m' full r (λ (cpus : List Cpu) (s : State). switch-inner k time cpus s) → Decides c n m m' full r (λ (M : Machine). switch k time M)

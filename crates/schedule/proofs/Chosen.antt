@@ -15,10 +15,10 @@ use Rattle.percpu.specs.Cpu.{Cpu}
 use Rattle.machine.specs.Machine.{Machine, context-at, cpu-at}
 use Rattle.machine.specs.Encode.{encode}
 use Rattle.machine.specs.Shape.{Fits, Image}
-use Rattle.decision.specs.State.{State, state-of, prev-runnable}
-use Rattle.decision.specs.Choice.{Choice, choice, chosen}
-use Rattle.decision.specs.Steal.{steal}
-use Rattle.decision.specs.Decision.{scanned, locks, choose-and-steal}
+use Rattle.model.specs.State.{State, state-of, prev-runnable}
+use Rattle.model.specs.Choice.{Choice, choice, chosen}
+use Rattle.model.specs.Steal.{steal}
+use Rattle.model.specs.Schedule.{scanned, locks, choose-and-steal}
 use Rattle.stages.specs.Stage.{put-state, Stage, Ranged}
 use Rattle.stages.proofs.Compose.{state-put}
 use Rattle.stages.proofs.Kept.{ranged-stage}
@@ -33,6 +33,7 @@ use Rattle.schedule.specs.Part.{of-stealing, put-in, PartAt, Part}
 use Rattle.schedule.specs.Named.{NamedBelow}
 use lib.Seq.{set-set}
 use Rattle.schedule.proofs.Robbing.{over, steal-over, steal-named, entries-fit}
+use Rattle.stages.specs.Bounds.{t-timed, b-charged, b-stolen}
 
 abbrev pub taken : (k time : ℕ) → State → State
 taken k time s = chosen (choice s (scanned k time s)) (scanned k time s) s
@@ -67,8 +68,8 @@ module _ (time : ℕ) (runs : Bool) (locked : List ℕ) {c n k : ℕ} {m m' m'' 
     stolen-is : steal k runs locked ((chosen-machine k time M) .cpus) (q .winner) (state-of k (chosen-machine k time M)) ≡ over k ((taken k time (state-of k M)) .cpu) (choose-and-steal k time cpus (state-of k M))
     unfolding choose-and-steal
     stolen-is =
-        (λ i. steal k (hr M e o i) ((hl M e o ∙ ap (λ (x : Choice). locks k time (state-of k M) x) chosen-is) i) (cpus-are i) (chosen-is i .winner) (state-is i))
-        ∙ steal-over k ((taken k time (state-of k M)) .cpu) (prev-runnable (state-of k M)) (locks k time (state-of k M) (choice (state-of k M) (scanned k time (state-of k M)))) cpus ((choice (state-of k M) (scanned k time (state-of k M))) .winner) (taken k time (state-of k M)) long
+        (λ i. steal k (hr M e o i) ((hl M e o ∙ ap (λ (x : Choice). locks (state-of k M) x) chosen-is) i) (cpus-are i) (chosen-is i .winner) (state-is i))
+        ∙ steal-over k ((taken k time (state-of k M)) .cpu) (prev-runnable (state-of k M)) (locks (state-of k M) (choice (state-of k M) (scanned k time (state-of k M)))) cpus ((choice (state-of k M) (scanned k time (state-of k M))) .winner) (taken k time (state-of k M)) long
 
     put-is : machine-of k (over k ((taken k time (state-of k M)) .cpu) (choose-and-steal k time cpus (state-of k M))) ≡ put-in k ((choose-and-steal k time cpus (state-of k M)) .cpus) ((choose-and-steal k time cpus (state-of k M)) .state)
     put-is = λ i. record { contexts = (choose-and-steal k time cpus (state-of k M)) .state .contexts; cpus = set-set ((choose-and-steal k time cpus (state-of k M)) .cpus) k ((taken k time (state-of k M)) .cpu) ((choose-and-steal k time cpus (state-of k M)) .state .cpu) i }
@@ -87,7 +88,7 @@ module _ (time : ℕ) (runs : Bool) (locked : List ℕ) {c n k : ℕ} {m m' m'' 
   pub chosen-part : Part c n k m m'' full (picked-of w') (λ (cpus : List Cpu) (s : State). of-stealing (choose-and-steal k time cpus s))
   chosen-part = record { image = u .image; part = part-at }
 
-  pub stolen-ranged : full ≡ false → Ranged c n 4611686027017322496 4899916395652841471 m → Ranged c n 4611686027017322496 9799832792379424766 m''
+  pub stolen-ranged : full ≡ false → Ranged c n t-timed b-charged m → Ranged c n t-timed b-stolen m''
   stolen-ranged z r = steal-ranged runs locked (q .winner) h z u (chosen-ranged time h t r)
 
   pub stolen-named : full ≡ false → Image c n m → NamedBelow n (q .winner) → NamedBelow n (picked-of w')

@@ -11,8 +11,8 @@ use Rattle.machine.specs.Machine.{Machine, cpu-at}
 use Rattle.machine.specs.Encode.{encode}
 use Rattle.machine.specs.Shape.{Fits, Image}
 use Rattle.machine.specs.Outcome.{Outcome}
-use Rattle.decision.specs.State.{State, state-of, is-some}
-use Rattle.decision.specs.Decision.{finish}
+use Rattle.model.specs.State.{State, state-of, is-some}
+use Rattle.model.specs.Schedule.{finish}
 use Rattle.stages.specs.Stage.{put-state, Stage}
 use Rattle.stages.proofs.Compose.{state-put}
 use Rattle.stages.proofs.Reading.{put-same}

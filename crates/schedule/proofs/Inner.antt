@@ -20,11 +20,11 @@ use Rattle.machine.specs.Machine.{Machine, cpu-at}
 use Rattle.machine.specs.Encode.{encode}
 use Rattle.machine.specs.Shape.{Fits, Image}
 use Rattle.machine.specs.Outcome.{Outcome}
-use Rattle.decision.specs.State.{State, state-of, at, is-some}
-use Rattle.decision.specs.SwitchTo.{switch-to, try-direct-switch-back}
-use Rattle.decision.specs.Decision.{Scheduled, finish, schedule, switch-as, after-schedule, switch-inner-by, switch-inner}
-use Rattle.decision.proofs.Cases.{pick}
-use Rattle.decision.proofs.NoRoom.{switch-to-full}
+use Rattle.model.specs.State.{State, state-of, at, is-some}
+use Rattle.model.specs.SwitchTo.{switch-to, try-direct-switch-back}
+use Rattle.model.specs.Schedule.{Scheduled, finish, schedule, switch-as, after-schedule, switch-inner-by, switch-inner}
+use Rattle.model.proofs.Cases.{pick}
+use Rattle.model.proofs.NoRoom.{switch-to-full}
 use Rattle.stages.specs.Stage.{Stage, Staged, Ranged}
 use Rattle.stages.specs.Read.{BlockFits}
 use Rattle.stages.proofs.Compose.{stage-as}
@@ -40,6 +40,8 @@ use Rattle.columns.proofs.Tests.{never}
 use Rattle.schedule.proofs.Parts.{part-stage}
 use Rattle.schedule.proofs.Start.{counting-ranged}
 use Rattle.schedule.proofs.Ending.{part-ends, no-end, stage-end, ends-as, none-is, same-image}
+use Rattle.stages.specs.Bounds.{t-handed, b-advanced}
+use Rattle.answer.specs.Number.{result-number}
 
 -- the CPU marked Idle: b was loaded, b' is stored
 pub idle-as : (p : Cpu) (b b' : PercpuBlock) (t : CpuStats) → b ≡ p .block → t ≡ stats-state Idle (b .stats) → b' ≡ block-stats t b → cpu-block b' p ≡ cpu-stats (stats-state Idle (p .block .stats)) p
@@ -62,18 +64,18 @@ module _ {c n : ℕ} {m : List ℕ} (k time x : ℕ) (b : PercpuBlock) (hb : (M 
 
 -- the switch, by who was picked
 module _ {c n k : ℕ} {m m' : List ℕ} (time : ℕ) {w : Option ℕ} where
-  pub as-nobody : w ≡ none → Staged c n k m m' false (λ (s : State). marked-idle s) → Stage c n k m m' false 2 (λ (s : State). switched k time w s) (λ (s : State). switch-result w)
+  pub as-nobody : w ≡ none → Staged c n k m m' false (λ (s : State). marked-idle s) → Stage c n k m m' false 2 (λ (s : State). switched k time w s) (λ (s : State). result-number (switch-result w))
   unfolding switched switch-result
   as-nobody e t = rw e (stage-as t (λ M z o. (refl, λ f g. refl)))
 
   pub as-somebody : {full : Bool} (x : ℕ) → w ≡ some x → Staged c n k m m' full (λ (s : State). switched-to k time x s)
-      → Stage c n k m m' full 1 (λ (s : State). switched k time w s) (λ (s : State). switch-result w)
+      → Stage c n k m m' full 1 (λ (s : State). switched k time w s) (λ (s : State). result-number (switch-result w))
   unfolding switched switch-result
   as-somebody x e t = rw e (stage-as t (λ M z o. (refl, λ f g. refl)))
 
 -- `after-schedule` by its parts, and where there is no room
 module _ (k time : ℕ) where
-  switch-is : (cpus : List Cpu) (o : Option ℕ) (s : State) → finish k cpus (switch-result o) (switched k time o s) ≡ switch-as k time s cpus o
+  switch-is : (cpus : List Cpu) (o : Option ℕ) (s : State) → finish k cpus (result-number (switch-result o)) (switched k time o s) ≡ switch-as k time s cpus o
   unfolding switch-as switched switch-result
   switch-is cpus none s = refl
   switch-is cpus (some x) s = refl
@@ -94,7 +96,7 @@ module _ {c n k : ℕ} {m m' : List ℕ} (time : ℕ) {w : Option ℕ} where
       in as-full k time (d .cpus) (d .picked) (d .state) (sym (t .part M e o cpus z .room)))
 
   pub decided : {m'' : List ℕ} {full : Bool} {r : ℕ} → k < c → Part c n k m m' false w (λ (cpus : List Cpu) (s : State). of-scheduled (schedule k time cpus s))
-      → Stage c n k m' m'' full r (λ (s : State). switched k time w s) (λ (s : State). switch-result w)
+      → Stage c n k m' m'' full r (λ (s : State). switched k time w s) (λ (s : State). result-number (switch-result w))
       → Ends c n k m m'' full r (λ (cpus : List Cpu) (s : State). after-schedule k time (schedule k time cpus s))
   unfolding after-schedule
   decided h t u =
@@ -102,7 +104,7 @@ module _ {c n k : ℕ} {m m' : List ℕ} (time : ℕ) {w : Option ℕ} where
       (λ M e o cpus z.
       let d = schedule k time cpus (state-of k M)
       in let y : w ≡ d .picked = t .part M e o cpus z .answer refl
-      in ap (λ (x : Option ℕ). finish k (d .cpus) (switch-result x) (switched k time x (d .state))) y ∙ switch-is k time (d .cpus) (d .picked) (d .state))
+      in ap (λ (x : Option ℕ). finish k (d .cpus) (result-number (switch-result x)) (switched k time x (d .state))) y ∙ switch-is k time (d .cpus) (d .picked) (d .state))
 
 -- a stage that makes the direct switch d, or changes nothing; q: whether it was made
 abbrev pub Directs : (c n k : ℕ) (m m' : List ℕ) (full q : Bool) → (State → Option State) → Type 0
@@ -132,7 +134,7 @@ module _ (k : ℕ) (d : State → Option State) (by : List Cpu → State → Opt
       (λ M e o cpus. hn cpus (state-of k M) ∙ ap (by cpus (state-of k M)) (none-is (d (state-of k M)) (t .stage M e o .answer refl)))
 
 -- the direct switch back, or the decision
-pub back-ranged : {c n k : ℕ} {m : List ℕ} (time : ℕ) → CanBegin c n k time m → Ranged c n 9223372045444710400 12105675801593118718 m
+pub back-ranged : {c n k : ℕ} {m : List ℕ} (time : ℕ) → CanBegin c n k time m → Ranged c n t-handed b-advanced m
 back-ranged time a = ranged-more (omega arith) (omega arith) (counting-ranged a)
 
 module _ {c n k : ℕ} {m m' : List ℕ} (time : ℕ) where

@@ -11,12 +11,11 @@ use Rattle.percpu.specs.Cpu.{Cpu}
 use Rattle.machine.specs.Machine.{Machine, cpu-at}
 use Rattle.machine.specs.Encode.{encode}
 use Rattle.machine.specs.Shape.{Fits}
-use Rattle.decision.specs.State.{State, state-of, is-some, prev-runnable}
-use Rattle.decision.specs.Charging.{charge-holder}
-use Rattle.decision.specs.Choice.{choice}
-use Rattle.decision.specs.SwitchTo.{next-context}
-use Rattle.decision.specs.Decision.{scanned, choose-and-steal, settled, selected, select-next-context}
-use Rattle.decision.proofs.NoRoom as no-room
+use Rattle.model.specs.State.{State, state-of, is-some, prev-runnable}
+use Rattle.model.specs.Turn.{charge-holder}
+use Rattle.model.specs.Choice.{choice}
+use Rattle.model.specs.Schedule.{scanned, choose-and-steal, selected, select-next-context}
+use Rattle.model.proofs.NoRoom as no-room
 use Rattle.stages.specs.Stage.{Stage, Staged, Ranged}
 use Rattle.stages.proofs.Compose.{stage-then}
 use Rattle.stages.proofs.Kept.{ranged-stage}
@@ -29,6 +28,9 @@ use Rattle.schedule.specs.Part.{of-stealing, of-selected, Part}
 use Rattle.schedule.specs.Named.{NamedBelow}
 use Rattle.columns.proofs.Tests.{never}
 use Rattle.schedule.proofs.Parts.{stage-part, stage-part-full, part-stage, part-as, part-full}
+use Rattle.numbers.specs.Limits.{max-elapsed}
+use Rattle.stages.specs.Bounds.{t-timed, b-woken, b-charged, b-stolen, b-advanced, max-gain}
+use Rattle.model.specs.Handover.{next-context, settled}
 
 -- the stealing found no room
 pub selected-unchosen : {c n k : ℕ} {m m' m'' : List ℕ} {w q : Option ℕ} (time elapsed : ℕ)
@@ -47,7 +49,7 @@ module _ {c n k : ℕ} {m m' : List ℕ} {w : Option ℕ} (time elapsed : ℕ) (
     winner-is : w ≡ (choose-and-steal k time cpus (state-of k M)) .winner
     winner-is = t .part M e o cpus z .answer refl
 
-    same-state : settled-by won runs gained ((choose-and-steal k time cpus (state-of k M)) .state) ≡ settled k time (prev-runnable (state-of k M)) (ticks elapsed) (choose-and-steal k time cpus (state-of k M))
+    same-state : settled-by won runs gained ((choose-and-steal k time cpus (state-of k M)) .state) ≡ settled (prev-runnable (state-of k M)) (ticks elapsed) (choose-and-steal k time cpus (state-of k M))
     same-state =
         (λ i. settled-by ((hw ∙ ap is-some winner-is) i) (hr M e o i) (hg i) ((choose-and-steal k time cpus (state-of k M)) .state))
         ∙ settled-is k time (prev-runnable (state-of k M)) (ticks elapsed) (choose-and-steal k time cpus (state-of k M))
@@ -67,7 +69,7 @@ module _ {c n k : ℕ} {m m' : List ℕ} {w : Option ℕ} (time elapsed : ℕ) (
         in part-as (part-stage h t (stage-then h u v))
         (λ M e o cpus z. (same-state M e o cpus z, refl, λ y x. x ∙ (λ i. next-context (hr M e o i) (winner-is M e o cpus z i) (same-state M e o cpus z i))))
 
-    pub selected-ranged : gained ≤ 2305843009213693952 → Ranged c n 4611686027017322496 9799832792379424766 m' → Ranged c n 4611686027017322496 12105675801593118718 m''
+    pub selected-ranged : gained ≤ max-gain → Ranged c n t-timed b-stolen m' → Ranged c n t-timed b-advanced m''
     selected-ranged l a = ranged-stage (omega arith) (omega arith) h u (λ M o s. settled-below won runs gained (state-of k M) l (o .cpu k h) s) a
 
     pub selected-named : NamedBelow n w → NamedBelow n next
@@ -95,7 +97,7 @@ module _ {c n k : ℕ} {m m' m'' : List ℕ} (time elapsed : ℕ) where
   unfolding select-next-context
   charged-then h t u = stage-part h t u
 
-pub charged-ranged : {c n k : ℕ} {m m' : List ℕ} (elapsed : ℕ) → k < c → elapsed ≤ 4503599627370495 → Staged c n k m m' false (λ (s : State). charge-holder elapsed s)
-    → Ranged c n 4611686027017322496 4611686019501129727 m → Ranged c n 4611686027017322496 4899916395652841471 m'
+pub charged-ranged : {c n k : ℕ} {m m' : List ℕ} (elapsed : ℕ) → k < c → elapsed ≤ max-elapsed → Staged c n k m m' false (λ (s : State). charge-holder elapsed s)
+    → Ranged c n t-timed b-woken m → Ranged c n t-timed b-charged m'
 charged-ranged {k = k} elapsed h l t a =
     ranged-stage (omega arith) (omega arith) h t (λ M o s. charge-below (state-of k M) (o .cpu k h) (o .context) s elapsed l) a

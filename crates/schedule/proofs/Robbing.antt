@@ -12,15 +12,15 @@ use lib.ListN.{length, getD, set, length-set}
 use lib.Seq.{getD-set-other, set-comm}
 use Rattle.columns.proofs.Tabulate.{getD-past}
 use Rattle.columns.specs.Common.{if_then_else_, fold, All, In}
-use Rattle.run_queue.specs.declared.Entry.{Entry}
+use Rattle.entries.specs.declared.Entry.{Entry}
 use Rattle.percpu.specs.Cpu.{Cpu}
 use Rattle.percpu.specs.Layout.{no-entry}
 use Rattle.machine.specs.Machine.{Machine, cpu-at, no-cpu}
 use Rattle.machine.specs.Shape.{EntryFits, Fits}
-use Rattle.decision.specs.State.{State, on-cpu}
-use Rattle.decision.specs.Steal.{Stealing, Moving, count-steal, published, mark-stealable, should-steal, targets, can-steal-from, want, candidates, move-entry, first-wins, steal-entries, steal-from, steal}
-use Rattle.decision.proofs.Cases.{by-test, never, or-neither}
-use Rattle.decision.proofs.Candidates.{target-is-other}
+use Rattle.model.specs.State.{State, on-cpu}
+use Rattle.model.specs.Steal.{Stealing, Moving, count-steal, published, mark-stealable, should-steal, targets, can-steal-from, want, candidates, move-entry, first-wins, steal-entries, steal-from, steal}
+use Rattle.model.proofs.Cases.{by-test, never, or-neither}
+use Rattle.model.proofs.Candidates.{target-is-other}
 use Rattle.stages.proofs.Fitting.{all-of}
 use Rattle.steal.proofs.Apart.{candidates-taken}
 use Rattle.schedule.specs.Named.{NamedBelow}

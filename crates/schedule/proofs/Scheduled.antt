@@ -10,11 +10,10 @@ use Rattle.percpu.specs.Cpu.{Cpu}
 use Rattle.machine.specs.Machine.{Machine, cpu-at}
 use Rattle.machine.specs.Encode.{encode}
 use Rattle.machine.specs.Shape.{Fits, Image}
-use Rattle.decision.specs.State.{State, state-of}
-use Rattle.decision.specs.Charging.{elapsed, was-idle, charge-holder, before-selection}
-use Rattle.decision.specs.SwitchTo.{hand-over}
-use Rattle.decision.specs.Decision.{Selected, Scheduled, select-next-context, picked-as, schedule}
-use Rattle.decision.proofs.NoRoom as no-room
+use Rattle.model.specs.State.{State, state-of}
+use Rattle.model.specs.Turn.{elapsed, was-idle, charge-holder, before-selection}
+use Rattle.model.specs.Schedule.{Selected, Scheduled, select-next-context, picked-as, schedule}
+use Rattle.model.proofs.NoRoom as no-room
 use Rattle.stages.specs.Stage.{Stage, Staged, Ranged}
 use Rattle.stages.proofs.Compose.{stage-as}
 use Rattle.turn.specs.declared.timing.Turn.{Turn}
@@ -27,29 +26,32 @@ use Rattle.schedule.specs.Switched.{handed}
 use Rattle.columns.proofs.Tests.{never}
 use Rattle.schedule.proofs.Parts.{stage-part, part-stage, part-as, part-full, no-part}
 use Rattle.schedule.proofs.Picked.{keeps-full}
+use Rattle.numbers.specs.Limits.{max-number}
+use Rattle.stages.specs.Bounds.{t-timed, t-handed, b-advanced}
+use Rattle.model.specs.Handover.{hand-over}
 
 module _ (k time : ℕ) where
   abbrev next : List Cpu → State → Selected
   next cpus s = select-next-context k time (elapsed time (s .cpu)) cpus (before-selection time s)
 
   -- what was picked, in three parts
-  picked-state : (was : Bool) (cpus : List Cpu) (o : Option ℕ) (s : State) → handed time was o s ≡ (picked-as k time was cpus o s) .state
+  picked-state : (was : Bool) (cpus : List Cpu) (o : Option ℕ) (s : State) → handed time was o s ≡ (picked-as time was cpus o s) .state
   unfolding handed picked-as
   picked-state was cpus none s = refl
   picked-state was cpus (some x) s = refl
 
-  picked-cpus : (was : Bool) (cpus : List Cpu) (o : Option ℕ) (s : State) → cpus ≡ (picked-as k time was cpus o s) .cpus
+  picked-cpus : (was : Bool) (cpus : List Cpu) (o : Option ℕ) (s : State) → cpus ≡ (picked-as time was cpus o s) .cpus
   unfolding picked-as
   picked-cpus was cpus none s = refl
   picked-cpus was cpus (some x) s = refl
 
-  picked-who : (was : Bool) (cpus : List Cpu) (o : Option ℕ) (s : State) → o ≡ (picked-as k time was cpus o s) .picked
+  picked-who : (was : Bool) (cpus : List Cpu) (o : Option ℕ) (s : State) → o ≡ (picked-as time was cpus o s) .picked
   unfolding picked-as
   picked-who was cpus none s = refl
   picked-who was cpus (some x) s = refl
 
   -- without room at the beginning, or when the next context is known, there is none at the end
-  picked-full : (was : Bool) (cpus : List Cpu) (o : Option ℕ) (s : State) → s .no-room ≡ true → ((picked-as k time was cpus o s) .state) .no-room ≡ true
+  picked-full : (was : Bool) (cpus : List Cpu) (o : Option ℕ) (s : State) → s .no-room ≡ true → ((picked-as time was cpus o s) .state) .no-room ≡ true
   unfolding picked-as hand-over
   picked-full was cpus none s e = e
   picked-full was cpus (some x) s e = e
@@ -110,9 +112,9 @@ module _ {c n k : ℕ} {m : List ℕ} (time : ℕ) (was : Bool) where
   unfolding handed
   handed-to x e t = rw e t
 
-  pub handed-ranged : {m' : List ℕ} (x : ℕ) → k < c → x < n → time ≤ 4611686018427387903 → Staged c n k m m' false (λ (s : State). hand-over time was x s)
-      → Ranged c n 4611686027017322496 12105675801593118718 m → Ranged c n 9223372045444710400 12105675801593118718 m'
+  pub handed-ranged : {m' : List ℕ} (x : ℕ) → k < c → x < n → time ≤ max-number → Staged c n k m m' false (λ (s : State). hand-over time was x s)
+      → Ranged c n t-timed b-advanced m → Ranged c n t-handed b-advanced m'
   handed-ranged x h i l t a = ranged-stage (omega arith) (omega arith) h t (λ M o s. hand-over-below (state-of k M) (o .cpu k h) s time was l x i) a
 
-pub kept-ranged : {c n : ℕ} {m : List ℕ} → Ranged c n 4611686027017322496 12105675801593118718 m → Ranged c n 9223372045444710400 12105675801593118718 m
+pub kept-ranged : {c n : ℕ} {m : List ℕ} → Ranged c n t-timed b-advanced m → Ranged c n t-handed b-advanced m
 kept-ranged a = ranged-more (omega arith) (omega arith) a

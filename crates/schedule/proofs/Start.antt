@@ -12,9 +12,9 @@ use Rattle.machine.specs.Machine.{Machine, cpu-at, no-cpu}
 use Rattle.machine.specs.Encode.{encode}
 use Rattle.machine.specs.Shape.{CpuFits, Fits, Image}
 use Rattle.machine.proofs.Steps.{getD-set}
-use Rattle.decision.specs.State.{State, state-of, on-cpu}
-use Rattle.decision.specs.Charging.{count-switch, elapsed, times, before-selection}
-use Rattle.decision.specs.Wakeups.{Wakeup, WakeupResult, dropped, locked, woken-only, entered, wakeup-result, put-back, enter, wake-as, serve-wakeup, serve-wakeups, drained, wakeups}
+use Rattle.model.specs.State.{State, state-of, on-cpu}
+use Rattle.model.specs.Turn.{count-switch, elapsed, times, before-selection}
+use Rattle.model.specs.Wakeup.{Wakeup, WakeupResult, dropped, locked, woken-only, entered, wakeup-result, put-back, enter, wake-as, serve-wakeup, serve-wakeups, drained, wakeups}
 use Rattle.stages.specs.Stage.{put-state, Stage, Staged, CpuBelow, StateBelow, Below, Ranged}
 use Rattle.stages.proofs.Compose.{stage-then, stage-full, stage-as}
 use Rattle.turn.specs.declared.timing.Turn.{Turn}
@@ -24,6 +24,8 @@ use Rattle.turn.proofs.Bounded.{times-below}
 use Rattle.wakeup.proofs.Bounded.{serve-wakeups-below}
 use Rattle.schedule.specs.Begun.{CanBegin}
 use Rattle.columns.proofs.Tests.{never}
+use Rattle.numbers.specs.Limits.{max-number, max-elapsed}
+use Rattle.stages.specs.Bounds.{t-counted, t-timed, b-woken}
 
 -- wake-ups do not touch what a turn is measured by
 module _ (time : ℕ) where
@@ -59,19 +61,19 @@ ranged-at {k = k} {f = f} t' b' h g l u a o =
     in let s = f (state-of k (a .M))
     in record { M = put-state k s (a .M); eq = z .after refl; fits = z .fits refl; below = put-below t' b' h g k s (a .M) o (a .below) }
 
-abbrev pub counting-ranged : {c n k time : ℕ} {m : List ℕ} → CanBegin c n k time m → Ranged c n 4611686018427387904 4611686018427387903 m
+abbrev pub counting-ranged : {c n k time : ℕ} {m : List ℕ} → CanBegin c n k time m → Ranged c n t-counted max-number m
 counting-ranged a = record { M = a .M; eq = a .eq; fits = a .fits; below = a .below }
 
 -- t: the switch is counted
 module _ {c n k time : ℕ} {m m' : List ℕ} (h : k < c) (a : CanBegin c n k time m) (t : Staged c n k m m' false (λ (s : State). on-cpu count-switch s)) where
-  abbrev start : Ranged c n 4611686018427387904 4611686018427387903 m
+  abbrev start : Ranged c n t-counted max-number m
   start = counting-ranged a
 
   abbrev counted : State
   counted = on-cpu count-switch (state-of k (a .M))
 
-  pub counted-ranged : Ranged c n 4611686018427387904 4611686018427387903 m'
-  counted-ranged = ranged-at 4611686018427387904 4611686018427387903 (omega arith) (omega arith) h t start (a .counted)
+  pub counted-ranged : Ranged c n t-counted max-number m'
+  counted-ranged = ranged-at t-counted max-number (omega arith) (omega arith) h t start (a .counted)
 
   counted-fits : CpuFits n (counted .cpu)
   counted-fits =
@@ -92,7 +94,7 @@ module _ {c n k time : ℕ} {m m' : List ℕ} (h : k < c) (a : CanBegin c n k ti
         timers-rise = o .timers-rise;
       }
 
-  served-below : StateBelow n 4611686018427387904 4611686019501129727 (serve-wakeups time counted)
+  served-below : StateBelow n t-counted b-woken (serve-wakeups time counted)
   served-below = serve-wakeups-below time counted counted-fits (a .counted)
 
   module _ {m'' : List ℕ} where
@@ -105,8 +107,8 @@ module _ {c n k time : ℕ} {m m' : List ℕ} (h : k < c) (a : CanBegin c n k ti
 
     -- u: wake-ups are served
     module _ (u : Staged c n k m' m'' false (λ (s : State). serve-wakeups time s)) where
-      pub served-ranged : Ranged c n 4611686018427387904 4611686019501129727 m''
-      served-ranged = ranged-at 4611686018427387904 4611686019501129727 (omega arith) (omega arith) h (stage-then h t u) start served-below
+      pub served-ranged : Ranged c n t-counted b-woken m''
+      served-ranged = ranged-at t-counted b-woken (omega arith) (omega arith) h (stage-then h t u) start served-below
 
       -- v: times are kept
       module _ {m''' : List ℕ} {r : Turn} (v : Stage c n k m'' m''' false r (λ (s : State). on-cpu (times time) s) (λ (s : State). turn-of time (s .cpu))) where
@@ -114,11 +116,11 @@ module _ {c n k time : ℕ} {m m' : List ℕ} (h : k < c) (a : CanBegin c n k ti
         unfolding before-selection
         begun = stage-as (stage-then h (stage-then h t u) v) (λ M e o. (refl, λ z y. y ∙ turn-kept time (on-cpu count-switch (state-of k M))))
 
-        pub begun-elapsed : r .elapsed ≤ 4503599627370495
-        begun-elapsed = subst (λ (x : Turn). x .elapsed ≤ 4503599627370495) (sym (begun .stage (a .M) (a .eq) (a .fits) .answer refl)) (a .in-time)
+        pub begun-elapsed : r .elapsed ≤ max-elapsed
+        begun-elapsed = subst (λ (x : Turn). x .elapsed ≤ max-elapsed) (sym (begun .stage (a .M) (a .eq) (a .fits) .answer refl)) (a .in-time)
 
-        pub begun-ranged : time ≤ 4611686018427387903 → Ranged c n 4611686027017322496 4611686019501129727 m'''
+        pub begun-ranged : time ≤ max-number → Ranged c n t-timed b-woken m'''
         unfolding before-selection
         begun-ranged l =
-            ranged-at 4611686027017322496 4611686019501129727 (omega arith) (omega arith) h begun start
-            (times-below time (serve-wakeups time counted) (omega arith) (subst (λ (x : Turn). x .elapsed ≤ 4503599627370495) (sym (turn-kept time counted)) (a .in-time)) served-below)
+            ranged-at t-timed b-woken (omega arith) (omega arith) h begun start
+            (times-below time (serve-wakeups time counted) (omega arith) (subst (λ (x : Turn). x .elapsed ≤ max-elapsed) (sym (turn-kept time counted)) (a .in-time)) served-below)

@@ -9,7 +9,7 @@ use Rattle.machine.specs.Machine.{Machine, cpu-at}
 use Rattle.machine.specs.Encode.{encode}
 use Rattle.machine.specs.Shape.{Fits}
 use Rattle.machine.specs.Outcome.{Outcome}
-use Rattle.decision.specs.State.{State, state-of}
+use Rattle.model.specs.State.{State, state-of}
 
 -- `full` says whether an insertion found no room; if not, m' stands for the machine after the call, and r is the result
 pub record DecidesAt (c n : ℕ) (m' : List ℕ) (full : Bool) (r : ℕ) (o : Outcome) : Type 0 where

@@ -9,9 +9,9 @@ use Rattle.percpu.specs.Cpu.{Cpu}
 use Rattle.machine.specs.Machine.{Machine, cpu-at}
 use Rattle.machine.specs.Encode.{encode}
 use Rattle.machine.specs.Shape.{Fits, Image}
-use Rattle.decision.specs.State.{State, state-of}
-use Rattle.decision.specs.Steal.{Stealing}
-use Rattle.decision.specs.Decision.{Selected, Scheduled}
+use Rattle.model.specs.State.{State, state-of}
+use Rattle.model.specs.Steal.{Stealing}
+use Rattle.model.specs.Schedule.{Selected, Scheduled}
 
 -- what a part gives: the state, every CPU (this one as it was), and an answer
 pub record Result (R : Type 0) : Type 0 where

@@ -8,8 +8,11 @@ use Rattle.cpu_stats.specs.declared.CpuState.the-variants.{Idle}
 use Rattle.cpu_stats.specs.With.{stats-state}
 use Rattle.percpu.specs.Cpu.{Cpu}
 use Rattle.percpu.specs.With.{cpu-stats}
-use Rattle.decision.specs.State.{State, on-cpu}
-use Rattle.decision.specs.SwitchTo.{hand-over, switch-to}
+use Rattle.model.specs.State.{State, on-cpu}
+use Rattle.model.specs.SwitchTo.{switch-to}
+use Rattle.model.specs.Handover.{hand-over}
+use Rattle.answer.specs.declared.SwitchResult.{SwitchResult}
+use Rattle.answer.specs.declared.SwitchResult.the-variants.{Switched, AllContextsIdle}
 
 -- `picked-as`, the state of it
 unfoldable pub handed : (time : ℕ) (was-idle : Bool) → Option ℕ → State → State
@@ -27,6 +30,6 @@ unfoldable pub switched : (k time : ℕ) → Option ℕ → State → State
 switched k time none s = marked-idle s
 switched k time (some x) s = switched-to k time x s
 
-unfoldable pub switch-result : Option ℕ → ℕ
-switch-result none = 2
-switch-result (some x) = 1
+unfoldable pub switch-result : Option ℕ → SwitchResult
+switch-result none = AllContextsIdle
+switch-result (some x) = Switched

@@ -4,11 +4,13 @@ ghost use mathlib.Core.Path.{_≡_};
 ghost use mathlib.Core.Bool.{Bool, false};
 ghost use Prim.Native.Nat.{ℕ, _<_, _≤_};
 ghost use Rattle.machine.specs.Shape.{Image};
-ghost use Rattle.decision.specs.State.{State};
-ghost use Rattle.decision.specs.Charging.{before-selection};
+ghost use Rattle.model.specs.State.{State};
+ghost use Rattle.model.specs.Turn.{before-selection};
 ghost use Rattle.stages.specs.Stage.{Stage, Ranged};
 ghost use Rattle.turn.specs.Turn.{turn-of};
 ghost use Rattle.schedule.specs.Begun.{CanBegin};
+ghost use Rattle.numbers.specs.Limits.{max-number, max-elapsed};
+ghost use Rattle.stages.specs.Bounds.{t-timed, b-woken};
 
 pub struct Begun {
     // a wake-up found no room
@@ -18,13 +20,13 @@ pub struct Begun {
 
 pub fn begin(m: &mut [u64], c: usize, n: usize, k: usize, time: u64) -> Begun
     requires { ⌜ Image c n (now m) ⌝ }
-    requires { ⌜ (k < c) × (time ≤ 4611686018427387903) ⌝ }
+    requires { ⌜ (k < c) × (time ≤ max-number) ⌝ }
     requires { ⌜ CanBegin c n k time (now m) ⌝ }
     ensures { λ r. ⌜ Stage c n k (now (m .entry)) (now (m .exit)) (r .full) (r .turn) (λ (s : State). before-selection time s) (λ (s : State). turn-of time (s .cpu)) ⌝ }
-    ensures { λ r. ⌜ (r .full ≡ false → (r .turn .elapsed ≤ 4503599627370495) × Ranged c n 4611686027017322496 4611686019501129727 (now (m .exit))) ⌝ }
+    ensures { λ r. ⌜ (r .full ≡ false → (r .turn .elapsed ≤ max-elapsed) × Ranged c n t-timed b-woken (now (m .exit))) ⌝ }
 {
     turn::count_switch(m, c, n, k);
-    let mut wakeups = [0u64; 384];
+    let mut wakeups = [0u64; wakeup_read::WAKEUP_WORDS];
     if wakeup::serve_wakeups(m, c, n, k, time, &mut wakeups) {
         return Begun {
             full: true,

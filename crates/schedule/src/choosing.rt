@@ -9,12 +9,13 @@ ghost use Rattle.percpu.specs.Cpu.{Cpu};
 ghost use Rattle.machine.specs.Machine.{Machine};
 ghost use Rattle.machine.specs.Encode.{encode};
 ghost use Rattle.machine.specs.Shape.{Image, Fits};
-ghost use Rattle.decision.specs.State.{State, state-of, prev-runnable};
-ghost use Rattle.decision.specs.Decision.{choose-and-steal};
+ghost use Rattle.model.specs.State.{State, state-of, prev-runnable};
+ghost use Rattle.model.specs.Schedule.{choose-and-steal};
 ghost use Rattle.stages.specs.Stage.{Ranged};
 ghost use Rattle.picked.specs.Names.{picked-of};
 ghost use Rattle.schedule.specs.Part.{of-stealing, Part};
 ghost use Rattle.schedule.specs.Named.{NamedBelow};
+ghost use Rattle.stages.specs.Bounds.{t-timed, b-charged, b-stolen};
 
 // An idle holder never counts as runnable.
 pub fn prev_runnable(m: &[u64], c: usize, n: usize, k: usize) -> bool
@@ -26,7 +27,7 @@ pub fn prev_runnable(m: &[u64], c: usize, n: usize, k: usize) -> bool
     if b.sched_ctxt == b.idle_ctxt {
         return false;
     }
-    let x = machine::index(b.sched_ctxt);
+    let x = numbers::index(b.sched_ctxt);
     let q = machine::load(m, c, n, x);
     let status = q.status;
     status.is_runnable()
@@ -35,18 +36,18 @@ pub fn prev_runnable(m: &[u64], c: usize, n: usize, k: usize) -> bool
 pub fn choose_and_steal(m: &mut [u64], c: usize, n: usize, k: usize, time: u64, runs: bool) -> Moved
     requires { ⌜ Image c n (now m) ⌝ }
     requires { ⌜ k < c ⌝ }
-    requires { ⌜ Ranged c n 4611686027017322496 4899916395652841471 (now m) ⌝ }
+    requires { ⌜ Ranged c n t-timed b-charged (now m) ⌝ }
     requires { ⌜ ((M : Machine) → now m ≡ encode M → Fits c n M → runs ≡ prev-runnable (state-of k M)) ⌝ }
     ensures { λ r. ⌜ Part c n k (now (m .entry)) (now (m .exit)) (r .full) (picked-of (r .winner)) (λ (cpus : List Cpu) (s : State). of-stealing (choose-and-steal k time cpus s)) ⌝ }
-    ensures { λ r. ⌜ (r .full ≡ false → NamedBelow n (picked-of (r .winner)) × Ranged c n 4611686027017322496 9799832792379424766 (now (m .exit))) ⌝ }
+    ensures { λ r. ⌜ (r .full ≡ false → NamedBelow n (picked-of (r .winner)) × Ranged c n t-timed b-stolen (now (m .exit))) ⌝ }
 {
     let b = stages::load_block(m, c, n, k);
-    let mut keys = [0u64; 192];
+    let mut keys = [0u64; select::KEY_WORDS];
     let s = select::select(m, c, n, k, time, &mut keys);
     let best = s.locked;
     let winner = s.winner;
     let locked = Locked {
-        sched_ctxt: machine::index(b.sched_ctxt),
+        sched_ctxt: numbers::index(b.sched_ctxt),
         best,
     };
     steal::steal(m, c, n, k, runs, locked, winner)

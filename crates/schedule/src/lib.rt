@@ -6,6 +6,7 @@ mod scheduling;
 mod selecting;
 mod switching;
 
+pub use calls::Ticked;
 pub use calls::direct_switch_to;
 pub use calls::switch;
 pub use calls::tick;

@@ -9,21 +9,23 @@ ghost use mathlib.Core.List.{List};
 ghost use Prim.Native.Nat.{_<_, _≤_};
 ghost use Rattle.percpu.specs.Cpu.{Cpu};
 ghost use Rattle.machine.specs.Shape.{Image};
-ghost use Rattle.decision.specs.State.{State};
-ghost use Rattle.decision.specs.Decision.{schedule};
+ghost use Rattle.model.specs.State.{State};
+ghost use Rattle.model.specs.Schedule.{schedule};
 ghost use Rattle.stages.specs.Stage.{Staged, Ranged};
 ghost use Rattle.picked.specs.Names.{picked-of};
 ghost use Rattle.schedule.specs.Begun.{CanBegin};
 ghost use Rattle.schedule.specs.Part.{of-scheduled, Part};
 ghost use Rattle.schedule.specs.Named.{NamedBelow};
 ghost use Rattle.schedule.specs.Switched.{handed};
+ghost use Rattle.numbers.specs.Limits.{max-number};
+ghost use Rattle.stages.specs.Bounds.{t-timed, t-handed, b-advanced};
 
 fn hand_over(m: &mut [u64], c: usize, n: usize, k: usize, time: u64, was_idle: bool, next: Picked)
     requires { ⌜ Image c n (now m) ⌝ }
-    requires { ⌜ (k < c) × (time ≤ 4611686018427387903) × NamedBelow n (picked-of next) ⌝ }
-    requires { ⌜ Ranged c n 4611686027017322496 12105675801593118718 (now m) ⌝ }
+    requires { ⌜ (k < c) × (time ≤ max-number) × NamedBelow n (picked-of next) ⌝ }
+    requires { ⌜ Ranged c n t-timed b-advanced (now m) ⌝ }
     ensures { λ r. ⌜ Staged c n k (now (m .entry)) (now (m .exit)) false (λ (s : State). handed time «was_idle» (picked-of next) s) ⌝ }
-    ensures { λ r. ⌜ Ranged c n 9223372045444710400 12105675801593118718 (now (m .exit)) ⌝ }
+    ensures { λ r. ⌜ Ranged c n t-handed b-advanced (now (m .exit)) ⌝ }
 {
     match next {
         Picked::Nobody => {
@@ -37,10 +39,10 @@ fn hand_over(m: &mut [u64], c: usize, n: usize, k: usize, time: u64, was_idle: b
 
 pub fn schedule(m: &mut [u64], c: usize, n: usize, k: usize, time: u64) -> Next
     requires { ⌜ Image c n (now m) ⌝ }
-    requires { ⌜ (k < c) × (time ≤ 4611686018427387903) ⌝ }
+    requires { ⌜ (k < c) × (time ≤ max-number) ⌝ }
     requires { ⌜ CanBegin c n k time (now m) ⌝ }
     ensures { λ r. ⌜ Part c n k (now (m .entry)) (now (m .exit)) (r .full) (picked-of (r .context)) (λ (cpus : List Cpu) (s : State). of-scheduled (schedule k time cpus s)) ⌝ }
-    ensures { λ r. ⌜ (r .full ≡ false → NamedBelow n (picked-of (r .context)) × Ranged c n 9223372045444710400 12105675801593118718 (now (m .exit))) ⌝ }
+    ensures { λ r. ⌜ (r .full ≡ false → NamedBelow n (picked-of (r .context)) × Ranged c n t-handed b-advanced (now (m .exit))) ⌝ }
 {
     let begun = beginning::begin(m, c, n, k, time);
     if begun.full {

@@ -7,12 +7,14 @@ ghost use mathlib.Core.List.{List};
 ghost use Prim.Native.Nat.{_<_, _≤_};
 ghost use Rattle.percpu.specs.Cpu.{Cpu};
 ghost use Rattle.machine.specs.Shape.{Image};
-ghost use Rattle.decision.specs.State.{State};
-ghost use Rattle.decision.specs.Decision.{selected, select-next-context};
+ghost use Rattle.model.specs.State.{State};
+ghost use Rattle.model.specs.Schedule.{selected, select-next-context};
 ghost use Rattle.stages.specs.Stage.{Ranged};
 ghost use Rattle.picked.specs.Names.{picked-of};
 ghost use Rattle.schedule.specs.Part.{of-selected, Part};
 ghost use Rattle.schedule.specs.Named.{NamedBelow};
+ghost use Rattle.numbers.specs.Limits.{max-elapsed};
+ghost use Rattle.stages.specs.Bounds.{t-timed, b-woken, b-charged, b-advanced};
 
 pub struct Next {
     // an insertion found no room
@@ -33,10 +35,10 @@ pub fn no_room() -> Next
 // After the holder is charged.
 fn selected(m: &mut [u64], c: usize, n: usize, k: usize, time: u64, elapsed: u64) -> Next
     requires { ⌜ Image c n (now m) ⌝ }
-    requires { ⌜ (k < c) × (elapsed ≤ 4503599627370495) ⌝ }
-    requires { ⌜ Ranged c n 4611686027017322496 4899916395652841471 (now m) ⌝ }
+    requires { ⌜ (k < c) × (elapsed ≤ max-elapsed) ⌝ }
+    requires { ⌜ Ranged c n t-timed b-charged (now m) ⌝ }
     ensures { λ r. ⌜ Part c n k (now (m .entry)) (now (m .exit)) (r .full) (picked-of (r .context)) (λ (cpus : List Cpu) (s : State). of-selected (selected k time elapsed cpus s)) ⌝ }
-    ensures { λ r. ⌜ (r .full ≡ false → NamedBelow n (picked-of (r .context)) × Ranged c n 4611686027017322496 12105675801593118718 (now (m .exit))) ⌝ }
+    ensures { λ r. ⌜ (r .full ≡ false → NamedBelow n (picked-of (r .context)) × Ranged c n t-timed b-advanced (now (m .exit))) ⌝ }
 {
     let runs = choosing::prev_runnable(m, c, n, k);
     let moved = choosing::choose_and_steal(m, c, n, k, time, runs);
@@ -44,7 +46,7 @@ fn selected(m: &mut [u64], c: usize, n: usize, k: usize, time: u64, elapsed: u64
         return no_room();
     }
     let winner = moved.winner;
-    let won = steal_judge::is_some(winner);
+    let won = winner.is_some();
     let gained = ticks::elapsed_ticks(elapsed);
     if handover::settle(m, c, n, k, gained, won, runs) {
         return no_room();
@@ -64,10 +66,10 @@ pub fn select_next_context(
     elapsed: u64,
 ) -> Next
     requires { ⌜ Image c n (now m) ⌝ }
-    requires { ⌜ (k < c) × (elapsed ≤ 4503599627370495) ⌝ }
-    requires { ⌜ Ranged c n 4611686027017322496 4611686019501129727 (now m) ⌝ }
+    requires { ⌜ (k < c) × (elapsed ≤ max-elapsed) ⌝ }
+    requires { ⌜ Ranged c n t-timed b-woken (now m) ⌝ }
     ensures { λ r. ⌜ Part c n k (now (m .entry)) (now (m .exit)) (r .full) (picked-of (r .context)) (λ (cpus : List Cpu) (s : State). of-selected (select-next-context k time elapsed cpus s)) ⌝ }
-    ensures { λ r. ⌜ (r .full ≡ false → NamedBelow n (picked-of (r .context)) × Ranged c n 4611686027017322496 12105675801593118718 (now (m .exit))) ⌝ }
+    ensures { λ r. ⌜ (r .full ≡ false → NamedBelow n (picked-of (r .context)) × Ranged c n t-timed b-advanced (now (m .exit))) ⌝ }
 {
     if turn::charge_holder(m, c, n, k, elapsed) {
         return no_room();

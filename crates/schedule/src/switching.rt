@@ -1,5 +1,6 @@
 // `switch_inner`: a direct switch back, or a decision and its switch.
 use crate::scheduling;
+use answer::SwitchResult;
 use cpu_stats::CpuState;
 use cpu_stats::lent::Change;
 use picked::Picked;
@@ -9,19 +10,22 @@ ghost use mathlib.Core.List.{List};
 ghost use Prim.Native.Nat.{_<_, _≤_};
 ghost use Rattle.percpu.specs.Cpu.{Cpu};
 ghost use Rattle.machine.specs.Shape.{Image};
-ghost use Rattle.decision.specs.State.{State};
-ghost use Rattle.decision.specs.Decision.{schedule, after-schedule, switch-inner};
+ghost use Rattle.model.specs.State.{State};
+ghost use Rattle.model.specs.Schedule.{schedule, after-schedule, switch-inner};
 ghost use Rattle.stages.specs.Stage.{Stage, Staged, Ranged};
 ghost use Rattle.picked.specs.Names.{picked-of};
 ghost use Rattle.schedule.specs.Begun.{CanBegin};
 ghost use Rattle.schedule.specs.Decides.{Ends};
 ghost use Rattle.schedule.specs.Named.{NamedBelow};
 ghost use Rattle.schedule.specs.Switched.{marked-idle, switched-to, switched, switch-result};
+ghost use Rattle.numbers.specs.Limits.{max-number};
+ghost use Rattle.stages.specs.Bounds.{t-handed, b-advanced};
+ghost use Rattle.answer.specs.Number.{result-number};
 
-// Whether an insertion found no room, and the result of the call.
+// Whether an insertion found no room, and what the switch came to; without room that says nothing.
 pub struct Decided {
     pub full: bool,
-    pub result: u64,
+    pub result: SwitchResult,
 }
 
 fn mark_idle(m: &mut [u64], c: usize, n: usize, k: usize)
@@ -33,56 +37,56 @@ fn mark_idle(m: &mut [u64], c: usize, n: usize, k: usize)
     let s = b.stats;
     let change = Change::State(CpuState::Idle);
     let stats = cpu_stats::lent::update(s, change);
-    let after = turn::with_stats(b, stats);
+    let after = b.with_stats(stats);
     stages::store_block(m, c, n, k, after);
 }
 
 fn switch_unless_current(m: &mut [u64], c: usize, n: usize, k: usize, time: u64, x: usize) -> bool
     requires { ⌜ Image c n (now m) ⌝ }
-    requires { ⌜ (k < c) × (x < n) × (time ≤ 4611686018427387903) ⌝ }
-    requires { ⌜ Ranged c n 9223372045444710400 12105675801593118718 (now m) ⌝ }
+    requires { ⌜ (k < c) × (x < n) × (time ≤ max-number) ⌝ }
+    requires { ⌜ Ranged c n t-handed b-advanced (now m) ⌝ }
     ensures { λ r. ⌜ Staged c n k (now (m .entry)) (now (m .exit)) r (λ (s : State). switched-to k time x s) ⌝ }
 {
     let b = stages::load_block(m, c, n, k);
-    if b.current_ctxt == machine::word(x) {
+    if b.current_ctxt == numbers::word(x) {
         return false;
     }
     switch_to::switch_to(m, c, n, k, time, x)
 }
 
-// Keeping the holder answers 2 and marks the CPU Idle, though the holder may run.
+// Keeping the holder is AllContextsIdle and marks the CPU Idle, though the holder may run.
 fn switch_as(m: &mut [u64], c: usize, n: usize, k: usize, time: u64, picked: Picked) -> Decided
     requires { ⌜ Image c n (now m) ⌝ }
-    requires { ⌜ (k < c) × (time ≤ 4611686018427387903) × NamedBelow n (picked-of picked) ⌝ }
-    requires { ⌜ Ranged c n 9223372045444710400 12105675801593118718 (now m) ⌝ }
-    ensures { λ r. ⌜ Stage c n k (now (m .entry)) (now (m .exit)) (r .full) (r .result) (λ (s : State). switched k time (picked-of picked) s) (λ (s : State). switch-result (picked-of picked)) ⌝ }
+    requires { ⌜ (k < c) × (time ≤ max-number) × NamedBelow n (picked-of picked) ⌝ }
+    requires { ⌜ Ranged c n t-handed b-advanced (now m) ⌝ }
+    ensures { λ r. ⌜ Stage c n k (now (m .entry)) (now (m .exit)) (r .full) (result-number (r .result)) (λ (s : State). switched k time (picked-of picked) s) (λ (s : State). result-number (switch-result (picked-of picked))) ⌝ }
 {
     match picked {
         Picked::Nobody => {
             mark_idle(m, c, n, k);
             Decided {
                 full: false,
-                result: 2,
+                result: SwitchResult::AllContextsIdle,
             }
         }
         Picked::Somebody(x) => Decided {
             full: switch_unless_current(m, c, n, k, time, x),
-            result: 1,
+            result: SwitchResult::Switched,
         },
     }
 }
 
 fn decide(m: &mut [u64], c: usize, n: usize, k: usize, time: u64) -> Decided
     requires { ⌜ Image c n (now m) ⌝ }
-    requires { ⌜ (k < c) × (time ≤ 4611686018427387903) ⌝ }
+    requires { ⌜ (k < c) × (time ≤ max-number) ⌝ }
     requires { ⌜ CanBegin c n k time (now m) ⌝ }
-    ensures { λ r. ⌜ Ends c n k (now (m .entry)) (now (m .exit)) (r .full) (r .result) (λ (cpus : List Cpu) (s : State). after-schedule k time (schedule k time cpus s)) ⌝ }
+    ensures { λ r. ⌜ Ends c n k (now (m .entry)) (now (m .exit)) (r .full) (result-number (r .result)) (λ (cpus : List Cpu) (s : State). after-schedule k time (schedule k time cpus s)) ⌝ }
 {
     let next = scheduling::schedule(m, c, n, k, time);
     if next.full {
         return Decided {
             full: true,
-            result: 0,
+            result: SwitchResult::AllContextsIdle,
         };
     }
     let picked = next.context;
@@ -91,19 +95,19 @@ fn decide(m: &mut [u64], c: usize, n: usize, k: usize, time: u64) -> Decided
 
 pub fn switch_inner(m: &mut [u64], c: usize, n: usize, k: usize, time: u64) -> Decided
     requires { ⌜ Image c n (now m) ⌝ }
-    requires { ⌜ (k < c) × (time ≤ 4611686018427387903) ⌝ }
+    requires { ⌜ (k < c) × (time ≤ max-number) ⌝ }
     requires { ⌜ CanBegin c n k time (now m) ⌝ }
-    ensures { λ r. ⌜ Ends c n k (now (m .entry)) (now (m .exit)) (r .full) (r .result) (λ (cpus : List Cpu) (s : State). switch-inner k time cpus s) ⌝ }
+    ensures { λ r. ⌜ Ends c n k (now (m .entry)) (now (m .exit)) (r .full) (result-number (r .result)) (λ (cpus : List Cpu) (s : State). switch-inner k time cpus s) ⌝ }
 {
     let back = switch_to::try_direct_switch_back(m, c, n, k, time);
     match back {
         DirectSwitch::NoRoom => Decided {
             full: true,
-            result: 0,
+            result: SwitchResult::AllContextsIdle,
         },
         DirectSwitch::Switched => Decided {
             full: false,
-            result: 1,
+            result: SwitchResult::Switched,
         },
         DirectSwitch::NotSwitched => decide(m, c, n, k, time),
     }

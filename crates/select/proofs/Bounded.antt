@@ -6,23 +6,24 @@ use Prim.Native.Nat.{ℕ, _-_, _<_, _≤_}
 use native.Mathlib.Omega.{arith}
 use lib.Dec.{leb}
 use Rattle.columns.specs.Common.{All}
-use Rattle.run_queue.specs.declared.Key.{Key}
-use Rattle.run_queue.specs.declared.Entry.{Entry}
-use Rattle.run_queue.specs.Order.{entry-before}
-use Rattle.run_queue.specs.Queue.{keyed, queue-remove}
+use Rattle.entries.specs.declared.Key.{Key}
+use Rattle.entries.specs.declared.Entry.{Entry}
+use Rattle.entries.specs.Order.{entry-before}
+use Rattle.entries.specs.Queue.{keyed, queue-remove}
 use Rattle.percpu.specs.Cpu.{Cpu}
 use Rattle.percpu.specs.Layout.{no-entry}
 use Rattle.percpu.specs.With.{cpu-queue, cpu-queue-len, cpu-total-weight, cpu-published-weight, cpu-v}
 use Rattle.machine.specs.Machine.{context-at}
-use Rattle.decision.specs.State.{State, at, on-cpu, queue-key, without-key, holder, prev-runnable}
-use Rattle.decision.specs.Scan.{Scan}
-use Rattle.decision.specs.Choice.{Choice, without-keys, cleaned-up, goes-before, prev-is-eligible, ineligible-holder, nobody, choice-by, choice, taken-out, chosen}
-use Rattle.decision.specs.Decision.{scanned}
-use Rattle.decision.proofs.Lists.{fold-keeps}
-use Rattle.decision.proofs.Sorted.{all-remove}
+use Rattle.model.specs.State.{State, at, on-cpu, holder, prev-runnable}
+use Rattle.model.specs.Scan.{Scan}
+use Rattle.model.specs.Choice.{Choice, without-keys, cleaned-up, goes-before, prev-is-eligible, ineligible-holder, nobody, choice-by, choice, taken-out, chosen}
+use Rattle.model.specs.Schedule.{scanned}
+use Rattle.model.proofs.Lists.{fold-keeps}
+use Rattle.model.proofs.Sorted.{all-remove}
 use Rattle.stages.specs.Stage.{CpuBelow, StateBelow}
 use Rattle.stages.proofs.Fitting.{all-of, of-all}
 use Rattle.select.proofs.ScanBounded.{pick, Kept, set-kept, unkeyed, late-below, below-scan}
+use Rattle.context.specs.Key.{queue-key, without-key}
 
 module _ (n t b : ℕ) where
   -- V after the choice

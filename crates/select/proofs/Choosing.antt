@@ -7,12 +7,12 @@ use Prim.Native.Nat.{ℕ}
 use lib.Dec.{ltb, leb, eqb}
 use Rattle.context.specs.declared.Context.{Context}
 use Rattle.context.specs.Status.{is-runnable}
-use Rattle.run_queue.specs.declared.Entry.{Entry}
+use Rattle.entries.specs.declared.Entry.{Entry}
 use Rattle.percpu.specs.declared.PercpuBlock.{PercpuBlock}
 use Rattle.machine.specs.Machine.{context-at}
-use Rattle.decision.specs.State.{State, holder, prev-runnable}
-use Rattle.decision.specs.Scan.{Scan}
-use Rattle.decision.specs.Choice.{Choice, named, goes-before, prev-is-eligible, ineligible-holder, against, nobody, without-entry, choice-by, choice}
+use Rattle.model.specs.State.{State, holder, prev-runnable}
+use Rattle.model.specs.Scan.{Scan}
+use Rattle.model.specs.Choice.{Choice, named, goes-before, prev-is-eligible, ineligible-holder, against, nobody, without-entry, choice-by, choice}
 use Rattle.select.specs.declared.Holder.{Holder}
 use Rattle.select.specs.declared.Best.{Best}
 use Rattle.select.specs.declared.Best.the-variants.{Nobody, Found}

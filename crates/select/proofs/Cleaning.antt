@@ -9,17 +9,17 @@ use lib.ListN.{length}
 use lib.Seq.{set-getD}
 use Rattle.columns.specs.Common.{if_then_else_}
 use Rattle.context.specs.declared.Context.{Context}
-use Rattle.run_queue.specs.declared.Key.{Key}
-use Rattle.run_queue.specs.Queue.{queue-remove}
+use Rattle.entries.specs.declared.Key.{Key}
+use Rattle.entries.specs.Queue.{queue-remove}
 use Rattle.percpu.specs.declared.PercpuBlock.{PercpuBlock}
 use Rattle.percpu.specs.Cpu.{Cpu}
 use Rattle.percpu.specs.With.{cpu-block, cpu-queue, cpu-queue-len, cpu-total-weight, cpu-published-weight, cpu-v}
 use Rattle.machine.specs.Machine.{Machine, context-at, cpu-at, no-cpu}
 use Rattle.machine.specs.Encode.{encode}
 use Rattle.machine.specs.Shape.{ContextFits, Fits, Image}
-use Rattle.decision.specs.State.{State, on-cpu, put-context, remove-key, state-of, queue-key, without-key}
-use Rattle.decision.specs.Scan.{Scan}
-use Rattle.decision.specs.Choice.{without-keys, cleaned-up, dequeued, taken-out}
+use Rattle.model.specs.State.{State, on-cpu, put-context, remove-key, state-of}
+use Rattle.model.specs.Scan.{Scan}
+use Rattle.model.specs.Choice.{without-keys, cleaned-up, dequeued, taken-out}
 use Rattle.stages.specs.Stage.{put-state, Staged}
 use Rattle.stages.specs.Read.{BlockFits}
 use Rattle.stages.proofs.Reading.{stage-none}
@@ -30,6 +30,7 @@ use Rattle.select.specs.Scanning.{key-at, keys-in}
 use Rattle.select.specs.Cleaning.{lightened, remove-keys, cleaned}
 use Rattle.select.proofs.Judging.{other}
 use Rattle.select.proofs.Walking.{fold-append}
+use Rattle.context.specs.Key.{queue-key, without-key}
 
 -- other contexts, and the CPU as it was
 pub put-contexts : (k : ℕ) (cs : List Context) (M : Machine) → record { contexts = cs; cpus = M .cpus } ≡ put-state k (record { contexts = cs; cpu = cpu-at M k; no-room = false }) M

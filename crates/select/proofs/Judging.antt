@@ -4,13 +4,13 @@ use mathlib.Core.Bool.{Bool, true, false, not, _||_}
 use Prim.Native.Nat.{ℕ}
 use lib.Dec.{eqb}
 use Rattle.context.specs.declared.Context.{Context}
-use Rattle.run_queue.specs.declared.Entry.{Entry}
+use Rattle.entries.specs.declared.Entry.{Entry}
 use Rattle.runnable.specs.declared.UpdateResult.{UpdateResult}
 use Rattle.runnable.specs.declared.UpdateResult.the-variants.{CanSwitch}
 use Rattle.runnable.specs.Runnable.{update-runnable}
 use Rattle.percpu.specs.Cpu.{Cpu}
 use Rattle.columns.specs.Common.{if_then_else_}
-use Rattle.decision.specs.Scan.{Visit, pass, gone, no-addr-space, ready, by-update, judge}
+use Rattle.model.specs.Scan.{Visit, pass, gone, no-addr-space, ready, by-update, judge}
 
 -- the other arm of a choice
 pub other : {A : Type 0} (b : Bool) (x : A) {y : A} → b ≡ false → y ≡ if b then x else y

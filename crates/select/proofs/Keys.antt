@@ -6,7 +6,7 @@ use native.Mathlib.Omega.{arith}
 use native.Mathlib.Numerals.{add-one}
 use lib.ListN.{length, set, length-append, length-set}
 use lib.Seq.{getD-set-same, getD-set-other}
-use Rattle.run_queue.specs.declared.Key.{Key}
+use Rattle.entries.specs.declared.Key.{Key}
 use Rattle.select.specs.Scanning.{key-at, keys-in}
 
 pub length-keys : (d : List ℕ) (n : ℕ) → length (keys-in d n) ≡ n

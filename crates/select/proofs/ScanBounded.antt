@@ -13,18 +13,19 @@ use Rattle.columns.proofs.Tests.{by-test}
 use Rattle.context.specs.declared.Context.{Context}
 use Rattle.context.specs.Status.{is-runnable}
 use Rattle.cpu_set.specs.Set.{contains}
-use Rattle.run_queue.specs.declared.Entry.{Entry}
+use Rattle.entries.specs.declared.Entry.{Entry}
 use Rattle.runnable.specs.declared.UpdateResult.{UpdateResult}
 use Rattle.runnable.specs.declared.UpdateResult.the-variants.{CanSwitch, Skip, Blocked}
 use Rattle.runnable.specs.Runnable.{update-runnable, wake-has-come}
 use Rattle.percpu.specs.Cpu.{Cpu}
 use Rattle.machine.specs.Machine.{context-at, no-context}
 use Rattle.machine.proofs.Steps.{getD-set}
-use Rattle.decision.specs.State.{without-key, is-some}
-use Rattle.decision.specs.Scan.{Scan, Visit, pass, gone, blocked, no-addr-space, ready, above, below, is-of, ineligible-min-vtime, is-eligible, by-update, judge, visit, visited, scan-step, scan-start, scan}
-use Rattle.decision.specs.Choice.{choice}
-use Rattle.decision.proofs.Lists.{all-at, fold-keeps-in}
+use Rattle.model.specs.State.{is-some}
+use Rattle.model.specs.Scan.{Scan, Visit, pass, gone, blocked, no-addr-space, ready, above, below, is-of, ineligible-min-vtime, is-eligible, by-update, judge, visit, visited, scan-step, scan-start, scan}
+use Rattle.model.specs.Choice.{choice}
+use Rattle.model.proofs.Lists.{all-at, fold-keeps-in}
 use Rattle.stages.specs.Stage.{ContextBelow}
+use Rattle.context.specs.Key.{without-key}
 
 -- what holds of both arms holds of the choice
 pub pick : {A : Type 0} {x y : A} (P : A → Type 0) (b : Bool) → P x → P y → P (if b then x else y)

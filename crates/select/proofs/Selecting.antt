@@ -5,16 +5,16 @@ use mathlib.Core.List.{List}
 use mathlib.Core.Option.{Option}
 use Prim.Native.Nat.{ℕ, _<_}
 use Rattle.context.specs.declared.Context.{Context}
-use Rattle.run_queue.specs.declared.Entry.{Entry}
+use Rattle.entries.specs.declared.Entry.{Entry}
 use Rattle.percpu.specs.declared.PercpuBlock.{PercpuBlock}
 use Rattle.percpu.specs.Cpu.{Cpu}
 use Rattle.machine.specs.Machine.{Machine, context-at, cpu-at}
 use Rattle.machine.specs.Encode.{encode}
 use Rattle.machine.specs.Shape.{Fits, Image}
-use Rattle.decision.specs.State.{State, state-of, holder}
-use Rattle.decision.specs.Scan.{Scan, judge, visit, visited, scan-step, scan}
-use Rattle.decision.specs.Choice.{Choice, ineligible-holder, choice, taken-out, chosen}
-use Rattle.decision.specs.Decision.{scanned}
+use Rattle.model.specs.State.{State, state-of, holder}
+use Rattle.model.specs.Scan.{Scan, judge, visit, visited, scan-step, scan}
+use Rattle.model.specs.Choice.{Choice, ineligible-holder, choice, taken-out, chosen}
+use Rattle.model.specs.Schedule.{scanned}
 use Rattle.stages.specs.Stage.{put-state, Stage, Staged}
 use Rattle.stages.proofs.Compose.{staged, stage-then, stage-as}
 use Rattle.select.specs.declared.MinVtime.{MinVtime}

@@ -8,13 +8,13 @@ use native.Mathlib.Omega.{arith}
 use lib.ListN.{set}
 use Rattle.columns.specs.Common.{if_then_else_}
 use Rattle.context.specs.declared.Context.{Context}
-use Rattle.run_queue.specs.declared.Key.{Key}
-use Rattle.run_queue.specs.declared.Entry.{Entry}
+use Rattle.entries.specs.declared.Key.{Key}
+use Rattle.entries.specs.declared.Entry.{Entry}
 use Rattle.machine.specs.Machine.{Machine, context-at, set-context}
 use Rattle.machine.specs.Encode.{encode}
 use Rattle.machine.specs.Shape.{Fits, Image, Went}
-use Rattle.decision.specs.Scan.{Scan, below, ineligible-min-vtime, is-eligible, pass, gone, blocked, no-addr-space, ready, visited}
-use Rattle.decision.specs.Scan as scan
+use Rattle.model.specs.Scan.{Scan, below, ineligible-min-vtime, is-eligible, pass, gone, blocked, no-addr-space, ready, visited}
+use Rattle.model.specs.Scan as scan
 use Rattle.select.specs.declared.Best.{Best}
 use Rattle.select.specs.declared.Best.the-variants.{Nobody, Found}
 use Rattle.select.specs.declared.Visit.{Visit}
@@ -22,6 +22,7 @@ use Rattle.select.specs.declared.Scanner.{Scanner}
 use Rattle.select.specs.declared.Scanned.{Scanned}
 use Rattle.select.specs.Values.{vtime-of, best-of, best-below, visit-of, scanner-cpu, picked}
 use Rattle.select.specs.Scanning.{visit-fits, visited-by, keys-in, found, ScansAt, Scans, given-up, Room, Grown}
+use Rattle.weights.specs.Weights.{max-weight}
 
 -- a scan's step, from what it does to each machine
 pub scans : {c n : ℕ} {m m' d : List ℕ} {r : Scanned} {s : Machine → Scan} → Image c n m → ((M : Machine) → m ≡ encode M → Fits c n M → ScansAt c n m' d r (s M) M) → Scans c n m m' d r s
@@ -139,7 +140,7 @@ module _ {n : ℕ} {w : Scanned} {d : List ℕ} (o : Room n w d) where
   pub grown-none : Grown n w w
   grown-none = record { best = nobody-below n _ (o .nobody); late = o .late; keys = omega arith; sum = omega arith }
 
-  pub grown-given-up : {r : Scanned} (x : ℕ) → r ≡ given-up w x → x ≤ 88761 → Grown n w r
+  pub grown-given-up : {r : Scanned} (x : ℕ) → r ≡ given-up w x → x ≤ max-weight → Grown n w r
   grown-given-up {r} x e h =
       subst (Grown n w) (sym e) (record { best = nobody-below n _ (o .nobody); late = o .late; keys = omega arith; sum = omega arith })
 

@@ -13,32 +13,20 @@ use Rattle.columns.proofs.Tests.{by-test, and-no}
 use Rattle.context.specs.declared.Context.{Context}
 use Rattle.context.specs.Status.{is-runnable}
 use Rattle.cpu_set.specs.Set.{contains}
-use Rattle.run_queue.specs.declared.Entry.{Entry}
+use Rattle.entries.specs.declared.Entry.{Entry}
 use Rattle.runnable.specs.declared.UpdateResult.{UpdateResult}
 use Rattle.runnable.specs.declared.UpdateResult.the-variants.{CanSwitch, Skip, Blocked}
 use Rattle.runnable.specs.Runnable.{update-runnable, wake-has-come}
 use Rattle.percpu.specs.Cpu.{Cpu}
-use Rattle.machine.specs.declared.Lookup.{Lookup}
-use Rattle.machine.specs.declared.Lookup.the-variants.{Live}
-use Rattle.machine.specs.declared.Lookup.the-variants as looked
 use Rattle.machine.specs.Machine.{Machine, context-at}
 use Rattle.machine.specs.Encode.{encode}
 use Rattle.machine.specs.Shape.{ContextFits, Fits, Image}
-use Rattle.machine.specs.LookUp.{look-up}
-use Rattle.machine.proofs.LookUps.{IsLive, live}
-use Rattle.decision.specs.Scan.{Scan, Visit, pass, gone, above, is-of, ineligible-min-vtime, is-eligible, by-update, judge, visit}
+use Rattle.model.specs.Scan.{Scan, Visit, pass, gone, above, is-of, ineligible-min-vtime, is-eligible, by-update, judge, visit}
 use Rattle.select.specs.declared.Best.{Best}
 use Rattle.select.specs.declared.Scanner.{Scanner}
 use Rattle.select.specs.Values.{vtime-of, scanner-cpu}
 use Rattle.select.specs.Scanning.{visit-by, seen, visit-fits}
 use Rattle.select.proofs.Judging.{other}
-
--- a lookup that finds nobody below the number of contexts
-looked-gone : (M : Machine) (x : ℕ) → x < length (M .contexts) → looked.Gone ≡ look-up M x → (context-at (M .contexts) x) .gone ≡ true
-unfolding look-up
-looked-gone M x h e =
-    by-test ((context-at (M .contexts) x) .gone) (λ g. g)
-    (λ g. let w : looked.Gone ≡ Live x = rw (lt-leb (length (M .contexts)) x h, g) at e in let z : _≡_ {A = ℕ} 0 1 = cc in absurd (omega arith))
 
 -- e is met by a scan s over the contexts of M
 module _ (k time : ℕ) (p : Cpu) (h : Option ℕ) (s : Scan) (e : Entry) where
@@ -111,26 +99,6 @@ module _ (c : ℕ) where
   fits-visit k time p h s e o =
       both-fit (visit-fits c) (late k time p h s e) tt
       (both-fit (visit-fits c) (held k time p h s e) tt (fits-judge k time p (context-at (s .contexts) (e .«context_ref»)) e o))
-
--- the same, from what the code looked up; l is its answer
-module _ {c n : ℕ} {m : List ℕ} (i : Image c n m) (x : ℕ) (hx : x < n) {l : Lookup} (f : (M : Machine) → m ≡ encode M → Fits c n M → l ≡ look-up M x) where
-  pub gone-at : l ≡ looked.Gone → (M : Machine) → m ≡ encode M → Fits c n M → (context-at (M .contexts) x) .gone ≡ true
-  gone-at e M q o = looked-gone M x (omega (arith, o .contexts)) (sym e ∙ f M q o)
-
-  pub live-at : {y : ℕ} → l ≡ Live y → (M : Machine) → m ≡ encode M → Fits c n M → IsLive M x y
-  live-at {y} e M q o = live M x y (sym e ∙ f M q o)
-
-  -- the number that it gave
-  pub live-below : {y : ℕ} → l ≡ Live y → y < n
-  live-below {y} e = let z = live-at e (i .M) (i .eq) (i .fits) in subst (λ (j : ℕ). j < n) (sym (z .is)) hx
-
-  pub live-gone : {y : ℕ} {q : Context} → l ≡ Live y → ((M : Machine) → m ≡ encode M → Fits c n M → q ≡ context-at (M .contexts) y) → q .gone ≡ false
-  live-gone {y} e g =
-      let z = live-at e (i .M) (i .eq) (i .fits)
-      in ap (λ (a : Context). a .gone) (g (i .M) (i .eq) (i .fits) ∙ ap (context-at (i .M .contexts)) (z .is)) ∙ z .alive
-
-  pub live-record : {y : ℕ} {q : Context} → l ≡ Live y → ((M : Machine) → m ≡ encode M → Fits c n M → q ≡ context-at (M .contexts) y) → (M : Machine) → m ≡ encode M → Fits c n M → q ≡ context-at (M .contexts) x
-  live-record {y} e g M q o = g M q o ∙ ap (context-at (M .contexts)) (live-at e M q o .is)
 
 pub verdict-fits : {c n : ℕ} {m : List ℕ} (i : Image c n m) (t : Scanner) (late : Best) (e : Entry) → e .«context_ref» < n → {v : Visit}
     → ((M : Machine) → m ≡ encode M → Fits c n M → v ≡ visit-by t (seen (M .contexts) late) e) → visit-fits c v

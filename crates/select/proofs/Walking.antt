@@ -9,7 +9,7 @@ use lib.ListN.{length, getD, take, drop, take-append-drop}
 use lib.Seq.{take-suc, take-all}
 use Rattle.columns.specs.Common.{fold}
 use Rattle.context.specs.declared.Context.{Context}
-use Rattle.run_queue.specs.declared.Entry.{Entry}
+use Rattle.entries.specs.declared.Entry.{Entry}
 use Rattle.cpu_stats.specs.Words.{stats-words}
 use Rattle.percpu.specs.Words.{block-words}
 use Rattle.percpu.specs.Layout.{no-entry, cpu-words, counts}
@@ -17,16 +17,18 @@ use Rattle.machine.specs.Machine.{Machine, cpu-at, with-contexts}
 use Rattle.machine.specs.Encode.{encode, cpu-place}
 use Rattle.machine.specs.Shape.{Fits, Image}
 use Rattle.machine.proofs.LookUps.{block-word}
-use Rattle.decision.specs.State.{is-some}
-use Rattle.decision.proofs.EarlyExit.{fold-still}
-use Rattle.decision.specs.Scan.{Scan, Visit, visit, scan-step, scan-start, scan}
+use Rattle.model.specs.State.{is-some}
+use Rattle.model.proofs.EarlyExit.{fold-still}
+use Rattle.model.specs.Scan.{Scan, Visit, visit, scan-step, scan-start, scan}
 use Rattle.select.specs.declared.Best.{Best}
 use Rattle.select.specs.declared.Best.the-variants.{Nobody, Found}
 use Rattle.select.specs.declared.Scanner.{Scanner}
 use Rattle.select.specs.declared.Scanned.{Scanned}
 use Rattle.select.specs.Values.{vtime-of, best-of, best-below, scanner-cpu}
-use Rattle.select.specs.Scanning.{visit-by, visited-by, step-by, scan-by, seen, keys-in, found, Scans, Room, Grown}
+use Rattle.select.specs.Scanning.{visit-by, visited-by, step-by, scan-by, seen, keys-in, found, Scans, Room, Grown, key-words}
 use Rattle.select.proofs.Visited.{scans, at-as, scans-as}
+use Rattle.weights.specs.Weights.{max-weight}
+use Rattle.percpu.specs.Places.{queue-count}
 
 module _ {A B : Type 0} where
   pub fold-append : (f : B → A → B) (b : B) (xs ys : List A) → fold f b (xs ++ ys) ≡ fold f (fold f b xs) ys
@@ -67,12 +69,12 @@ unfolding scanned-to found keys-in
 scanned-none t k i = scans i (λ M e o. record { after = e; fits = o; same = refl })
 
 -- the length of the queue stands in the image
-pub count-is : {c n : ℕ} (m : List ℕ) (k : ℕ) → k < c → (M : Machine) → m ≡ encode M → Fits c n M → getD m (cpu-place n k + 21) 0 ≡ length (cpu-at M k .queue)
+pub count-is : {c n : ℕ} (m : List ℕ) (k : ℕ) → k < c → (M : Machine) → m ≡ encode M → Fits c n M → getD m (cpu-place n k + queue-count) 0 ≡ length (cpu-at M k .queue)
 unfolding cpu-words block-words stats-words counts
 count-is m k h M e o = block-word m k M e o 21 h (omega arith)
 
 -- and is that of before
-count-kept : {c n : ℕ} {m m' d : List ℕ} {w : Scanned} {s : Machine → Scan} (k : ℕ) → k < c → (i : Image c n m) → Scans c n m m' d w s → getD m' (cpu-place n k + 21) 0 ≡ length (cpu-at (i .M) k .queue)
+count-kept : {c n : ℕ} {m m' d : List ℕ} {w : Scanned} {s : Machine → Scan} (k : ℕ) → k < c → (i : Image c n m) → Scans c n m m' d w s → getD m' (cpu-place n k + queue-count) 0 ≡ length (cpu-at (i .M) k .queue)
 unfolding cpu-at
 count-kept {m' = m'} {s = s} k h i a = let z = a .scans (i .M) (i .eq) (i .fits) in count-is m' k h (with-contexts (s (i .M) .contexts) (i .M)) (z .after) (z .fits)
 
@@ -120,9 +122,9 @@ pub record Loop (c n k len : ℕ) (m₀ m d : List ℕ) (t : Scanner) (w : Scann
   pub here : i ≤ len
   pub few : len ≤ 64
   pub same : length m ≡ length m₀
-  pub size : length d ≡ 192
+  pub size : length d ≡ key-words
   pub keys : w .«contexts_to_remove» ≤ i
-  pub sum : w .«weight_change» ≤ 88761 * i
+  pub sum : w .«weight_change» ≤ max-weight * i
   pub nobody : w .«eligible_best» ≡ Nobody
   pub late : best-below n (w .«ineligible_best»)
   pub scans : Scans c n m₀ m d w (scanned-to t k i)
@@ -137,9 +139,9 @@ module _ {c n k len : ℕ} {m₀ m m' d d' : List ℕ} {t : Scanner} {w w' : Sca
       → Grown n w w' → length m' ≡ length m → length d' ≡ length d → is-some (best-of (w' .«eligible_best»)) ≡ false → Loop c n k len m₀ m' d' t w' (i + 1)
   loop-next r u g p q z =
       let a : w' .«contexts_to_remove» ≤ w .«contexts_to_remove» + 1 = g .keys
-      in let y : w' .«weight_change» ≤ w .«weight_change» + 88761 = g .sum
+      in let y : w' .«weight_change» ≤ w .«weight_change» + max-weight = g .sum
       in let j : w .«contexts_to_remove» ≤ i = l .keys
-      in let x : w .«weight_change» ≤ 88761 * i = l .sum
+      in let x : w .«weight_change» ≤ max-weight * i = l .sum
       in record {
         here = omega arith;
         few = l .few;
@@ -154,13 +156,13 @@ module _ {c n k len : ℕ} {m₀ m m' d d' : List ℕ} {t : Scanner} {w w' : Sca
 
 -- what the calls of a turn need, and what the returns ask
 module _ {c n k len : ℕ} {m₀ m d : List ℕ} {t : Scanner} {w : Scanned} {i : ℕ} (l : Loop c n k len m₀ m d t w i) where
-  pub loop-count : k < c → (j : Image c n m₀) → ((M : Machine) → m₀ ≡ encode M → Fits c n M → len ≡ length (cpu-at M k .queue)) → i < len → i < getD m (cpu-place n k + 21) 0
+  pub loop-count : k < c → (j : Image c n m₀) → ((M : Machine) → m₀ ≡ encode M → Fits c n M → len ≡ length (cpu-at M k .queue)) → i < len → i < getD m (cpu-place n k + queue-count) 0
   loop-count h j f b = subst (λ y. i < y) (f (j .M) (j .eq) (j .fits) ∙ sym (count-kept k h j (l .scans))) b
 
   pub loop-room : i < len → Room n w d
   loop-room b =
       let j : w .«contexts_to_remove» ≤ i = l .keys
-      in let x : w .«weight_change» ≤ 88761 * i = l .sum
+      in let x : w .«weight_change» ≤ max-weight * i = l .sum
       in record { nobody = l .nobody; late = l .late; keys = omega (arith, l .few); sum = omega (arith, l .few); size = l .size }
 
   pub loop-found : {w' : Scanned} → i < len → Grown n w w' → (w' .«contexts_to_remove» ≤ 64) × (best-below n (w' .«eligible_best»)) × (best-below n (w' .«ineligible_best»))

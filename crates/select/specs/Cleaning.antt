@@ -3,13 +3,13 @@ use mathlib.Core.List.{List}
 use Prim.Native.Nat.{ℕ, _-_}
 use lib.ListN.{length}
 use Rattle.columns.specs.Common.{fold}
-use Rattle.run_queue.specs.declared.Key.{Key}
+use Rattle.entries.specs.declared.Key.{Key}
 use Rattle.percpu.specs.declared.PercpuBlock.{PercpuBlock}
 use Rattle.percpu.specs.Cpu.{Cpu}
 use Rattle.percpu.specs.With.{block-total-weight, block-published-weight, block-queue-len, block-v, cpu-block}
-use Rattle.decision.specs.State.{State, on-cpu, remove-key}
-use Rattle.decision.specs.Scan.{Scan}
-use Rattle.decision.specs.Choice.{choice, taken-out}
+use Rattle.model.specs.State.{State, on-cpu, remove-key}
+use Rattle.model.specs.Scan.{Scan}
+use Rattle.model.specs.Choice.{choice, taken-out}
 
 -- less weight, a queue's length published, and V
 abbrev pub lightened : PercpuBlock → (change len v : ℕ) → PercpuBlock

@@ -1,13 +1,13 @@
 -- What the code goes by is what the state has. Assumes nothing.
 use mathlib.Core.Path.{_≡_}
 use Prim.Native.Nat.{ℕ}
-use Rattle.decision.specs.State.{State, holder, prev-runnable}
-use Rattle.decision.specs.Choice.{prev-is-eligible, ineligible-holder}
+use Rattle.model.specs.State.{State, holder, prev-runnable}
+use Rattle.model.specs.Choice.{prev-is-eligible, ineligible-holder}
 use Rattle.select.specs.declared.Holder.{Holder}
 use Rattle.select.specs.declared.Scanner.{Scanner}
 use mathlib.Core.List.{List}
 use Rattle.context.specs.declared.Context.{Context}
-use Rattle.decision.specs.Scan.{Scan}
+use Rattle.model.specs.Scan.{Scan}
 use Rattle.select.specs.declared.Scanned.{Scanned}
 use Rattle.select.specs.Values.{vtime-of, best-of}
 

@@ -5,17 +5,18 @@ use mathlib.Core.Option.{none}
 use Prim.Native.Nat.{ℕ, zero, suc, _+_, _*_, _<_, _≤_}
 use lib.ListN.{length, getD}
 use Rattle.context.specs.declared.Context.{Context}
-use Rattle.run_queue.specs.declared.Key.{Key}
-use Rattle.run_queue.specs.declared.Entry.{Entry}
+use Rattle.entries.specs.declared.Key.{Key}
+use Rattle.entries.specs.declared.Entry.{Entry}
 use Rattle.machine.specs.Machine.{Machine, with-contexts}
 use Rattle.machine.specs.Encode.{encode}
 use Rattle.machine.specs.Shape.{ContextFits, Fits, Image}
-use Rattle.decision.specs.Scan.{Scan, Visit, pass, gone, blocked, no-addr-space, ready, visit, visited, scan-step, scan}
+use Rattle.model.specs.Scan.{Scan, Visit, pass, gone, blocked, no-addr-space, ready, visit, visited, scan-step, scan}
 use Rattle.select.specs.declared.Best.{Best}
 use Rattle.select.specs.declared.Best.the-variants.{Nobody}
 use Rattle.select.specs.declared.Scanner.{Scanner}
 use Rattle.select.specs.declared.Scanned.{Scanned}
 use Rattle.select.specs.Values.{vtime-of, best-of, best-below, scanner-cpu}
+use Rattle.weights.specs.Weights.{max-weight}
 
 -- the scan by what the code goes by
 module _ (t : Scanner) where
@@ -44,7 +45,11 @@ visit-fits c (blocked q) = ContextFits c q
 visit-fits c (no-addr-space q) = ContextFits c q
 visit-fits c (ready q) = ContextFits c q
 
--- key j of a scratch of three words a key, and the first n of them
+-- the words of a scratch for 64 keys, three words each
+abbrev pub key-words : ℕ
+key-words = 3 * 64
+
+-- key j of it, and the first n of them
 abbrev pub key-at : List ℕ → ℕ → Key
 key-at d j = record { vd = getD d (3 * j) 0; «rem_slice» = getD d (3 * j + 1) 0; «ctxt_id» = getD d (3 * j + 2) 0 }
 
@@ -89,12 +94,12 @@ pub record Room (n : ℕ) (w : Scanned) (d : List ℕ) : Type 0 where
   pub nobody : w .«eligible_best» ≡ Nobody
   pub late : best-below n (w .«ineligible_best»)
   pub keys : w .«contexts_to_remove» < 64
-  pub sum : w .«weight_change» ≤ 5680704
-  pub size : length d ≡ 192
+  pub sum : w .«weight_change» ≤ (64 * max-weight)
+  pub size : length d ≡ key-words
 
 -- what it may add
 pub record Grown (n : ℕ) (w r : Scanned) : Type 0 where
   pub best : best-below n (r .«eligible_best»)
   pub late : best-below n (r .«ineligible_best»)
   pub keys : r .«contexts_to_remove» ≤ w .«contexts_to_remove» + 1
-  pub sum : r .«weight_change» ≤ w .«weight_change» + 88761
+  pub sum : r .«weight_change» ≤ w .«weight_change» + max-weight

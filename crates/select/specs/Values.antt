@@ -5,14 +5,13 @@ use Prim.Native.Nat.{ℕ, _<_}
 use Rattle.columns.specs.Common.{if_then_else_}
 use Rattle.context.specs.declared.Context.{Context}
 use Rattle.context.specs.With.{with-rem-slice, with-is-active}
-use Rattle.run_queue.specs.declared.Entry.{Entry}
+use Rattle.entries.specs.declared.Entry.{Entry}
 use Rattle.percpu.specs.Cpu.{Cpu}
 use Rattle.percpu.specs.With.{cpu-idle-ctxt, cpu-sched-ctxt, cpu-current-ctxt, cpu-v}
 use Rattle.machine.specs.Machine.{no-cpu}
-use Rattle.decision.specs.State.{without-key}
-use Rattle.decision.specs.Scan.{below, ineligible-min-vtime, is-eligible, pass, gone, blocked, no-addr-space, ready}
-use Rattle.decision.specs.Scan as scan
-use Rattle.decision.specs.Choice.{Choice}
+use Rattle.model.specs.Scan.{below, ineligible-min-vtime, is-eligible, pass, gone, blocked, no-addr-space, ready}
+use Rattle.model.specs.Scan as scan
+use Rattle.model.specs.Choice.{Choice}
 use Rattle.picked.specs.declared.Picked.{Picked}
 use Rattle.picked.specs.declared.Picked.the-variants.{Somebody}
 use Rattle.picked.specs.declared.Picked.the-variants as picked-variants
@@ -28,6 +27,7 @@ use Rattle.select.specs.declared.Visit.the-variants.{Pass, Gone, Blocked
 use Rattle.select.specs.declared.Scanner.{Scanner}
 use Rattle.select.specs.declared.Scanned.{Scanned}
 use Rattle.select.specs.declared.Selected.{Selected}
+use Rattle.context.specs.Key.{without-key}
 
 abbrev pub vtime-of : MinVtime → Option ℕ
 vtime-of min-vtime.Nobody = none

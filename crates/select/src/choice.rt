@@ -7,9 +7,9 @@ ghost use lib.Dec.{ltb, leb, eqb};
 ghost use Rattle.machine.specs.Machine.{Machine, context-at};
 ghost use Rattle.machine.specs.Encode.{encode};
 ghost use Rattle.machine.specs.Shape.{Fits, Image};
-ghost use Rattle.decision.specs.State.{State};
-ghost use Rattle.decision.specs.Scan.{Scan};
-ghost use Rattle.decision.specs.Choice.{named, against, nobody, without-entry, choice};
+ghost use Rattle.model.specs.State.{State};
+ghost use Rattle.model.specs.Scan.{Scan};
+ghost use Rattle.model.specs.Choice.{named, against, nobody, without-entry, choice};
 ghost use Rattle.picked.specs.Names.{names-of};
 ghost use Rattle.select.specs.Values.{best-of, choice-of, best-below, winner-below};
 ghost use Rattle.select.specs.Holding.{Holding, Chosen};
@@ -17,19 +17,9 @@ use crate::Best;
 use crate::Holder;
 use crate::Scanned;
 use crate::Selected;
-use crate::judge::both;
 use context::Context;
+use entries::Entry;
 use picked::Picked;
-use run_queue::Entry;
-
-fn either(a: bool, b: bool) -> bool
-    ensures { λ r. ⌜ r ≡ (a || b) ⌝ }
-{
-    if a {
-        return true;
-    }
-    b
-}
 
 // The context of an entry that keeps its lock.
 fn locked(late: Best) -> Picked
@@ -37,7 +27,7 @@ fn locked(late: Best) -> Picked
 {
     match late {
         Best::Nobody => Picked::Nobody,
-        Best::Found(e) => Picked::Somebody(machine::index(e.context_ref)),
+        Best::Found(e) => Picked::Somebody(numbers::index(e.context_ref)),
     }
 }
 
@@ -48,7 +38,7 @@ fn goes_before(h: Holder, q: Context) -> bool
     let sooner = h.vd < q.vd;
     let same = h.vd == q.vd;
     let more = q.rem_slice < h.rem_slice;
-    either(sooner, both(same, more))
+    numbers::either(sooner, numbers::both(same, more))
 }
 
 // An eligible entry e was found, whose record is q.
@@ -58,7 +48,7 @@ pub fn against(h: Holder, late: Best, e: Entry, q: Context) -> Selected
 {
     let before = goes_before(h, q);
     let kept = locked(late);
-    if both(h.eligible, before) {
+    if numbers::both(h.eligible, before) {
         return Selected {
             winner: Picked::Nobody,
             v: h.v,
@@ -66,7 +56,7 @@ pub fn against(h: Holder, late: Best, e: Entry, q: Context) -> Selected
         };
     }
     Selected {
-        winner: Picked::Somebody(machine::index(e.context_ref)),
+        winner: Picked::Somebody(numbers::index(e.context_ref)),
         v: h.v,
         locked: kept,
     }
@@ -79,7 +69,7 @@ fn goes_on(h: Holder, e: Entry) -> bool
     let key = e.key;
     let no_later = h.vtime <= e.vtime;
     let no_later_deadline = h.vd <= key.vd;
-    both(h.runnable, either(no_later, no_later_deadline))
+    numbers::both(h.runnable, numbers::either(no_later, no_later_deadline))
 }
 
 // Nobody is eligible, and the queue gives nobody.
@@ -106,7 +96,7 @@ fn least(h: Holder, e: Entry) -> Selected
     ensures { λ r. ⌜ ((s : State) → Holding h s → choice-of r ≡ nobody s (some e)) ⌝ }
     ensures { λ r. ⌜ ((n : ℕ) → e .«context_ref» < n → winner-below n (r .winner)) ⌝ }
 {
-    let x = machine::index(e.context_ref);
+    let x = numbers::index(e.context_ref);
     if goes_on(h, e) {
         return Selected {
             winner: Picked::Nobody,
@@ -151,7 +141,7 @@ pub fn choose(m: &[u64], c: usize, n: usize, h: Holder, w: Scanned) -> Selected
     match best {
         Best::Nobody => without_entry(h, late),
         Best::Found(e) => {
-            let x = machine::index(e.context_ref);
+            let x = numbers::index(e.context_ref);
             let q = machine::load(m, c, n, x);
             against(h, late, e, q)
         }

@@ -3,37 +3,26 @@ ghost use mathlib.Core.Path.{_≡_};
 ghost use mathlib.Core.Bool.{false};
 ghost use Prim.Native.Nat.{_+_, _*_, _-_, _<_, _≤_};
 ghost use lib.ListN.{length};
-ghost use Rattle.run_queue.specs.declared.Key.{Key};
+ghost use Rattle.entries.specs.declared.Key.{Key};
 ghost use Rattle.machine.specs.Shape.{Image};
-ghost use Rattle.decision.specs.State.{State, queue-key};
-ghost use Rattle.decision.specs.Choice.{dequeued, taken-out};
+ghost use Rattle.model.specs.State.{State};
+ghost use Rattle.model.specs.Choice.{dequeued, taken-out};
 ghost use Rattle.stages.specs.Stage.{Staged};
 ghost use Rattle.picked.specs.Names.{picked-of};
 ghost use Rattle.select.specs.Values.{winner-below};
-ghost use Rattle.select.specs.Scanning.{key-at, keys-in};
+ghost use Rattle.select.specs.Scanning.{key-at, keys-in, key-words};
 ghost use Rattle.select.specs.Cleaning.{lightened, remove-keys, cleaned};
-use crate::judge;
-use context::Context;
+ghost use Rattle.context.specs.Key.{queue-key};
+use entries::Key;
 use percpu::PercpuBlock;
 use picked::Picked;
-use run_queue::Key;
-
-// What is left of a weight.
-fn reduced(total: u64, change: u64) -> u64
-    ensures { λ r. ⌜ r ≡ total - change ⌝ }
-{
-    if change < total {
-        return total - change;
-    }
-    0
-}
 
 // The block with less weight, the queue's length published, and V.
 fn lightened(mut b: PercpuBlock, change: u64, len: usize, v: u64) -> PercpuBlock
     ensures { λ r. ⌜ r ≡ lightened b change len v ⌝ }
 {
-    let left = reduced(b.total_weight, change);
-    let length = machine::word(len);
+    let left = numbers::saturating_sub(b.total_weight, change);
+    let length = numbers::word(len);
     b.total_weight = left;
     b.published_weight = left;
     b.queue_len = length;
@@ -42,7 +31,7 @@ fn lightened(mut b: PercpuBlock, change: u64, len: usize, v: u64) -> PercpuBlock
 }
 
 fn key_of(d: &[u64], j: usize) -> Key
-    requires { ⌜ (length (now d) ≡ 192) × (j < 64) ⌝ }
+    requires { ⌜ (length (now d) ≡ key-words) × (j < 64) ⌝ }
     ensures { λ r. ⌜ r ≡ key-at (now (d .entry)) j ⌝ }
 {
     let at = 3 * j;
@@ -56,7 +45,7 @@ fn key_of(d: &[u64], j: usize) -> Key
 // The first `number` keys of d leave the queue of CPU k.
 fn remove_keys(m: &mut [u64], d: &[u64], c: usize, n: usize, k: usize, number: usize)
     requires { ⌜ Image c n (now m) ⌝ }
-    requires { ⌜ (k < c) × (number ≤ 64) × (length (now d) ≡ 192) ⌝ }
+    requires { ⌜ (k < c) × (number ≤ 64) × (length (now d) ≡ key-words) ⌝ }
     ensures { λ r. ⌜ Staged c n k (now (m .entry)) (now (m .exit)) false (λ (s : State). remove-keys (keys-in (now (d .entry)) number) s) ⌝ }
 {
     let mut j = 0;
@@ -79,7 +68,7 @@ pub fn clean_up(
     v: u64,
 )
     requires { ⌜ Image c n (now m) ⌝ }
-    requires { ⌜ (k < c) × (number ≤ 64) × (length (now d) ≡ 192) ⌝ }
+    requires { ⌜ (k < c) × (number ≤ 64) × (length (now d) ≡ key-words) ⌝ }
     ensures { λ r. ⌜ Staged c n k (now (m .entry)) (now (m .exit)) false (λ (s : State). cleaned «weight_change» (keys-in (now (d .entry)) number) v s) ⌝ }
 {
     let old = stages::load_block(m, c, n, k);
@@ -87,16 +76,6 @@ pub fn clean_up(
     let b = lightened(old, weight_change, len, v);
     stages::store_block(m, c, n, k, b);
     remove_keys(m, d, c, n, k, number);
-}
-
-fn key_of_context(q: Context) -> Key
-    ensures { λ r. ⌜ r ≡ queue-key q ⌝ }
-{
-    Key {
-        vd: q.queue_key_vd,
-        rem_slice: q.queue_key_rem_slice,
-        ctxt_id: q.debug_id,
-    }
 }
 
 // The key of context x leaves the queue of CPU k, and its record.
@@ -107,9 +86,9 @@ fn dequeue(m: &mut [u64], c: usize, n: usize, k: usize, x: usize)
 {
     let q = machine::load(m, c, n, x);
     if q.has_queue_key {
-        let unqueued = judge::without_key(q);
+        let unqueued = q.without_key();
         stages::store_context(m, c, n, k, x, unqueued);
-        let key = key_of_context(q);
+        let key = q.queue_key();
         stages::remove_key(m, c, n, k, key);
     }
 }

@@ -3,27 +3,18 @@ ghost use mathlib.Core.Path.{_≡_};
 ghost use mathlib.Core.Bool.{false, _&&_, not};
 ghost use Prim.Native.Nat.{_<_, _≤_};
 ghost use Rattle.columns.specs.Common.{if_then_else_};
-ghost use Rattle.decision.specs.State.{is-some, without-key};
-ghost use Rattle.decision.specs.Scan.{above, below, is-of, ineligible-min-vtime, is-eligible, judge};
+ghost use Rattle.model.specs.State.{is-some};
+ghost use Rattle.model.specs.Scan.{above, below, is-of, ineligible-min-vtime, is-eligible, judge};
 ghost use Rattle.select.specs.Values.{vtime-of, best-of, visit-of, scanner-cpu, deactivated, picked};
+ghost use Rattle.context.specs.Key.{without-key};
 use crate::Best;
 use crate::MinVtime;
 use crate::Scanned;
 use crate::Scanner;
 use crate::Visit;
 use context::Context;
-use run_queue::Entry;
+use entries::Entry;
 use runnable::UpdateResult;
-
-// Both, as a value: one test to branch on.
-pub fn both(a: bool, b: bool) -> bool
-    ensures { λ r. ⌜ r ≡ (a && b) ⌝ }
-{
-    if a {
-        return b;
-    }
-    false
-}
 
 fn above(l: MinVtime, n: u64) -> bool
     ensures { λ r. ⌜ r ≡ above (vtime-of l) n ⌝ }
@@ -70,22 +61,13 @@ fn ineligible_min_vtime(p: Best, h: MinVtime) -> MinVtime
     }
 }
 
-pub fn without_key(mut c: Context) -> Context
-    ensures { λ r. ⌜ r ≡ without-key c ⌝ }
-{
-    c.has_queue_key = false;
-    c.queue_key_vd = 0;
-    c.queue_key_rem_slice = 0;
-    c
-}
-
 // A blocked context leaves the queue: no slice, not active, no key.
 fn deactivated(mut c: Context) -> Context
     ensures { λ r. ⌜ r ≡ deactivated c ⌝ }
 {
     c.rem_slice = 0;
     c.is_active = false;
-    without_key(c)
+    c.without_key()
 }
 
 // An entry that is passed over for a late vtime.
@@ -96,7 +78,7 @@ pub fn too_late(t: Scanner, late: Best, e: Entry) -> bool
     let least = ineligible_min_vtime(late, holder);
     let after = above(least, e.vtime);
     let eligible = e.vtime <= t.v;
-    both(after, !eligible)
+    numbers::both(after, !eligible)
 }
 
 // A live context's entry, judged by itself.

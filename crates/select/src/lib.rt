@@ -7,21 +7,24 @@ mod read;
 mod scan;
 
 use context::Context;
+use entries::Entry;
 use picked::Picked;
-use run_queue::Entry;
 ghost use mathlib.Core.Path.{_≡_};
 ghost use mathlib.Core.Bool.{false};
 ghost use Prim.Native.Nat.{_<_, _≤_};
 ghost use lib.ListN.{length};
 ghost use Rattle.machine.specs.Shape.{Image};
-ghost use Rattle.decision.specs.State.{State};
-ghost use Rattle.decision.specs.Choice.{choice, chosen};
-ghost use Rattle.decision.specs.Decision.{scanned};
+ghost use Rattle.model.specs.State.{State};
+ghost use Rattle.model.specs.Choice.{choice, chosen};
+ghost use Rattle.model.specs.Schedule.{scanned};
 ghost use Rattle.stages.specs.Stage.{Stage};
 ghost use Rattle.select.specs.Values.{choice-of, best-below, winner-below};
-ghost use Rattle.select.specs.Scanning.{found};
+ghost use Rattle.select.specs.Scanning.{found, key-words};
 ghost use Rattle.select.specs.Holding.{Holding};
 ghost use Rattle.select.specs.Cleaning.{chosen-after};
+
+// the words of a scratch for the keys that the scan removes: 64 keys, three words each
+pub const KEY_WORDS: usize = 3 * 64;
 
 // A least vtime, if there is one.
 pub enum MinVtime {
@@ -92,7 +95,7 @@ fn apply_choice(
     w: Scanned,
 ) -> Selected
     requires { ⌜ Image c n (now m) ⌝ }
-    requires { ⌜ (k < c) × (w .«contexts_to_remove» ≤ 64) × (length (now d) ≡ 192) ⌝ }
+    requires { ⌜ (k < c) × (w .«contexts_to_remove» ≤ 64) × (length (now d) ≡ key-words) ⌝ }
     requires { ⌜ (best-below n (w .«eligible_best»)) × (best-below n (w .«ineligible_best»)) ⌝ }
     ensures { λ r. ⌜ ((s : State) → Holding h s → Stage c n k (now (m .entry)) (now (m .exit)) false (choice-of r) (λ (a : State). chosen-after s (found (a .contexts) w (now (d .entry))) a) (λ (a : State). choice s (found (a .contexts) w (now (d .entry))))) ⌝ }
     ensures { λ r. ⌜ winner-below n (r .winner) ⌝ }
@@ -114,7 +117,7 @@ pub fn select(
     scratch: &mut [u64],
 ) -> Selected
     requires { ⌜ Image c n (now m) ⌝ }
-    requires { ⌜ (k < c) × (length (now scratch) ≡ 192) ⌝ }
+    requires { ⌜ (k < c) × (length (now scratch) ≡ key-words) ⌝ }
     ensures { λ r. ⌜ Stage c n k (now (m .entry)) (now (m .exit)) false (choice-of r) (λ (s : State). chosen (choice s (scanned k time s)) (scanned k time s) s) (λ (s : State). choice s (scanned k time s)) ⌝ }
     ensures { λ r. ⌜ winner-below n (r .winner) ⌝ }
 {

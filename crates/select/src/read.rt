@@ -4,14 +4,13 @@ ghost use Prim.Native.Nat.{_<_};
 ghost use Rattle.machine.specs.Machine.{Machine, cpu-at};
 ghost use Rattle.machine.specs.Encode.{encode};
 ghost use Rattle.machine.specs.Shape.{Fits, Image};
-ghost use Rattle.decision.specs.State.{State, state-of, holder};
-ghost use Rattle.decision.specs.Choice.{ineligible-holder};
+ghost use Rattle.model.specs.State.{State, state-of, holder};
+ghost use Rattle.model.specs.Choice.{ineligible-holder};
 ghost use Rattle.select.specs.Values.{vtime-of};
 ghost use Rattle.select.specs.Holding.{Holding, Scanning};
 use crate::Holder;
 use crate::MinVtime;
 use crate::Scanner;
-use crate::judge::both;
 use context::Context;
 use percpu::PercpuBlock;
 
@@ -22,9 +21,9 @@ pub fn holder_of(b: PercpuBlock, q: Context) -> Holder
     let status = q.status;
     let idle = b.sched_ctxt == b.idle_ctxt;
     let runs = status.is_runnable();
-    let runnable = both(!idle, runs);
+    let runnable = numbers::both(!idle, runs);
     let on_time = q.vtime <= b.v;
-    let eligible = both(runnable, on_time);
+    let eligible = numbers::both(runnable, on_time);
     Holder {
         runnable,
         eligible,
@@ -39,7 +38,7 @@ pub fn holder_of(b: PercpuBlock, q: Context) -> Holder
 pub fn ineligible_holder(h: Holder) -> MinVtime
     ensures { λ r. ⌜ ((s : State) → Holding h s → vtime-of r ≡ ineligible-holder s) ⌝ }
 {
-    if both(h.runnable, !h.eligible) {
+    if numbers::both(h.runnable, !h.eligible) {
         return MinVtime::At(h.vtime);
     }
     MinVtime::Nobody
@@ -51,7 +50,7 @@ pub fn holder(m: &[u64], c: usize, n: usize, k: usize, b: PercpuBlock) -> Holder
     requires { ⌜ b .«sched_ctxt» < n ⌝ }
     ensures { λ r. ⌜ ((M : Machine) → now (m .entry) ≡ encode M → Fits c n M → b ≡ cpu-at M k .block → Holding r (state-of k M)) ⌝ }
 {
-    let x = machine::index(b.sched_ctxt);
+    let x = numbers::index(b.sched_ctxt);
     let q = machine::load(m, c, n, x);
     holder_of(b, q)
 }
@@ -61,7 +60,7 @@ pub fn scanner(k: usize, time: u64, b: PercpuBlock, h: Holder) -> Scanner
     ensures { λ r. ⌜ ((s : State) → b ≡ s .cpu .block → Holding h s → Scanning k time r s) ⌝ }
     ensures { λ r. ⌜ r .«cpu_id» ≡ k ⌝ }
 {
-    let cpu_id = machine::word(k);
+    let cpu_id = numbers::word(k);
     let late = ineligible_holder(h);
     Scanner {
         cpu_id,

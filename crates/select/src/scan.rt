@@ -6,18 +6,19 @@ ghost use lib.ListN.{length};
 ghost use Rattle.machine.specs.Machine.{Machine, cpu-at};
 ghost use Rattle.machine.specs.Encode.{encode};
 ghost use Rattle.machine.specs.Shape.{ContextFits, EntryFits, Fits, Image};
-ghost use Rattle.decision.specs.Scan.{blocked};
+ghost use Rattle.model.specs.Scan.{blocked};
 ghost use Rattle.select.specs.Values.{best-below, visit-of};
-ghost use Rattle.select.specs.Scanning.{visit-by, visited-by, step-by, scan-by, seen, visit-fits, keys-in, found, Scans, given-up, Room, Grown};
+ghost use Rattle.select.specs.Scanning.{visit-by, visited-by, step-by, scan-by, seen, visit-fits, keys-in, found, Scans, given-up, Room, Grown, key-words};
+ghost use Rattle.weights.specs.Weights.{max-weight};
 use crate::Best;
 use crate::Scanned;
 use crate::Scanner;
 use crate::Visit;
 use crate::judge;
 use context::Context;
+use entries::Entry;
+use entries::Key;
 use machine::Lookup;
-use run_queue::Entry;
-use run_queue::Key;
 
 // An entry as the scan meets it.
 fn verdict(m: &[u64], c: usize, n: usize, t: Scanner, late: Best, e: Entry) -> Visit
@@ -41,8 +42,8 @@ fn verdict(m: &[u64], c: usize, n: usize, t: Scanner, late: Best, e: Entry) -> V
 
 // A key put with those to remove, and its weight with what leaves the total.
 fn give_up(d: &mut [u64], w: Scanned, key: Key, weight: u64) -> Scanned
-    requires { ⌜ (w .«contexts_to_remove» < 64) × (w .«weight_change» ≤ 5680704) × (length (now d) ≡ 192) ⌝ }
-    requires { ⌜ weight ≤ 88761 ⌝ }
+    requires { ⌜ (w .«contexts_to_remove» < 64) × (w .«weight_change» ≤ (64 * max-weight)) × (length (now d) ≡ key-words) ⌝ }
+    requires { ⌜ weight ≤ max-weight ⌝ }
     ensures { λ r. ⌜ (r ≡ given-up w weight) × (keys-in (now (d .exit)) (w .«contexts_to_remove» + 1) ≡ keys-in (now (d .entry)) (w .«contexts_to_remove») ++ (key ∷ [])) ⌝ }
 {
     let n = w.contexts_to_remove;
@@ -78,7 +79,7 @@ fn give_up_blocked(
     ensures { λ r. ⌜ Scans c n (now (m .entry)) (now (m .exit)) (now (d .exit)) r (λ (M : Machine). visited-by t (found (M .contexts) w (now (d .entry))) e (blocked q)) ⌝ }
     ensures { λ r. ⌜ Grown n w r ⌝ }
 {
-    let x = machine::index(e.context_ref);
+    let x = numbers::index(e.context_ref);
     let old = machine::load(m, c, n, x);
     let weight = judge::active_weight(old.is_active, e.weight);
     machine::store(m, c, n, x, q);
@@ -104,7 +105,7 @@ fn visited(
     ensures { λ r. ⌜ Scans c n (now (m .entry)) (now (m .exit)) (now (d .exit)) r (λ (M : Machine). visited-by t (found (M .contexts) w (now (d .entry))) e (visit-of v)) ⌝ }
     ensures { λ r. ⌜ Grown n w r ⌝ }
 {
-    let x = machine::index(e.context_ref);
+    let x = numbers::index(e.context_ref);
     let key = e.key;
     match v {
         Visit::Pass => {
@@ -152,7 +153,7 @@ fn scan_step(
 // The scan of CPU k's queue; the keys to remove are left in d, three words a key.
 pub fn scan_queue(m: &mut [u64], d: &mut [u64], c: usize, n: usize, k: usize, t: Scanner) -> Scanned
     requires { ⌜ Image c n (now m) ⌝ }
-    requires { ⌜ (k < c) × (t .«cpu_id» < 64) × (length (now d) ≡ 192) ⌝ }
+    requires { ⌜ (k < c) × (t .«cpu_id» < 64) × (length (now d) ≡ key-words) ⌝ }
     ensures { λ r. ⌜ Scans c n (now (m .entry)) (now (m .exit)) (now (d .exit)) r (λ (M : Machine). scan-by t (M .contexts) (cpu-at M k .queue)) ⌝ }
     ensures { λ r. ⌜ (r .«contexts_to_remove» ≤ 64) × (best-below n (r .«eligible_best»)) × (best-below n (r .«ineligible_best»)) ⌝ }
 {

@@ -11,15 +11,15 @@ use borrow.Rule.Slice.PartMut.{putMid}
 use Rattle.columns.proofs.Tests.{never}
 use Rattle.columns.specs.Blocks.{part, flat}
 use Rattle.cpu_stats.specs.Words.{stats-words, stats-of}
-use Rattle.run_queue.specs.declared.Entry.{Entry}
-use Rattle.run_queue.specs.declared.Key.{Key}
-use Rattle.run_queue.specs.Queue.{queue-insert, queue-remove}
+use Rattle.entries.specs.declared.Entry.{Entry}
+use Rattle.entries.specs.declared.Key.{Key}
+use Rattle.entries.specs.Queue.{queue-insert, queue-remove}
 use Rattle.percpu.specs.declared.PercpuBlock.{PercpuBlock}
 use Rattle.percpu.specs.Cpu.{Cpu}
 use Rattle.percpu.specs.Words.{block-words, block-of, block-of-words}
 use Rattle.percpu.specs.With.{cpu-block, cpu-queue, cpu-queue-len, cpu-local-wakeup-list}
 use Rattle.percpu.specs.Layout.{cpu-words, counts, columns}
-use Rattle.queue.specs.Put.{no-room, queue-put}
+use Rattle.run_queue.specs.Put.{no-room, queue-put}
 use Rattle.wakeup_lists.proofs.Pushed.{local-listed}
 
 pub loaded : (b : List ℕ) (r : PercpuBlock) (p : Cpu) → r ≡ block-of (take 21 b) → b ≡ cpu-words p → r ≡ p .block

@@ -11,7 +11,7 @@ use Rattle.percpu.specs.Cpu.{Cpu}
 use Rattle.machine.specs.Machine.{Machine, cpu-at, no-cpu}
 use Rattle.machine.specs.Encode.{encode}
 use Rattle.machine.specs.Shape.{Fits, Image}
-use Rattle.decision.specs.State.{State, state-of}
+use Rattle.model.specs.State.{State, state-of}
 use Rattle.stages.specs.Stage.{put-state, StageAt, Stage, Staged}
 
 -- the state that was put back, and what is put back on top of it

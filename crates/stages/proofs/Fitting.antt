@@ -1,28 +1,27 @@
 -- What keeps a CPU in its ranges. Assumes nothing.
-use mathlib.Core.Path.{_≡_, refl, sym, ap, _∙_, subst}
-use mathlib.Core.Bool.{Bool, true, false, _&&_, _||_}
+use mathlib.Core.Path.{_≡_, _∙_}
+use mathlib.Core.Bool.{Bool, false, _&&_, _||_}
 use Prim.Native.Nat.{ℕ, zero, suc, _+_, _<_, _≤_}
 use native.Mathlib.Omega.{arith}
 use mathlib.Core.List.{List, [], _∷_, _++_}
-use lib.Dec.{leb, ltb, eqb}
-use lib.ListN.{length, getD, length-append}
-use borrow.Author.Tests.{ltb-true, ltb-false, eqb-true, eqb-false, eq-eqb, leb-true, leb-false, le-ltb, lt-ltb, le-leb, lt-leb}
-use Rattle.columns.specs.Common.{All, In}
+use lib.Dec.{ltb}
+use lib.ListN.{length, getD}
+use borrow.Author.Tests.{ltb-false}
+use Rattle.columns.specs.Common.{All}
 use Rattle.columns.proofs.Tests.{by-test}
-use Rattle.run_queue.specs.declared.Entry.{Entry}
-use Rattle.run_queue.specs.declared.Key.{Key}
-use Rattle.run_queue.specs.declared.Timer.{Timer}
-use Rattle.run_queue.specs.Order.{entry-before, sooner}
-use Rattle.run_queue.specs.Queue.{remove, queue-insert, queue-remove, timer-insert, keyed}
-use Rattle.run_queue.specs.Sorted.{Sorted}
-use Rattle.run_queue.proofs.Orders.{sooner-asym, sooner-trans}
+use Rattle.entries.specs.declared.Entry.{Entry}
+use Rattle.entries.specs.declared.Key.{Key}
+use Rattle.entries.specs.declared.Timer.{Timer}
+use Rattle.entries.specs.Order.{entry-before, sooner}
+use Rattle.entries.specs.Queue.{remove, queue-insert, queue-remove, timer-insert, keyed}
+use Rattle.entries.specs.Sorted.{Sorted}
 use Rattle.percpu.specs.declared.PercpuBlock.{PercpuBlock}
 use Rattle.percpu.specs.Cpu.{Cpu}
 use Rattle.percpu.specs.With.{cpu-block, cpu-queue, cpu-queue-len, cpu-timers, cpu-local-wakeup-list}
 use Rattle.percpu.specs.Layout.{no-entry, no-timer}
 use Rattle.machine.specs.Shape.{EntryFits, CpuFits}
-use Rattle.decision.proofs.Sorted.{IsOrder, all-insert, all-remove, insert-sorted, remove-sorted}
-use Rattle.decision.proofs.Keys.{entries-ordered}
+use Rattle.model.proofs.Sorted.{all-insert, all-remove, insert-sorted, remove-sorted}
+use Rattle.entries.proofs.Ordered.{entries-ordered, timers-ordered}
 use Rattle.stages.specs.Read.{BlockFits}
 
 module _ {A : Type 0} (P : A → Type 0) (d : A) where
@@ -110,34 +109,6 @@ fits-timers n l p o b a s =
       ipi-name = o .ipi-name;
       keys-rise = o .keys-rise;
       timers-rise = s;
-    }
-
--- two timers neither of which stands before the other are one
-or-false : (a b : Bool) → (a || b) ≡ false → (a ≡ false) × (b ≡ false)
-or-false true b e = let z : _≡_ {A = ℕ} 0 1 = cc in absurd (omega arith)
-or-false false b e = (refl, e)
-
-sooner-same : (a b : Timer) → sooner a b ≡ false → sooner b a ≡ false → (a .wake ≡ b .wake) × (a .«context_ref» ≡ b .«context_ref»)
-unfolding sooner
-sooner-same a b e f =
-    let p = or-false (ltb (a .wake) (b .wake)) _ e
-    in let q = or-false (ltb (b .wake) (a .wake)) _ f
-    in let u : b .wake ≤ a .wake = ltb-false _ _ (p .0)
-    in let v : a .wake ≤ b .wake = ltb-false _ _ (q .0)
-    in let w : a .wake ≡ b .wake = omega arith
-    in let x : ltb (a .«context_ref») (b .«context_ref») ≡ false = rw (eq-eqb (a .wake) (b .wake) w) at (p .1)
-    in let y : ltb (b .«context_ref») (a .«context_ref») ≡ false = rw (eq-eqb (b .wake) (a .wake) (sym w)) at (q .1)
-    in let r : b .«context_ref» ≤ a .«context_ref» = ltb-false _ _ x
-    in let s : a .«context_ref» ≤ b .«context_ref» = ltb-false _ _ y
-    in (w, omega arith)
-
-pub timers-ordered : IsOrder sooner
-unfolding sooner
-timers-ordered =
-    record {
-      asym = sooner-asym;
-      trans = sooner-trans;
-      tie = λ a b c e f h. let s = sooner-same a b e f in rw (s .0, s .1) h;
     }
 
 pub fits-timer-inserted : (n : ℕ) (t : Timer) (p : Cpu) → t .«context_ref» < n → CpuFits n p → ltb 64 (length (timer-insert t (p .timers))) ≡ false

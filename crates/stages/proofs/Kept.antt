@@ -7,11 +7,11 @@ use mathlib.Core.List.{List, [], _∷_, _++_}
 use lib.ListN.{length, getD, set}
 use Rattle.columns.specs.Common.{All}
 use Rattle.context.specs.declared.Context.{Context}
-use Rattle.run_queue.specs.declared.Entry.{Entry}
-use Rattle.run_queue.specs.declared.Key.{Key}
-use Rattle.run_queue.specs.declared.Timer.{Timer}
-use Rattle.run_queue.specs.Order.{entry-before, sooner}
-use Rattle.run_queue.specs.Queue.{queue-insert, queue-remove, timer-insert, keyed}
+use Rattle.entries.specs.declared.Entry.{Entry}
+use Rattle.entries.specs.declared.Key.{Key}
+use Rattle.entries.specs.declared.Timer.{Timer}
+use Rattle.entries.specs.Order.{entry-before, sooner}
+use Rattle.entries.specs.Queue.{queue-insert, queue-remove, timer-insert, keyed}
 use Rattle.percpu.specs.declared.PercpuBlock.{PercpuBlock}
 use Rattle.percpu.specs.Cpu.{Cpu}
 use Rattle.percpu.specs.With.{cpu-block, cpu-queue, cpu-queue-len, cpu-timers}
@@ -20,8 +20,8 @@ use Rattle.machine.specs.Machine.{Machine, context-at, cpu-at, no-context, no-c
 use Rattle.machine.specs.Encode.{encode}
 use Rattle.machine.specs.Shape.{Fits}
 use Rattle.machine.proofs.Steps.{getD-set}
-use Rattle.decision.specs.State.{State, state-of, put-context, insert-entry, insert-timer, push-local, remove-key}
-use Rattle.decision.proofs.Sorted.{all-insert, all-remove}
+use Rattle.model.specs.State.{State, state-of, put-context, insert-entry, insert-timer, push-local, remove-key}
+use Rattle.model.proofs.Sorted.{all-insert, all-remove}
 use Rattle.stages.specs.Stage.{put-state, Stage, ContextBelow, CpuBelow, StateBelow, Below, Ranged}
 use Rattle.stages.proofs.Fitting.{all-of, of-all}
 

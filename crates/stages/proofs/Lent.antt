@@ -15,19 +15,19 @@ use Rattle.columns.proofs.Tests.{by-test}
 use Rattle.columns.proofs.Tabulate.{part-get}
 use Rattle.cpu_stats.specs.Words.{stats-words}
 use Rattle.context.specs.declared.Context.{Context}
-use Rattle.run_queue.specs.declared.Entry.{Entry}
-use Rattle.run_queue.specs.declared.Key.{Key}
-use Rattle.run_queue.specs.declared.Timer.{Timer}
-use Rattle.run_queue.specs.Order.{entry-before, sooner}
-use Rattle.run_queue.specs.Queue.{queue-insert, queue-remove, timer-insert}
-use Rattle.run_queue.specs.Sorted.{Sorted}
+use Rattle.entries.specs.declared.Entry.{Entry}
+use Rattle.entries.specs.declared.Key.{Key}
+use Rattle.entries.specs.declared.Timer.{Timer}
+use Rattle.entries.specs.Order.{entry-before, sooner}
+use Rattle.entries.specs.Queue.{queue-insert, queue-remove, timer-insert}
+use Rattle.entries.specs.Sorted.{Sorted}
 use Rattle.percpu.specs.declared.PercpuBlock.{PercpuBlock}
 use Rattle.percpu.specs.Cpu.{Cpu}
 use Rattle.percpu.specs.Words.{block-words}
 use Rattle.percpu.specs.With.{cpu-block, cpu-queue, cpu-queue-len, cpu-timers, cpu-local-wakeup-list}
 use Rattle.percpu.specs.Layout.{cpu-words, counts, entry-at, no-entry}
 use Rattle.percpu.proofs.Read.{entry-is}
-use Rattle.queue.specs.Put.{no-room}
+use Rattle.run_queue.specs.Put.{no-room}
 use Rattle.timers.specs.Put.{timer-put, no-room as no-timer-room}
 use Rattle.machine.specs.Machine.{Machine, cpu-at, no-cpu, set-context, set-cpu}
 use Rattle.machine.specs.Encode.{encode, cpu-place}
@@ -35,38 +35,35 @@ use Rattle.machine.specs.Shape.{ContextFits, EntryFits, CpuFits, Fits, Image, W
 use Rattle.machine.proofs.Places.{lent-is, back-is}
 use Rattle.machine.proofs.Steps.{fits-cpu, fits-context}
 use Rattle.machine.proofs.LookUps.{block-word}
-use Rattle.decision.specs.State.{State, state-of, put-context, on-cpu, insert-entry, insert-timer, push-local, remove-key}
+use Rattle.model.specs.State.{State, state-of, put-context, on-cpu, insert-entry, insert-timer, push-local, remove-key}
 use Rattle.stages.specs.Stage.{put-state, StageAt, Stage, Staged}
 use Rattle.stages.specs.Read.{BlockFits, EntryRead}
 use Rattle.stages.proofs.Compose.{staged}
 use Rattle.stages.proofs.Fitting.{fits-inserted, fits-removed, fits-block, fits-timer-inserted, fits-local}
-
--- a word of the block that the code lends
-pub lent-word : (m : List ℕ) (n k j : ℕ) → j < 665 → getD (take (cpu-place n k + 665 - cpu-place n k) (drop (cpu-place n k) m)) j 0 ≡ getD m (cpu-place n k + j) 0
-lent-word m n k j h = rw (part-is m (cpu-place n k) (cpu-place n k + 665) 665 refl) (part-get m (cpu-place n k) 665 j h)
+use Rattle.percpu.specs.Places.{queue-count, timers-count, block-size}
 
 -- the count of the queue
 module _ {c n : ℕ} (m : List ℕ) (k : ℕ) (h : k < c) (M : Machine) (e : m ≡ encode M) (o : Fits c n M) where
-  pub queue-count : getD m (cpu-place n k + 21) 0 ≡ length (cpu-at M k .queue)
+  pub queue-counted : getD m (cpu-place n k + queue-count) 0 ≡ length (cpu-at M k .queue)
   unfolding cpu-words block-words stats-words counts
-  queue-count = block-word m k M e o 21 h (omega arith)
+  queue-counted = block-word m k M e o 21 h (omega arith)
 
-  pub timer-count : getD m (cpu-place n k + 22) 0 ≡ length (cpu-at M k .timers)
+  pub timers-counted : getD m (cpu-place n k + timers-count) 0 ≡ length (cpu-at M k .timers)
   unfolding cpu-words block-words stats-words counts
-  timer-count = block-word m k M e o 22 h (omega arith)
+  timers-counted = block-word m k M e o 22 h (omega arith)
 
-pub queue-small : {c n : ℕ} {m : List ℕ} (i : Image c n m) (k : ℕ) → k < c → getD m (cpu-place n k + 21) 0 ≤ 64
-queue-small {m = m} i k h = rw (queue-count m k h (i .M) (i .eq) (i .fits)) (i .fits .cpu k h .queue)
+pub queue-small : {c n : ℕ} {m : List ℕ} (i : Image c n m) (k : ℕ) → k < c → getD m (cpu-place n k + queue-count) 0 ≤ 64
+queue-small {m = m} i k h = rw (queue-counted m k h (i .M) (i .eq) (i .fits)) (i .fits .cpu k h .queue)
 
-pub timers-small : {c n : ℕ} {m : List ℕ} (i : Image c n m) (k : ℕ) → k < c → getD m (cpu-place n k + 22) 0 ≤ 64
-timers-small {m = m} i k h = rw (timer-count m k h (i .M) (i .eq) (i .fits)) (i .fits .cpu k h .timers)
+pub timers-small : {c n : ℕ} {m : List ℕ} (i : Image c n m) (k : ℕ) → k < c → getD m (cpu-place n k + timers-count) 0 ≤ 64
+timers-small {m = m} i k h = rw (timers-counted m k h (i .M) (i .eq) (i .fits)) (i .fits .cpu k h .timers)
 
-module _ {c n : ℕ} {m : List ℕ} (i : Image c n m) (k : ℕ) (h : k < c) (l : List ℕ) where
+module _ {c n : ℕ} {m : List ℕ} (i : Image c n m) (k : ℕ) {at : ℕ} (z : at ≡ cpu-place n k) (h : k < c) (l : List ℕ) where
   abbrev lent : List ℕ
-  lent = take (cpu-place n k + 665 - cpu-place n k) (drop (cpu-place n k) m)
+  lent = take (at + block-size - at) (drop at m)
 
   abbrev back : List ℕ
-  back = putMid (cpu-place n k) (cpu-place n k + 665 - cpu-place n k) m l
+  back = putMid at (at + block-size - at) m l
 
   -- a change that needs no room
   pub staged-cpu : (F : Cpu → Cpu) → ((p : Cpu) → CpuFits n p → lent ≡ cpu-words p → l ≡ cpu-words (F p)) → ((p : Cpu) → CpuFits n p → CpuFits n (F p))
@@ -76,7 +73,7 @@ module _ {c n : ℕ} {m : List ℕ} (i : Image c n m) (k : ℕ) (h : k < c) (l :
       (λ M e o.
       record {
         room = refl;
-        after = λ y. back-is m k h M e o (F (cpu-at M k)) l (f (cpu-at M k) (o .cpu k h) (lent-is m k h M e o));
+        after = λ y. back-is m k z h M e o (F (cpu-at M k)) l (f (cpu-at M k) (o .cpu k h) (lent-is m k z h M e o));
         fits = λ y. fits-cpu M k (F (cpu-at M k)) o (g (cpu-at M k) (o .cpu k h));
         answer = λ y. refl;
       })
@@ -88,10 +85,10 @@ module _ {c n : ℕ} {m : List ℕ} (i : Image c n m) (k : ℕ) (h : k < c) (l :
   staged-insert r F T f g =
       staged i
       (λ M e o.
-      let a = f (cpu-at M k) (o .cpu k h) (lent-is m k h M e o)
+      let a = f (cpu-at M k) (o .cpu k h) (lent-is m k z h M e o)
       in record {
         room = a .0;
-        after = λ y. back-is m k h M e o (F (cpu-at M k)) l (a .1 y);
+        after = λ y. back-is m k z h M e o (F (cpu-at M k)) l (a .1 y);
         fits = λ y. fits-cpu M k (F (cpu-at M k)) o (g (cpu-at M k) (o .cpu k h) (sym (a .0) ∙ y));
         answer = λ y. refl;
       })
@@ -157,14 +154,14 @@ staged-context k x q h w i =
       answer = λ y. refl;
     })
 
-pub entry-read : {c n : ℕ} {m : List ℕ} (i : Image c n m) (k j : ℕ) (h : k < c) → j < getD m (cpu-place n k + 21) 0 → (r : Entry)
-    → r ≡ entry-at (take (cpu-place n k + 665 - cpu-place n k) (drop (cpu-place n k) m)) j → EntryRead c n k j m r
-entry-read {c} {n} {m} i k j h b r e =
+pub entry-read : {c n : ℕ} {m : List ℕ} (i : Image c n m) (k j : ℕ) {at : ℕ} → at ≡ cpu-place n k → (h : k < c) → j < getD m (cpu-place n k + queue-count) 0 → (r : Entry)
+    → r ≡ entry-at (take (at + block-size - at) (drop at m)) j → EntryRead c n k j m r
+entry-read {c} {n} {m} i k j {at} p h b r e =
     record {
-      is = at;
-      fits = subst (EntryFits n) (sym (at (i .M) (i .eq) (i .fits))) (i .fits .cpu k h .entry j (rw (queue-count m k h (i .M) (i .eq) (i .fits)) at b));
+      is = reads;
+      fits = subst (EntryFits n) (sym (reads (i .M) (i .eq) (i .fits))) (i .fits .cpu k h .entry j (rw (queue-counted m k h (i .M) (i .eq) (i .fits)) at b));
     }
   where
-    at : (M : Machine) → m ≡ encode M → Fits c n M → r ≡ getD (cpu-at M k .queue) j no-entry
-    at M z o =
-        e ∙ ap (λ (l : List ℕ). entry-at l j) (lent-is m k h M z o) ∙ entry-is (cpu-at M k) j (rw (queue-count m k h M z o) at b) (o .cpu k h .queue)
+    reads : (M : Machine) → m ≡ encode M → Fits c n M → r ≡ getD (cpu-at M k .queue) j no-entry
+    reads M z o =
+        e ∙ ap (λ (l : List ℕ). entry-at l j) (lent-is m k p h M z o) ∙ entry-is (cpu-at M k) j (rw (queue-counted m k h M z o) at b) (o .cpu k h .queue)

@@ -14,7 +14,7 @@ use Rattle.percpu.specs.With.{cpu-block}
 use Rattle.machine.specs.Machine.{Machine, context-at, cpu-at, no-cpu}
 use Rattle.machine.specs.Encode.{encode}
 use Rattle.machine.specs.Shape.{ContextFits, CpuFits, Fits, Image}
-use Rattle.decision.specs.State.{State, state-of, on-cpu}
+use Rattle.model.specs.State.{State, state-of, on-cpu}
 use Rattle.stages.specs.Stage.{put-state, StageAt, Stage, Staged, CpuBelow, Ranged}
 use Rattle.stages.specs.Read.{BlockFits}
 use Rattle.stages.proofs.Compose.{staged, stage-as}

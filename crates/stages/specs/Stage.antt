@@ -10,7 +10,7 @@ use Rattle.percpu.specs.Layout.{no-entry, no-timer}
 use Rattle.machine.specs.Machine.{Machine, context-at, cpu-at}
 use Rattle.machine.specs.Encode.{encode}
 use Rattle.machine.specs.Shape.{Fits, Image}
-use Rattle.decision.specs.State.{State, state-of}
+use Rattle.model.specs.State.{State, state-of}
 
 -- the machine with the state of CPU k put back
 abbrev pub put-state : ℕ → State → Machine → Machine

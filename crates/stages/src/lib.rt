@@ -3,10 +3,11 @@
 mod block;
 
 use context::Context;
+use entries::Entry;
+use entries::Key;
+use entries::Timer;
 use percpu::PercpuBlock;
-use run_queue::Entry;
-use run_queue::Key;
-use run_queue::Timer;
+use percpu::places;
 ghost use mathlib.Core.Path.{_≡_};
 ghost use mathlib.Core.Bool.{Bool, true, false};
 ghost use Prim.Native.Nat.{ℕ, _+_, _*_, _<_, _≤_};
@@ -17,17 +18,18 @@ ghost use Rattle.percpu.specs.Layout.{no-entry};
 ghost use Rattle.machine.specs.Machine.{Machine, cpu-at};
 ghost use Rattle.machine.specs.Encode.{encode, cpu-place};
 ghost use Rattle.machine.specs.Shape.{ContextFits, EntryFits, Image, Fits};
-ghost use Rattle.decision.specs.State.{State, put-context, on-cpu, insert-entry, insert-timer, push-local, remove-key};
+ghost use Rattle.model.specs.State.{State, put-context, on-cpu, insert-entry, insert-timer, push-local, remove-key};
 ghost use Rattle.stages.specs.Stage.{Staged};
 ghost use Rattle.stages.specs.Read.{BlockFits, EntryRead};
+ghost use Rattle.percpu.specs.Places.{queue-count};
 
 pub fn load_block(m: &[u64], c: usize, n: usize, k: usize) -> PercpuBlock
     requires { ⌜ Image c n (now m) ⌝ }
     requires { ⌜ k < c ⌝ }
     ensures { λ r. ⌜ ((M : Machine) → now (m .entry) ≡ encode M → Fits c n M → r ≡ cpu-at M k .block) ⌝ }
 {
-    let at = 2 + 26 * n + 665 * k;
-    let end = at + 665;
+    let at = machine::cpu_place(n, k);
+    let end = at + places::BLOCK_SIZE;
     block::load(&m[at..end])
 }
 
@@ -37,8 +39,8 @@ pub fn store_block(m: &mut [u64], c: usize, n: usize, k: usize, b: PercpuBlock)
     requires { ⌜ BlockFits n b ⌝ }
     ensures { λ r. ⌜ Staged c n k (now (m .entry)) (now (m .exit)) false (λ (s : State). on-cpu (λ (p : Cpu). cpu-block b p) s) ⌝ }
 {
-    let at = 2 + 26 * n + 665 * k;
-    let end = at + 665;
+    let at = machine::cpu_place(n, k);
+    let end = at + places::BLOCK_SIZE;
     block::store(&mut m[at..end], b);
 }
 
@@ -58,8 +60,8 @@ pub fn insert_entry(m: &mut [u64], c: usize, n: usize, k: usize, e: Entry) -> bo
     requires { ⌜ EntryFits n e ⌝ }
     ensures { λ r. ⌜ Staged c n k (now (m .entry)) (now (m .exit)) r (λ (s : State). insert-entry e s) ⌝ }
 {
-    let at = 2 + 26 * n + 665 * k;
-    let end = at + 665;
+    let at = machine::cpu_place(n, k);
+    let end = at + places::BLOCK_SIZE;
     block::insert_entry(&mut m[at..end], e)
 }
 
@@ -68,8 +70,8 @@ pub fn remove_key(m: &mut [u64], c: usize, n: usize, k: usize, key: Key)
     requires { ⌜ k < c ⌝ }
     ensures { λ r. ⌜ Staged c n k (now (m .entry)) (now (m .exit)) false (λ (s : State). remove-key key s) ⌝ }
 {
-    let at = 2 + 26 * n + 665 * k;
-    let end = at + 665;
+    let at = machine::cpu_place(n, k);
+    let end = at + places::BLOCK_SIZE;
     block::remove_key(&mut m[at..end], key);
 }
 
@@ -79,8 +81,8 @@ pub fn insert_timer(m: &mut [u64], c: usize, n: usize, k: usize, t: Timer) -> bo
     requires { ⌜ (k < c) × (t .«context_ref» < n) ⌝ }
     ensures { λ r. ⌜ Staged c n k (now (m .entry)) (now (m .exit)) r (λ (s : State). insert-timer t s) ⌝ }
 {
-    let at = 2 + 26 * n + 665 * k;
-    let end = at + 665;
+    let at = machine::cpu_place(n, k);
+    let end = at + places::BLOCK_SIZE;
     timers::insert(&mut m[at..end], t)
 }
 
@@ -90,27 +92,27 @@ pub fn push_local(m: &mut [u64], c: usize, n: usize, k: usize, x: usize) -> bool
     requires { ⌜ (k < c) × (x < n) ⌝ }
     ensures { λ r. ⌜ Staged c n k (now (m .entry)) (now (m .exit)) r (λ (s : State). push-local x s) ⌝ }
 {
-    let at = 2 + 26 * n + 665 * k;
-    let end = at + 665;
-    let name = machine::word(x);
+    let at = machine::cpu_place(n, k);
+    let end = at + places::BLOCK_SIZE;
+    let name = numbers::word(x);
     block::push_local(&mut m[at..end], name)
 }
 
 pub fn queue_len(m: &[u64], c: usize, n: usize, k: usize) -> usize
     requires { ⌜ Image c n (now m) ⌝ }
     requires { ⌜ k < c ⌝ }
-    ensures { λ r. ⌜ (r ≡ getD (now (m .entry)) (cpu-place n k + 21) 0) × (r ≤ 64) × ((M : Machine) → now (m .entry) ≡ encode M → Fits c n M → r ≡ length (cpu-at M k .queue)) ⌝ }
+    ensures { λ r. ⌜ (r ≡ getD (now (m .entry)) (cpu-place n k + queue-count) 0) × (r ≤ 64) × ((M : Machine) → now (m .entry) ≡ encode M → Fits c n M → r ≡ length (cpu-at M k .queue)) ⌝ }
 {
-    let at = 2 + 26 * n + 665 * k + 21;
-    machine::index(m[at])
+    let at = machine::cpu_place(n, k) + places::QUEUE_COUNT;
+    numbers::index(m[at])
 }
 
 pub fn entry(m: &[u64], c: usize, n: usize, k: usize, i: usize) -> Entry
     requires { ⌜ Image c n (now m) ⌝ }
-    requires { ⌜ (k < c) × (i < getD (now m) (cpu-place n k + 21) 0) ⌝ }
+    requires { ⌜ (k < c) × (i < getD (now m) (cpu-place n k + queue-count) 0) ⌝ }
     ensures { λ r. ⌜ EntryRead c n k i (now (m .entry)) r ⌝ }
 {
-    let at = 2 + 26 * n + 665 * k;
-    let end = at + 665;
-    queue::entry(&m[at..end], i)
+    let at = machine::cpu_place(n, k);
+    let end = at + places::BLOCK_SIZE;
+    run_queue::entry(&m[at..end], i)
 }

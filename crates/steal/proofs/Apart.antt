@@ -1,6 +1,6 @@
 -- The candidates: entries of the victim's queue, of contexts that differ. Assumes nothing.
-use mathlib.Core.Path.{_≡_, refl}
-use mathlib.Core.Bool.{Bool, true, false, not, _&&_, _||_}
+use mathlib.Core.Path.{_≡_}
+use mathlib.Core.Bool.{Bool, true, false, not, _&&_}
 use mathlib.Core.List.{List, [], _∷_, _++_}
 use mathlib.Core.Logic.{_≢_}
 use mathlib.Core.Option.{Option}
@@ -10,24 +10,19 @@ use lib.Dec.{ltb, eqb}
 use lib.ListN.{length, length-append}
 use borrow.Author.Tests.{eqb-false}
 use Rattle.columns.specs.Common.{fold, All}
-use Rattle.columns.proofs.Tests.{by-test, and-both}
+use Rattle.model.proofs.Cases.{by-test, and-both, or-neither, not-is-true}
 use Rattle.context.specs.declared.Context.{Context}
 use Rattle.context.specs.Status.{is-runnable}
 use Rattle.cpu_set.specs.Set.{contains}
-use Rattle.run_queue.specs.declared.Entry.{Entry}
+use Rattle.entries.specs.declared.Entry.{Entry}
 use Rattle.machine.specs.Machine.{context-at}
-use Rattle.decision.specs.Steal.{member, wins, contexts-of, can-be-stolen, take-candidate, candidates}
-use Rattle.steal_judge.proofs.Judging.{was-false}
+use Rattle.model.specs.Steal.{member, wins, contexts-of, can-be-stolen, take-candidate, candidates}
 
 abbrev pub Apart : List Entry → Type 0
 Apart [] = Unit {0}
 Apart (x ∷ xs) = All (λ (f : Entry). f .«context_ref» ≢ x .«context_ref») xs × Apart xs
 
-or-neither : (a b : Bool) → (a || b) ≡ false → (a ≡ false) × (b ≡ false)
-or-neither false b e = (refl, e)
-or-neither true b e = let z : _≡_ {A = ℕ} 0 1 = cc in absurd (omega arith)
-
-all-more : (P : Entry → Type 0) (l : List Entry) (e : Entry) → All P l → P e → All P (l ++ (e ∷ []))
+pub all-more : (P : Entry → Type 0) (l : List Entry) (e : Entry) → All P l → P e → All P (l ++ (e ∷ []))
 all-more P [] e a p = (p, tt)
 all-more P (x ∷ xs) e a p = (a .0, all-more P xs e (a .1) p)
 
@@ -51,7 +46,7 @@ module _ (k : ℕ) (locked : List ℕ) (cs : List Context) (w : Option ℕ) (n :
   unfolding can-be-stolen
   not-taken got e h =
       let q : Context = context-at cs (e .«context_ref») in
-      was-false _
+      not-is-true _
       (fifth (not (q .gone)) (eqb (q .lock) 0) (not (member (e .«context_ref») locked)) (not (wins w (e .«context_ref»))) (not (member (e .«context_ref») (contexts-of got)))
       (contains (q .«sched_affinity») k) (is-runnable (q .status)) (not (q .running)) (not (q .«currently_scheduled»)) (not (eqb (q .«addr_space») 2)) h)
 

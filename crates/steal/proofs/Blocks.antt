@@ -9,8 +9,8 @@ use lib.ListN.{length, getD, set}
 use borrow.Author.Tests.{ne-eqb}
 use Rattle.columns.specs.Common.{mark, is-empty}
 use Rattle.cpu_stats.specs.Words.{stats-words}
-use Rattle.run_queue.specs.declared.Entry.{Entry}
-use Rattle.run_queue.specs.Queue.{queue-remove}
+use Rattle.entries.specs.declared.Entry.{Entry}
+use Rattle.entries.specs.Queue.{queue-remove}
 use Rattle.percpu.specs.Cpu.{Cpu}
 use Rattle.percpu.specs.Words.{block-words}
 use Rattle.percpu.specs.With.{cpu-queue, cpu-total-weight}
@@ -20,7 +20,8 @@ use Rattle.machine.specs.Encode.{encode, cpu-place}
 use Rattle.machine.specs.Shape.{CpuFits, Fits}
 use Rattle.machine.proofs.LookUps.{block-word}
 use Rattle.stages.proofs.Fitting.{fits-removed}
-use Rattle.decision.specs.Steal.{give-up, published, mark-stealable, count-steal}
+use Rattle.model.specs.Steal.{give-up, published, mark-stealable, count-steal}
+use Rattle.numbers.specs.Limits.{word-range}
 
 gave : (e : Entry) (p : Cpu) → set (cpu-words (cpu-queue (queue-remove (e .key) (p .queue)) p)) 20 (p .block .«total_weight» - e .weight) ≡ cpu-words (give-up e p)
 unfolding cpu-words block-words stats-words counts columns
@@ -101,11 +102,11 @@ pub weight-of : {c n : ℕ} (m : List ℕ) (k : ℕ) → k < c → (M : Machine)
 unfolding cpu-words block-words stats-words counts
 weight-of m k h M e o = block-word m k M e o 20 h (omega arith)
 
-counted : (p : Cpu) → set (cpu-words p) 11 ((getD (cpu-words p) 11 0 + 1) % 18446744073709551616) ≡ cpu-words (count-steal p)
+counted : (p : Cpu) → set (cpu-words p) 11 ((getD (cpu-words p) 11 0 + 1) % word-range) ≡ cpu-words (count-steal p)
 unfolding cpu-words block-words stats-words counts columns
 counted p = refl
 
-pub counted-is : (b : List ℕ) (p : Cpu) {w : ℕ} → b ≡ cpu-words p → w ≡ (getD b 11 0 + 1) % 18446744073709551616 → set b 11 w ≡ cpu-words (count-steal p)
+pub counted-is : (b : List ℕ) (p : Cpu) {w : ℕ} → b ≡ cpu-words p → w ≡ (getD b 11 0 + 1) % word-range → set b 11 w ≡ cpu-words (count-steal p)
 counted-is b p z h = rw (h, z) (counted p)
 
 pub fits-counted : (n : ℕ) (p : Cpu) → CpuFits n p → CpuFits n (count-steal p)

@@ -2,113 +2,36 @@
 use mathlib.Core.Path.{_≡_, refl, sym, subst}
 use mathlib.Core.Bool.{Bool, false}
 use mathlib.Core.List.{List, [], _∷_}
-use mathlib.Core.Logic.{_≢_}
 use mathlib.Core.Option.{Option}
 use Prim.Native.Nat.{ℕ, zero, suc, _+_, _-_, _*_, _%_, _<_, _≤_}
 use native.Mathlib.Omega.{arith}
-use lib.ListN.{length, getD, set}
-use lib.Seq.{getD-set-other}
+use lib.ListN.{length, getD}
 use Rattle.columns.specs.Common.{fold, tabulate, All}
 use Rattle.columns.proofs.Tests.{by-test, never}
-use Rattle.context.specs.declared.Context.{Context}
-use Rattle.run_queue.specs.declared.Entry.{Entry}
+use Rattle.entries.specs.declared.Entry.{Entry}
 use Rattle.percpu.specs.Cpu.{Cpu}
 use Rattle.percpu.specs.Layout.{no-entry}
-use Rattle.percpu.specs.With.{cpu-total-weight}
-use Rattle.machine.specs.Machine.{Machine, context-at, cpu-at, no-context, no-cpu}
+use Rattle.machine.specs.Machine.{Machine, context-at, cpu-at, no-cpu}
 use Rattle.machine.specs.Shape.{EntryFits, Fits}
 use Rattle.machine.proofs.Steps.{getD-set}
-use Rattle.decision.specs.State.{state-of, on-cpu, with-new-key}
-use Rattle.decision.specs.Steal.{Stealing, Moving, moved, first-wins, move-entry, can-steal-from, want, candidates, targets, count-steal, should-steal, steal-entries, steal-from, steal}
-use Rattle.decision.proofs.Lists.{all-map}
+use Rattle.model.specs.State.{state-of, on-cpu}
+use Rattle.model.specs.Steal.{Stealing, Moving, move-entry, can-steal-from, want, candidates, targets, count-steal, should-steal, steal-entries, steal-from, steal}
+use Rattle.model.proofs.Lists.{all-map}
 use Rattle.stages.specs.Stage.{ContextBelow, CpuBelow, Below, Ranged}
 use Rattle.stages.proofs.Fitting.{all-of}
 use Rattle.picked.specs.declared.Picked.{Picked}
 use Rattle.steal.specs.Moves.{machine-of, Steals}
 use Rattle.steal.proofs.Round.{round-is, done-still}
-use Rattle.steal.proofs.Stolen.{counted-below}
 use Rattle.steal.proofs.Apart.{Apart, candidates-taken}
-use Rattle.steal.proofs.Below.{cpu-weaker, context-weaker, below-weight, below-published, below-marked, below-inserted, below-given-up, below-moved, below-keyed}
-
--- es: the entries that are still to be moved
-pub record MovingBelow (n t b : ℕ) (v : Moving) (es : List Entry) : Type 0 where
-  pub context : (x : ℕ) → x < n → ContextBelow t (2 * b + 1073741824) (context-at (v .state .contexts) x)
-  pub slice : (x : ℕ) → x < n → (context-at (v .state .contexts) x) .«rem_slice» ≤ 9663676416
-  pub cpu : CpuBelow t (2 * b + 1073741824) (v .state .cpu)
-  pub v-here : v .state .cpu .block .v ≤ b
-  pub weight : v .state .cpu .block .«total_weight» + 88761 * length es ≤ b + 5680704
-  pub victim : CpuBelow t b (v .victim)
-  pub each : All (EntryFits n) es
-  pub still : All (λ (e : Entry). (context-at (v .state .contexts) (e .«context_ref»)) .vtime ≤ b) es
-  pub apart : Apart es
-
--- what was set does not concern the entries of other contexts
-still-others : (b : ℕ) (cs : List Context) (x : ℕ) (q : Context) (es : List Entry) → All (λ (f : Entry). f .«context_ref» ≢ x) es → All (λ (e : Entry). (context-at cs (e .«context_ref»)) .vtime ≤ b) es
-    → All (λ (e : Entry). (context-at (set cs x q) (e .«context_ref»)) .vtime ≤ b) es
-still-others b cs x q [] a h = tt
-still-others b cs x q (e ∷ es) a h = (rw (getD-set-other cs x (e .«context_ref») q no-context (a .0)) (h .0), still-others b cs x q es (a .1) (h .1))
-
-module _ {n t : ℕ} (b : ℕ) (runs : Bool) (v : Moving) (e : Entry) (es : List Entry) (a : MovingBelow n t b v (e ∷ es)) where
-  abbrev x : ℕ
-  x = e .«context_ref»
-
-  abbrev q : Context
-  q = context-at (v .state .contexts) x
-
-  abbrev r : Context
-  r = moved (v .state .cpu .block .v) (v .victim .block .v) (e .weight) q
-
-  f : EntryFits n e
-  f = a .each .0
-
-  r-below : ContextBelow t (2 * b + 1073741824) r
-  r-below = below-moved b (v .state .cpu .block .v) (v .victim .block .v) (e .weight) q (a .context x (f .name)) (a .v-here) (a .still .0) (a .slice x (f .name)) (f .heavy)
-
-  heavier : CpuBelow t (2 * b + 1073741824) (cpu-total-weight (v .state .cpu .block .«total_weight» + e .weight) (v .state .cpu))
-  heavier = below-weight (v .state .cpu .block .«total_weight» + e .weight) (v .state .cpu) (omega (arith, a .weight, f .light)) (a .cpu)
-
-  weight-left : v .state .cpu .block .«total_weight» + e .weight + 88761 * length es ≤ b + 5680704
-  weight-left = omega (arith, a .weight, f .light)
-
-  pub move-below : MovingBelow n t b (move-entry runs v e) es
-  unfolding move-entry
-  move-below =
-      by-test (first-wins runs (v .winner))
-      (λ z. rw z
-      (record {
-        context = λ y l. getD-set (v .state .contexts) x y r no-context (ContextBelow t (2 * b + 1073741824)) r-below (a .context y l);
-        slice = λ y l. getD-set (v .state .contexts) x y r no-context (λ (i : Context). i .«rem_slice» ≤ 9663676416) (a .slice x (f .name)) (a .slice y l);
-        cpu = heavier;
-        v-here = a .v-here;
-        weight = weight-left;
-        victim = below-given-up b e (v .victim) (a .victim);
-        each = a .each .1;
-        still = still-others b (v .state .contexts) x r es (a .apart .0) (a .still .1);
-        apart = a .apart .1;
-      }))
-      (λ z. rw z
-      (record {
-        context = λ y l. getD-set (v .state .contexts) x y (with-new-key r) no-context (ContextBelow t (2 * b + 1073741824))
-            (below-keyed b (v .state .cpu .block .v) (v .victim .block .v) (e .weight) q (a .context x (f .name)) (a .v-here) (a .still .0) (a .slice x (f .name)) (f .heavy)) (a .context y l);
-        slice = λ y l. getD-set (v .state .contexts) x y (with-new-key r) no-context (λ (i : Context). i .«rem_slice» ≤ 9663676416) (a .slice x (f .name)) (a .slice y l);
-        cpu = below-inserted (2 * b + 1073741824) _ _ (cpu-total-weight (v .state .cpu .block .«total_weight» + e .weight) (v .state .cpu)) (r-below .vtime) (r-below .vd) heavier;
-        v-here = a .v-here;
-        weight = weight-left;
-        victim = below-given-up b e (v .victim) (a .victim);
-        each = a .each .1;
-        still = still-others b (v .state .contexts) x (with-new-key r) es (a .apart .0) (a .still .1);
-        apart = a .apart .1;
-      }))
-
-moves-below : {n t : ℕ} (b : ℕ) (runs : Bool) (v : Moving) (es : List Entry) → MovingBelow n t b v es → MovingBelow n t b (fold (move-entry runs) v es) []
-moves-below b runs v [] a = a
-moves-below b runs v (e ∷ es) a = moves-below b runs (move-entry runs v e) es (move-below b runs v e es a)
+use Rattle.steal.proofs.MovesBounded.{MovingBelow, moves-below}
+use Rattle.steal.proofs.Below.{cpu-weaker, context-weaker, below-counted, below-published, below-marked}
+use Rattle.stages.specs.Bounds.{slice-bound}
 
 -- the state of the stealing; s: where it began
 pub record StealingBelow (c n t b : ℕ) (s l : Stealing) : Type 0 where
-  pub context : (x : ℕ) → x < n → ContextBelow t (2 * b + 1073741824) (context-at (l .state .contexts) x)
-  pub cpu : CpuBelow t (2 * b + 1073741824) (l .state .cpu)
-  pub cpus : (j : ℕ) → j < c → CpuBelow t (2 * b + 1073741824) (getD (l .cpus) j no-cpu)
+  pub context : (x : ℕ) → x < n → ContextBelow t (2 * b + slice-bound) (context-at (l .state .contexts) x)
+  pub cpu : CpuBelow t (2 * b + slice-bound) (l .state .cpu)
+  pub cpus : (j : ℕ) → j < c → CpuBelow t (2 * b + slice-bound) (getD (l .cpus) j no-cpu)
   pub fresh : l .done ≡ false → l ≡ s
 
 fold-tabulate : {B : Type 0} (P : B → Type 0) (f : B → ℕ → B) (N : ℕ) (g : ℕ → ℕ) → ((y : B) (j : ℕ) → j < N → P y → P (f y (g j))) → (y : B) → P y → P (fold f y (tabulate N g))
@@ -124,9 +47,9 @@ module _ {c n t : ℕ} (b k : ℕ) (runs : Bool) (locked : List ℕ) (w : Option
   unfolding cpu-at
   start-below =
       record {
-        context = λ x l. context-weaker b (2 * b + 1073741824) _ (omega arith) (a .context x l);
-        cpu = cpu-weaker b (2 * b + 1073741824) _ (omega arith) (counted-below (cpu-at M k) (a .cpu k h));
-        cpus = λ j l. cpu-weaker b (2 * b + 1073741824) _ (omega arith) (a .cpu j l);
+        context = λ x l. context-weaker b (2 * b + slice-bound) _ (omega arith) (a .context x l);
+        cpu = cpu-weaker b (2 * b + slice-bound) _ (omega arith) (below-counted (cpu-at M k) (a .cpu k h));
+        cpus = λ j l. cpu-weaker b (2 * b + slice-bound) _ (omega arith) (a .cpu j l);
         fresh = λ z. refl;
       }
 
@@ -158,7 +81,7 @@ module _ {c n t : ℕ} (b k : ℕ) (runs : Bool) (locked : List ℕ) (w : Option
         record {
           context = z .context;
           cpu = below-published _ (z .cpu);
-          cpus = λ i y. getD-set (M .cpus) j i _ no-cpu (CpuBelow t (2 * b + 1073741824)) (cpu-weaker b (2 * b + 1073741824) _ (omega arith) (below-marked _ (z .victim))) (start-below .cpus i y);
+          cpus = λ i y. getD-set (M .cpus) j i _ no-cpu (CpuBelow t (2 * b + slice-bound)) (cpu-weaker b (2 * b + slice-bound) _ (omega arith) (below-marked _ (z .victim))) (start-below .cpus i y);
           fresh = λ y. never y;
         }
 
@@ -183,17 +106,17 @@ module _ {c n t : ℕ} (b k : ℕ) (runs : Bool) (locked : List ℕ) (w : Option
       (fold-tabulate (StealingBelow c n t b start) (steal-from k runs locked) (c - 1) (λ (j : ℕ). (k + (j + 1)) % c) (λ y j l p. from-below ((k + (j + 1)) % c) (round-is k c j h l .0) y p) start start-below))
       (λ z. rw z start-below)
 
-  pub steal-below : Below c n t (2 * b + 1073741824) (machine-of k (steal k runs locked (M .cpus) w (state-of k M)))
+  pub steal-below : Below c n t (2 * b + slice-bound) (machine-of k (steal k runs locked (M .cpus) w (state-of k M)))
   unfolding cpu-at
   steal-below =
       record {
         context = all-below .context;
-        cpu = λ j l. getD-set ((steal k runs locked (M .cpus) w (state-of k M)) .cpus) k j _ no-cpu (CpuBelow t (2 * b + 1073741824)) (all-below .cpu) (all-below .cpus j l);
+        cpu = λ j l. getD-set ((steal k runs locked (M .cpus) w (state-of k M)) .cpus) k j _ no-cpu (CpuBelow t (2 * b + slice-bound)) (all-below .cpu) (all-below .cpus j l);
       }
 
 -- the image after
 pub steal-ranged : {c n t b k : ℕ} {m m' : List ℕ} {full : Bool} {w' : Picked} (runs : Bool) (locked : List ℕ) (w : Option ℕ) → k < c → full ≡ false
-    → Steals c n k m m' full w' (λ (M : Machine). steal k runs locked (M .cpus) w (state-of k M)) → Ranged c n t b m → Ranged c n t (2 * b + 1073741824) m'
+    → Steals c n k m m' full w' (λ (M : Machine). steal k runs locked (M .cpus) w (state-of k M)) → Ranged c n t b m → Ranged c n t (2 * b + slice-bound) m'
 steal-ranged {b = b} {k = k} runs locked w h z s r =
     let p = s .steals (r .M) (r .eq) (r .fits) in
     record { M = _; eq = p .after z; fits = p .fits z; below = steal-below b k runs locked w (r .M) h (r .fits) (r .below) }

@@ -1,9 +1,12 @@
 pub mod Searching
 pub mod Round
+pub mod Offered
 pub mod Blocks
 pub mod Victims
 pub mod Moved
+pub mod Movable
 pub mod Stolen
 pub mod Apart
 pub mod Below
+pub mod MovesBounded
 pub mod Bounded

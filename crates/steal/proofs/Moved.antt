@@ -1,27 +1,22 @@
--- One entry moved, and the room for its sums. Assumes nothing.
+-- One entry moved. Assumes nothing.
 use mathlib.Core.Path.{_≡_, refl, sym, ap, _∙_, subst}
 use mathlib.Core.Bool.{Bool, true, false}
 use mathlib.Core.List.{List}
 use mathlib.Core.Logic.{_≢_}
-use Prim.Native.Nat.{ℕ, _+_, _-_, _<_, _≤_}
-use native.Mathlib.Omega.{arith}
-use lib.ListN.{getD, set, length-set}
-use lib.Seq.{getD-set-same}
-use Rattle.columns.specs.Common.{if_then_else_, fold, All}
+use Prim.Native.Nat.{ℕ, _+_, _<_}
+use Rattle.columns.specs.Common.{fold, All}
 use Rattle.columns.proofs.Tests.{by-test}
 use Rattle.context.specs.declared.Context.{Context}
-use Rattle.run_queue.specs.declared.Entry.{Entry}
+use Rattle.entries.specs.declared.Entry.{Entry}
 use Rattle.percpu.specs.declared.PercpuBlock.{PercpuBlock}
 use Rattle.percpu.specs.Cpu.{Cpu}
 use Rattle.percpu.specs.With.{cpu-total-weight}
-use Rattle.machine.specs.Machine.{Machine, cpu-at, context-at, no-cpu, no-context}
-use Rattle.machine.specs.Encode.{encode, cpu-place}
+use Rattle.machine.specs.Machine.{Machine, cpu-at, context-at}
+use Rattle.machine.specs.Encode.{encode}
 use Rattle.machine.specs.Shape.{ContextFits, EntryFits, Fits, Image}
-use Rattle.machine.proofs.Steps.{getD-set}
-use Rattle.decision.specs.State.{State, state-of, on-cpu, put-context, insert-entry, with-new-key, at}
-use Rattle.decision.specs.Wakeups.{entry-of}
-use Rattle.decision.specs.Steal.{Moving, moved, first-wins, give-up, move-entry}
-use Rattle.stages.specs.Stage.{Stage, Staged, Ranged}
+use Rattle.model.specs.State.{State, state-of, on-cpu, put-context, insert-entry}
+use Rattle.model.specs.Steal.{Moving, moved, first-wins, give-up, move-entry}
+use Rattle.stages.specs.Stage.{Stage, Staged}
 use Rattle.stages.proofs.Compose.{stage-as, stage-then}
 use Rattle.picked.specs.declared.Picked.{Picked}
 use Rattle.picked.specs.declared.Picked.the-variants.{Somebody}
@@ -29,9 +24,9 @@ use Rattle.steal_judge.specs.declared.Candidates.{Candidates}
 use Rattle.steal_judge.specs.declared.Candidates.the-variants.{Nothing, Single, Pair}
 use Rattle.picked.specs.Names.{picked-of}
 use Rattle.steal_judge.specs.Names.{entries-of}
-use Rattle.steal.specs.Moves.{moving-of, put-moving, MovesAt, Moves, Movable, taken-in, winner-in}
-use Rattle.steal.proofs.Blocks.{weight-of}
-use Rattle.steal.proofs.Victims.{victim-then, state-kept}
+use Rattle.steal.specs.Moves.{moving-of, Moves, taken-in, winner-in}
+use Rattle.steal.proofs.Victims.{victim-then}
+use Rattle.context.specs.Key.{with-new-key, entry-of}
 
 -- the record that is queued, and its entry
 pub keyed-fits : {c : ℕ} {r : Context} (q : Context) → r ≡ with-new-key q → ContextFits c q → ContextFits c r
@@ -61,15 +56,7 @@ module _ {c n k : ℕ} {m m1 : List ℕ} (e : Entry) (q : Context) where
         let z : first-wins runs (picked-of w) ≡ false = sym t ∙ u in
         stage-as a (λ M i o. (rw z, λ l y. rw z))
 
--- the sums of a stolen record
-pub movable-sum : {c n k : ℕ} {m : List ℕ} (a : Movable c n k m) (b : PercpuBlock) (q : Context) (x : ℕ) → x < n → b ≡ cpu-at (a .M) k .block → q ≡ context-at (a .M .contexts) x
-    → (b .v + q .vtime ≤ 18446744064045875199) × (q .«rem_slice» ≤ 9663676416)
-movable-sum {c} {k = k} a b q x h e z =
-    let u : b .v ≤ 4899916395652841471 = subst (λ (y : PercpuBlock). y .v ≤ 4899916395652841471) (sym e) (a .v) in
-    let i : q .vtime ≤ 9799832791305682942 = subst (λ (y : Context). y .vtime ≤ 9799832791305682942) (sym z) (a .vtime x h) in
-    let j : ContextFits c q = subst (ContextFits c) (sym z) (a .fits .context x h) in
-    (omega arith, j .rem-slice)
-
+-- the record as it was read, moved
 pub stolen-fits : {c n : ℕ} {m : List ℕ} {r : Context} (here there weight : ℕ) (q : Context) (x : ℕ) (i : Image c n m) → x < n → q ≡ context-at (i .M .contexts) x → r ≡ moved here there weight q → ContextFits c r
 stolen-fits {c} here there weight q x i h z e =
     let j : ContextFits c q = subst (ContextFits c) (sym z) (i .fits .context x h) in
@@ -78,14 +65,6 @@ stolen-fits {c} here there weight q x i h z e =
 pub stolen-as : {r : Context} (b b' : PercpuBlock) (weight : ℕ) (q : Context) (M : Machine) (k t x : ℕ) → r ≡ moved (b .v) (b' .v) weight q → b ≡ cpu-at M k .block → b' ≡ cpu-at M t .block
     → q ≡ context-at (M .contexts) x → r ≡ moved (cpu-at M k .block .v) (cpu-at M t .block .v) weight (context-at (M .contexts) x)
 stolen-as b b' weight q M k t x e i j l = e ∙ (λ y. moved ((i y) .v) ((j y) .v) weight (l y))
-
--- this CPU's total weight after the victim has changed
-pub weight-small : {c n k t : ℕ} {m m1 : List ℕ} (G : Cpu → Cpu) → k < c → t ≢ k → Movable c n k m → Staged c n t m m1 false (λ (s : State). on-cpu G s)
-    → getD m1 (cpu-place n k + 20) 0 ≤ 9799832791305682942
-weight-small {k = k} {t = t} {m1 = m1} G h d a s =
-    let p = s .stage (a .M) (a .eq) (a .fits) in
-    rw (weight-of m1 k h _ (p .after refl) (p .fits refl))
-    (subst (λ (y : State). y .cpu .block .«total_weight» ≤ 9799832791305682942) (sym (state-kept k t (a .M) (G (cpu-at (a .M) t)) (λ z. d (sym z)))) (a .total-weight))
 
 -- the move of one entry
 module _ (runs : Bool) (w : Picked) (e : Entry) (k t : ℕ) (M : Machine) (q : Context) where
@@ -117,64 +96,6 @@ entry-moved {k = k} {t = t} {r = r} {w = w} runs e x q h d i z a b s =
     let y : q ≡ moved (cpu-at M k .block .v) (cpu-at M t .block .v) (e .weight) (context-at (M .contexts) (e .«context_ref»)) =
     z M u o ∙ ap (λ (j : ℕ). moved (cpu-at M k .block .v) (cpu-at M t .block .v) (e .weight) (context-at (M .contexts) j)) i in
     (moved-state runs w e k t M q y, moved-victim runs w e k t M q, λ l. moved-winner runs w e k t M q l))
-
--- the sums of the first move, and of the second
-pub movable-first : {c n k : ℕ} {m : List ℕ} → k < c → Ranged c n 4611686027017322496 4899916395652841471 m → Movable c n k m
-movable-first {k = k} h a =
-    record {
-      M = a .M;
-      eq = a .eq;
-      fits = a .fits;
-      v = a .below .cpu k h .v;
-      total-weight = omega (arith, a .below .cpu k h .total-weight);
-      vtime = λ x l. omega (arith, a .below .context x l .vtime);
-    }
-
-module _ (runs : Bool) (v : Moving) (e : Entry) where
-  moved-v : (move-entry runs v e) .state .cpu .block .v ≡ v .state .cpu .block .v
-  unfolding move-entry
-  moved-v = by-test (first-wins runs (v .winner)) (λ f. rw f) (λ f. rw f)
-
-  moved-weight : (move-entry runs v e) .state .cpu .block .«total_weight» ≡ v .state .cpu .block .«total_weight» + e .weight
-  unfolding move-entry
-  moved-weight = by-test (first-wins runs (v .winner)) (λ f. rw f) (λ f. rw f)
-
-  abbrev its-record : Context
-  its-record = moved (v .state .cpu .block .v) (v .victim .block .v) (e .weight) (at (v .state) (e .«context_ref»))
-
-  moved-contexts : (move-entry runs v e) .state .contexts ≡ set (v .state .contexts) (e .«context_ref») (if first-wins runs (v .winner) then its-record else with-new-key its-record)
-  unfolding move-entry
-  moved-contexts = by-test (first-wins runs (v .winner)) (λ f. rw f) (λ f. rw f)
-
-  its-vtime : (if first-wins runs (v .winner) then its-record else with-new-key its-record) .vtime ≡ v .state .cpu .block .v + (at (v .state) (e .«context_ref»)) .vtime - v .victim .block .v
-  its-vtime = by-test (first-wins runs (v .winner)) (λ f. rw f) (λ f. rw f)
-
-pub movable-second : {c n k t : ℕ} {m m1 : List ℕ} {full : Bool} {w w1 : Picked} (runs : Bool) (e : Entry) → k < c → t < c → Ranged c n 4611686027017322496 4899916395652841471 m → EntryFits n e → full ≡ false
-    → Moves c n k t m m1 full w w1 (λ (v : Moving). move-entry runs v e) → Movable c n k m1
-unfolding cpu-at
-movable-second {c = c} {n = n} {k = k} {t = t} {m1 = m1} {full = full} {w = w} {w1 = w1} runs e h g a f z s =
-    record {
-      M = put-moving k t v (a .M);
-      eq = p .after z;
-      fits = p .fits z;
-      v = subst (λ (y : Cpu). y .block .v ≤ 4899916395652841471) (sym this) (rw (moved-v runs u e) (a .below .cpu k h .v));
-      total-weight = subst (λ (y : Cpu). y .block .«total_weight» ≤ 9799832791305682942) (sym this) (rw (moved-weight runs u e) (omega (arith, a .below .cpu k h .total-weight, f .light)));
-      vtime = λ x l. subst (λ (y : List Context). (context-at y x) .vtime ≤ 9799832791305682942) (sym (moved-contexts runs u e))
-          (getD-set (a .M .contexts) (e .«context_ref») x _ no-context (λ (y : Context). y .vtime ≤ 9799832791305682942)
-          (rw (its-vtime runs u e) (omega (arith, a .below .cpu k h .v, a .below .context (e .«context_ref») (f .name) .vtime))) (omega (arith, a .below .context x l .vtime)));
-    }
-  where
-    u : Moving
-    u = moving-of k t w (a .M)
-
-    v : Moving
-    v = move-entry runs u e
-
-    p : MovesAt c n k t m1 full w1 v (a .M)
-    p = s .moves (a .M) (a .eq) (a .fits)
-
-    this : cpu-at (put-moving k t v (a .M)) k ≡ v .state .cpu
-    this = getD-set-same (set (a .M .cpus) t (v .victim)) k (v .state .cpu) no-cpu (rw (length-set (a .M .cpus) t (v .victim)) (omega (arith, a .fits .cpus)))
 
 -- an insertion that finds no room is not undone
 pub move-stays-full : (runs : Bool) (e : Entry) (v : Moving) → v .state .no-room ≡ true → (move-entry runs v e) .state .no-room ≡ true

@@ -1,6 +1,6 @@
 -- The stealing as a whole. Assumes nothing.
 use mathlib.Core.Path.{_≡_, refl, sym, ap, _∙_, subst}
-use mathlib.Core.Bool.{Bool, true, false, not}
+use mathlib.Core.Bool.{Bool, true, false}
 use mathlib.Core.List.{List, [], _∷_}
 use mathlib.Core.Logic.{_≢_}
 use Prim.Native.Nat.{ℕ, _%_, _<_}
@@ -9,47 +9,32 @@ use lib.Dec.{eqb}
 use lib.ListN.{set}
 use lib.Seq.{getD-set-other, set-set}
 use Rattle.columns.specs.Common.{fold}
-use Rattle.run_queue.specs.declared.Entry.{Entry}
+use Rattle.entries.specs.declared.Entry.{Entry}
 use Rattle.percpu.specs.declared.PercpuBlock.{PercpuBlock}
 use Rattle.percpu.specs.Cpu.{Cpu}
 use Rattle.machine.specs.Machine.{Machine, cpu-at, no-cpu}
 use Rattle.machine.specs.Encode.{encode}
 use Rattle.machine.specs.Shape.{Fits}
 use Rattle.machine.proofs.Steps.{getD-set}
-use Rattle.decision.specs.State.{State, state-of, on-cpu, is-some}
-use Rattle.decision.specs.Steal.{Stealing, Moving, count-steal, should-steal, move-entry, after-moving, steal-entries, steal}
+use Rattle.model.specs.State.{State, state-of, on-cpu}
+use Rattle.model.specs.Steal.{Stealing, Moving, count-steal, should-steal, move-entry, after-moving, steal-entries, steal}
 use Rattle.stages.specs.Stage.{Staged, Ranged, CpuBelow, put-state}
 use Rattle.stages.proofs.Compose.{state-put}
 use Rattle.picked.specs.declared.Picked.{Picked}
 use Rattle.steal_judge.specs.declared.Locked.{Locked}
-use Rattle.picked.specs.Names.{picked-of}
+use Rattle.picked.specs.Names.{picked-of, is-some}
 use Rattle.steal_judge.specs.Names.{locked-of, entries-of}
 use Rattle.steal_judge.specs.Judged.{interval}
+use Rattle.steal_judge.proofs.Judging.{some-of}
 use Rattle.steal.specs.declared.search.Victim.{Victim}
 use Rattle.steal.specs.Search.{Begins, Searched}
 use Rattle.steal.specs.Moves.{moving-of, put-moving, Moves, finished, machine-of, StealsAt, Steals}
+use Rattle.steal.proofs.Below.{below-counted}
 use Rattle.steal.proofs.Victims.{set-other}
 
-pub due-is : (s : State) (w : Picked) (b : PercpuBlock) {some r : Bool} → b ≡ s .cpu .block → some ≡ is-some (picked-of w)
+pub due-is : (s : State) (w : Picked) (b : PercpuBlock) {some r : Bool} → b ≡ s .cpu .block → some ≡ is-some w
     → r ≡ eqb (b .«steal_counter» % interval (eqb (b .«sched_ctxt») (b .«idle_ctxt»)) some) 0 → r ≡ should-steal s (picked-of w)
-due-is s w b e z h = h ∙ rw (z, e)
-
-pub counted-below : {t b : ℕ} (p : Cpu) → CpuBelow t b p → CpuBelow t b (count-steal p)
-counted-below p o =
-    record {
-      schedule-time = o .schedule-time;
-      pit-ticks = o .pit-ticks;
-      user = o .user;
-      kernel = o .kernel;
-      idle = o .idle;
-      context-switches = o .context-switches;
-      syscall-switches = o .syscall-switches;
-      v = o .v;
-      total-weight = o .total-weight;
-      entry-vtime = o .entry-vtime;
-      entry-vd = o .entry-vd;
-      timer-wake = o .timer-wake;
-    }
+due-is s w b e z h = h ∙ rw (z, e, some-of w)
 
 -- the counter is stored: k's state, and the machine then
 module _ {c n k : ℕ} {m m1 : List ℕ} (h : k < c) (a : Staged c n k m m1 false (λ (s : State). on-cpu (λ (p : Cpu). count-steal p) s)) where
@@ -63,7 +48,7 @@ module _ {c n k : ℕ} {m m1 : List ℕ} (h : k < c) (a : Staged c n k m m1 fals
         fits = p .fits refl;
         below = record {
           context = r .below .context;
-          cpu = λ j l. getD-set (r .M .cpus) k j (count-steal (cpu-at (r .M) k)) no-cpu (CpuBelow t b) (counted-below _ (r .below .cpu k h)) (r .below .cpu j l);
+          cpu = λ j l. getD-set (r .M .cpus) k j (count-steal (cpu-at (r .M) k)) no-cpu (CpuBelow t b) (below-counted _ (r .below .cpu k h)) (r .below .cpu j l);
         };
       }
 

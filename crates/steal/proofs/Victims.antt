@@ -12,8 +12,8 @@ use Rattle.percpu.specs.Cpu.{Cpu}
 use Rattle.machine.specs.Machine.{Machine, cpu-at, no-cpu}
 use Rattle.machine.specs.Encode.{encode}
 use Rattle.machine.specs.Shape.{Fits, Image}
-use Rattle.decision.specs.State.{State, state-of, on-cpu}
-use Rattle.decision.specs.Steal.{Moving}
+use Rattle.model.specs.State.{State, state-of, on-cpu}
+use Rattle.model.specs.Steal.{Moving}
 use Rattle.stages.specs.Stage.{Stage, Staged, put-state}
 use Rattle.picked.specs.declared.Picked.{Picked}
 use Rattle.picked.specs.Names.{picked-of}

@@ -9,13 +9,14 @@ use Rattle.machine.specs.Encode.{encode}
 use Rattle.machine.specs.Shape.{Fits, Image}
 use Rattle.columns.specs.Common.{if_then_else_}
 use Rattle.context.specs.declared.Context.{Context}
-use Rattle.run_queue.specs.declared.Entry.{Entry}
-use Rattle.decision.specs.State.{State, state-of, on-cpu, put-context, insert-entry, with-new-key}
-use Rattle.decision.specs.Wakeups.{entry-of}
-use Rattle.decision.specs.Steal.{Stealing, Moving, first-wins, published, mark-stealable}
+use Rattle.entries.specs.declared.Entry.{Entry}
+use Rattle.model.specs.State.{State, state-of, on-cpu, put-context, insert-entry}
+use Rattle.model.specs.Steal.{Stealing, Moving, first-wins, published, mark-stealable}
 use Rattle.picked.specs.declared.Picked.{Picked}
 use Rattle.picked.specs.declared.Picked.the-variants.{Somebody}
 use Rattle.picked.specs.Names.{picked-of}
+use Rattle.stages.specs.Bounds.{b-charged, b-moving}
+use Rattle.context.specs.Key.{with-new-key, entry-of}
 
 abbrev pub moving-of : (k t : ℕ) → Picked → Machine → Moving
 moving-of k t w M = record { state = state-of k M; victim = cpu-at M t; winner = picked-of w }
@@ -39,9 +40,9 @@ pub record Movable (c n k : ℕ) (m : List ℕ) : Type 0 where
   pub M : Machine
   pub eq : m ≡ encode M
   pub fits : Fits c n M
-  pub v : cpu-at M k .block .v ≤ 4899916395652841471
-  pub total-weight : cpu-at M k .block .«total_weight» ≤ 9799832791305682942
-  pub vtime : (x : ℕ) → x < n → (context-at (M .contexts) x) .vtime ≤ 9799832791305682942
+  pub v : cpu-at M k .block .v ≤ b-charged
+  pub total-weight : cpu-at M k .block .«total_weight» ≤ b-moving
+  pub vtime : (x : ℕ) → x < n → (context-at (M .contexts) x) .vtime ≤ b-moving
 
 -- a stolen record taken in by this CPU, and who has won then
 unfoldable pub taken-in : Bool → Picked → Entry → Context → State → State

@@ -7,13 +7,13 @@ use mathlib.Core.Option.{Option}
 use Prim.Native.Nat.{ℕ, _+_, _%_, _<_}
 use lib.ListN.{getD}
 use Rattle.columns.specs.Common.{if_then_else_, fold, All}
-use Rattle.run_queue.specs.declared.Entry.{Entry}
+use Rattle.entries.specs.declared.Entry.{Entry}
 use Rattle.percpu.specs.Cpu.{Cpu}
 use Rattle.machine.specs.Machine.{Machine, cpu-at, no-cpu}
 use Rattle.machine.specs.Encode.{encode}
 use Rattle.machine.specs.Shape.{EntryFits, Fits}
-use Rattle.decision.specs.State.{State, state-of}
-use Rattle.decision.specs.Steal.{Stealing, can-steal-from, want, candidates, targets, steal-entries, steal-from}
+use Rattle.model.specs.State.{State, state-of}
+use Rattle.model.specs.Steal.{Stealing, can-steal-from, want, candidates, targets, steal-entries, steal-from}
 use Rattle.picked.specs.declared.Picked.{Picked}
 use Rattle.steal_judge.specs.declared.Locked.{Locked}
 use Rattle.picked.specs.Names.{picked-of}

@@ -1,28 +1,25 @@
 // Entries moved from the victim's queue to this CPU.
 use crate::cpu;
-use crate::records;
 use context::Context;
+use entries::Entry;
 use picked::Picked;
-use run_queue::Entry;
 use steal_judge::Candidates;
 ghost use mathlib.Core.Path.{_≡_};
-ghost use mathlib.Core.Bool.{true, false};
 ghost use mathlib.Core.Logic.{_≢_};
-ghost use Prim.Native.Nat.{_+_, _*_, _<_, _≤_};
-ghost use lib.ListN.{getD};
+ghost use Prim.Native.Nat.{_<_, _≤_};
 ghost use Rattle.columns.specs.Common.{fold, All};
-ghost use Rattle.percpu.specs.Cpu.{Cpu};
-ghost use Rattle.percpu.specs.With.{cpu-total-weight};
 ghost use Rattle.machine.specs.Machine.{Machine, cpu-at, context-at};
-ghost use Rattle.machine.specs.Encode.{encode, cpu-place};
+ghost use Rattle.machine.specs.Encode.{encode};
 ghost use Rattle.machine.specs.Shape.{ContextFits, EntryFits, Image, Fits};
-ghost use Rattle.decision.specs.State.{State, on-cpu, with-new-key, insert-entry, put-context};
-ghost use Rattle.decision.specs.Wakeups.{entry-of};
-ghost use Rattle.decision.specs.Steal.{Moving, give-up, published, mark-stealable, moved, first-wins, move-entry};
+ghost use Rattle.model.specs.State.{State, insert-entry, put-context};
+ghost use Rattle.model.specs.Steal.{Moving, moved, first-wins, move-entry};
 ghost use Rattle.stages.specs.Stage.{Stage, Staged, Ranged};
 ghost use Rattle.picked.specs.Names.{picked-of};
 ghost use Rattle.steal_judge.specs.Names.{entries-of};
 ghost use Rattle.steal.specs.Moves.{Moves, Movable, taken-in, winner-in, finished};
+ghost use Rattle.weights.specs.Weights.{min-weight};
+ghost use Rattle.stages.specs.Bounds.{t-timed, b-charged};
+ghost use Rattle.context.specs.Key.{with-new-key, entry-of};
 
 // who won, and whether an insertion found no room
 pub struct Moved {
@@ -33,14 +30,14 @@ pub struct Moved {
 // The record of context x as it will stand on this CPU.
 fn stolen(m: &[u64], c: usize, n: usize, k: usize, t: usize, x: usize, weight: u64) -> Context
     requires { ⌜ Image c n (now m) ⌝ }
-    requires { ⌜ (k < c) × (t < c) × (x < n) × (15 ≤ weight) ⌝ }
+    requires { ⌜ (k < c) × (t < c) × (x < n) × (min-weight ≤ weight) ⌝ }
     requires { ⌜ Movable c n k (now m) ⌝ }
     ensures { λ r. ⌜ (ContextFits c r) × ((M : Machine) → now (m .entry) ≡ encode M → Fits c n M → r ≡ moved (cpu-at M k .block .v) (cpu-at M t .block .v) weight (context-at (M .contexts) x)) ⌝ }
 {
     let q = machine::load(m, c, n, x);
     let here = stages::load_block(m, c, n, k);
     let there = stages::load_block(m, c, n, t);
-    steal_judge::moved(q, here.v, there.v, weight)
+    steal_judge::stolen::moved(q, here.v, there.v, weight)
 }
 
 fn first_wins(runs: bool, w: Picked) -> bool
@@ -68,7 +65,7 @@ fn take_in(
     requires { ⌜ ContextFits c q ⌝ }
     ensures { λ r. ⌜ Stage c n k (now (m .entry)) (now (m .exit)) (r .full) (r .winner) (λ (s : State). taken-in runs w e q s) (λ (s : State). winner-in runs w e) ⌝ }
 {
-    let x = machine::index(e.context_ref);
+    let x = numbers::index(e.context_ref);
     if first_wins(runs, w) {
         stages::store_context(m, c, n, k, x, q);
         return Moved {
@@ -89,9 +86,9 @@ fn queue_in(m: &mut [u64], c: usize, n: usize, k: usize, x: usize, e: Entry, q: 
     requires { ⌜ ContextFits c q ⌝ }
     ensures { λ r. ⌜ Staged c n k (now (m .entry)) (now (m .exit)) r (λ (s : State). insert-entry (entry-of (e .«context_ref») (e .weight) q) (put-context (e .«context_ref») (with-new-key q) s)) ⌝ }
 {
-    let keyed = records::with_new_key(q);
+    let keyed = q.with_new_key();
     stages::store_context(m, c, n, k, x, keyed);
-    let new = records::entry_of(e.context_ref, e.weight, q);
+    let new = q.entry(e.context_ref, e.weight);
     stages::insert_entry(m, c, n, k, new)
 }
 
@@ -110,7 +107,7 @@ fn move_entry(
     requires { ⌜ Movable c n k (now m) ⌝ }
     ensures { λ r. ⌜ Moves c n k t (now (m .entry)) (now (m .exit)) (r .full) w (r .winner) (λ (v : Moving). move-entry runs v e) ⌝ }
 {
-    let x = machine::index(e.context_ref);
+    let x = numbers::index(e.context_ref);
     let q = stolen(m, c, n, k, t, x, e.weight);
     cpu::give_up(m, c, n, t, e);
     cpu::add_weight(m, c, n, k, e.weight);
@@ -130,7 +127,7 @@ fn move_two(
 ) -> Moved
     requires { ⌜ Image c n (now m) ⌝ }
     requires { ⌜ (k < c) × (t < c) × (t ≢ k) × (EntryFits n a) × (EntryFits n b) ⌝ }
-    requires { ⌜ Ranged c n 4611686027017322496 4899916395652841471 (now m) ⌝ }
+    requires { ⌜ Ranged c n t-timed b-charged (now m) ⌝ }
     ensures { λ r. ⌜ Moves c n k t (now (m .entry)) (now (m .exit)) (r .full) w (r .winner) (λ (v : Moving). move-entry runs (move-entry runs v a) b) ⌝ }
 {
     let one = move_entry(m, c, n, k, t, runs, w, a);
@@ -153,7 +150,7 @@ fn move_entries(
 ) -> Moved
     requires { ⌜ Image c n (now m) ⌝ }
     requires { ⌜ (k < c) × (t < c) × (t ≢ k) × (All (EntryFits n) (entries-of got)) ⌝ }
-    requires { ⌜ Ranged c n 4611686027017322496 4899916395652841471 (now m) ⌝ }
+    requires { ⌜ Ranged c n t-timed b-charged (now m) ⌝ }
     ensures { λ r. ⌜ Moves c n k t (now (m .entry)) (now (m .exit)) (r .full) w (r .winner) (λ (v : Moving). fold (move-entry runs) v (entries-of got)) ⌝ }
 {
     match got {
@@ -185,7 +182,7 @@ pub fn rob(
 ) -> Moved
     requires { ⌜ Image c n (now m) ⌝ }
     requires { ⌜ (k < c) × (t < c) × (t ≢ k) × (All (EntryFits n) (entries-of got)) ⌝ }
-    requires { ⌜ Ranged c n 4611686027017322496 4899916395652841471 (now m) ⌝ }
+    requires { ⌜ Ranged c n t-timed b-charged (now m) ⌝ }
     ensures { λ r. ⌜ Moves c n k t (now (m .entry)) (now (m .exit)) (r .full) w (r .winner) (λ (v : Moving). finished (fold (move-entry runs) v (entries-of got))) ⌝ }
 {
     let all = move_entries(m, c, n, k, t, runs, w, got);

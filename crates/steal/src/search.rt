@@ -1,17 +1,20 @@
 // The search for a victim and for what it gives up. Reads only.
+use entries::Entry;
+use machine::CpuLookup;
+use machine::Lookup;
 use picked::Picked;
-use run_queue::Entry;
 use steal_judge::Candidates;
 use steal_judge::Locked;
 ghost use mathlib.Core.Path.{_≡_};
-ghost use Prim.Native.Nat.{_+_, _-_, _%_, _<_, _≤_};
+ghost use Prim.Native.Nat.{_+_, _<_, _≤_};
 ghost use lib.ListN.{length, getD};
 ghost use Rattle.columns.specs.Common.{if_then_else_, All};
+ghost use Rattle.percpu.specs.Places.{queue-count};
 ghost use Rattle.machine.specs.Machine.{Machine, cpu-at};
 ghost use Rattle.machine.specs.Encode.{encode, cpu-place};
 ghost use Rattle.machine.specs.Shape.{EntryFits, Image, Fits};
-ghost use Rattle.decision.specs.State.{state-of};
-ghost use Rattle.decision.specs.Steal.{my-load, can-steal-from, want, can-be-stolen, take-candidate};
+ghost use Rattle.model.specs.State.{state-of};
+ghost use Rattle.model.specs.Steal.{my-load, can-steal-from, want, can-be-stolen, take-candidate};
 ghost use Rattle.picked.specs.Names.{picked-of};
 ghost use Rattle.steal_judge.specs.Names.{locked-of, entries-of};
 ghost use Rattle.steal.specs.Search.{Searched};
@@ -40,18 +43,22 @@ fn can_steal_from(m: &[u64], c: usize, n: usize, k: usize, t: usize) -> bool
     requires { ⌜ (k < c) × (t < c) ⌝ }
     ensures { λ r. ⌜ ((M : Machine) → now (m .entry) ≡ encode M → Fits c n M → r ≡ can-steal-from (state-of k M) (cpu-at M t)) ⌝ }
 {
-    let v = stages::load_block(m, c, n, t);
-    let len = stages::queue_len(m, c, n, t);
+    let p = machine::get_percpu_block(m, c, n, numbers::word(t));
+    let CpuLookup::Present(v) = p else {
+        return false;
+    };
+    let b = stages::load_block(m, c, n, v);
+    let len = stages::queue_len(m, c, n, v);
     let load = my_load(m, c, n, k);
-    let published = machine::index(v.queue_len);
-    steal_judge::can_steal_from(v.present, v.stealable, published, v.queue_locked, len, load)
+    let published = numbers::index(b.queue_len);
+    steal_judge::victim::can_steal_from(b.stealable, published, b.queue_locked, len, load)
 }
 
 // The number of entries to look at: none where nothing may be stolen.
 fn offered(m: &[u64], c: usize, n: usize, k: usize, t: usize) -> usize
     requires { ⌜ Image c n (now m) ⌝ }
     requires { ⌜ (k < c) × (t < c) ⌝ }
-    ensures { λ r. ⌜ (r ≤ getD (now (m .entry)) (cpu-place n t + 21) 0) × ((M : Machine) → now (m .entry) ≡ encode M → Fits c n M → r ≡ (if can-steal-from (state-of k M) (cpu-at M t) then length (cpu-at M t .queue) else 0)) ⌝ }
+    ensures { λ r. ⌜ (r ≤ getD (now (m .entry)) (cpu-place n t + queue-count) 0) × ((M : Machine) → now (m .entry) ≡ encode M → Fits c n M → r ≡ (if can-steal-from (state-of k M) (cpu-at M t) then length (cpu-at M t .queue) else 0)) ⌝ }
 {
     if can_steal_from(m, c, n, k, t) {
         return stages::queue_len(m, c, n, t);
@@ -66,7 +73,7 @@ fn wanted(m: &[u64], c: usize, n: usize, k: usize, t: usize) -> usize
 {
     let here = stages::queue_len(m, c, n, k);
     let there = stages::queue_len(m, c, n, t);
-    steal_judge::want(there, here)
+    steal_judge::victim::want(there, here)
 }
 
 fn can_be_stolen(
@@ -83,10 +90,13 @@ fn can_be_stolen(
     requires { ⌜ (k < c) × (e .«context_ref» < n) ⌝ }
     ensures { λ r. ⌜ ((M : Machine) → now (m .entry) ≡ encode M → Fits c n M → r ≡ can-be-stolen k (locked-of locked) (M .contexts) (picked-of w) (entries-of got) e) ⌝ }
 {
-    let x = machine::index(e.context_ref);
+    let l = machine::look_up(m, c, n, e.context_ref);
+    let Lookup::Live(x) = l else {
+        return false;
+    };
     let q = machine::load(m, c, n, x);
-    let cpu = machine::word(k);
-    steal_judge::can_be_stolen(q, cpu, w, locked, got, x, e.context_ref)
+    let cpu = numbers::word(k);
+    steal_judge::stolen::can_be_stolen(q, cpu, w, locked, got, x)
 }
 
 fn take_candidate(
@@ -107,7 +117,7 @@ fn take_candidate(
     ensures { λ r. ⌜ ((M : Machine) → now (m .entry) ≡ encode M → Fits c n M → entries-of r ≡ take-candidate k (locked-of locked) (M .contexts) (picked-of w) want (entries-of got) e) ⌝ }
 {
     if can_be_stolen(m, c, n, k, w, locked, got, e) {
-        return steal_judge::with(got, e);
+        return got.with(e);
     }
     got
 }
@@ -130,12 +140,12 @@ pub fn search(m: &[u64], c: usize, n: usize, k: usize, w: Picked, locked: Locked
         while j < len {
             let e = stages::entry(m, c, n, t, j);
             got = take_candidate(m, c, n, k, w, locked, want, got, e);
-            if want <= steal_judge::count(got) {
+            if want <= got.len() {
                 break 'search;
             }
             j += 1;
         }
-        if 0 < steal_judge::count(got) {
+        if 0 < got.len() {
             break;
         }
         i += 1;

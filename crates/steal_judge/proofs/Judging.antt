@@ -1,6 +1,6 @@
 -- The tests by value, one lemma for each return. Assumes nothing.
 use mathlib.Core.Path.{_≡_, refl, sym, ap, _∙_}
-use mathlib.Core.Bool.{Bool, true, false, not, _&&_, _||_}
+use mathlib.Core.Bool.{Bool, true, false, not, _||_}
 use mathlib.Core.List.{List, [], _∷_, _++_}
 use mathlib.Core.Logic.{_≢_}
 use mathlib.Core.Option.{Option}
@@ -11,15 +11,16 @@ use lib.ListN.{length}
 use borrow.Author.Tests.{eq-eqb, ne-eqb, le-leb, lt-leb}
 use Rattle.context.specs.declared.Context.{Context}
 use Rattle.context.specs.Status.{is-runnable}
-use Rattle.cpu_set.specs.Set.{contains}
-use Rattle.run_queue.specs.declared.Entry.{Entry}
-use Rattle.decision.specs.Steal.{member, wins, contexts-of}
+use Rattle.cpu_set.specs.Set as set
+use Rattle.entries.specs.declared.Entry.{Entry}
+use Rattle.model.specs.State as M
+use Rattle.model.specs.Steal.{member, wins, contexts-of}
 use Rattle.picked.specs.declared.Picked.{Picked}
 use Rattle.picked.specs.declared.Picked.the-variants.{Nobody, Somebody}
 use Rattle.steal_judge.specs.declared.Locked.{Locked}
 use Rattle.steal_judge.specs.declared.Candidates.{Candidates}
 use Rattle.steal_judge.specs.declared.Candidates.the-variants.{Nothing, Single, Pair}
-use Rattle.picked.specs.Names.{picked-of, names-of}
+use Rattle.picked.specs.Names.{picked-of, names-of, is-some, contains}
 use Rattle.steal_judge.specs.Names.{locked-of, entries-of}
 use Rattle.steal_judge.specs.Judged.{stolen-record, is-free, may-move, has-enough}
 
@@ -27,24 +28,24 @@ or-none : (a : Bool) → a ≡ (a || false)
 or-none true = refl
 or-none false = refl
 
--- what `if !b` told
-pub was-false : (b : Bool) → not b ≡ true → b ≡ false
-was-false false e = refl
-was-false true e = sym e
+-- who was picked
+pub some-of : (w : Picked) → is-some w ≡ M.is-some (picked-of w)
+some-of Nobody = refl
+some-of (Somebody x) = refl
 
-pub was-true : (b : Bool) → not b ≡ false → b ≡ true
-was-true true e = refl
-was-true false e = sym e
+pub wins-of : (w : Picked) (x : ℕ) → contains w x ≡ wins (picked-of w) x
+wins-of Nobody x = refl
+wins-of (Somebody y) x = refl
 
--- names
+-- the contexts that are locked
 pub locked-holder : (l : Locked) (x : ℕ) → x ≡ l .«sched_ctxt» → true ≡ member x (locked-of l)
 locked-holder l x e = rw (eq-eqb x (l .«sched_ctxt») e)
 
-names-member : (w : Picked) (x : ℕ) → wins (picked-of w) x ≡ member x (names-of w)
+names-member : (w : Picked) (x : ℕ) → contains w x ≡ member x (names-of w)
 names-member Nobody x = refl
 names-member (Somebody y) x = or-none (eqb x y)
 
-pub locked-best : (l : Locked) (x : ℕ) {r : Bool} → x ≢ l .«sched_ctxt» → r ≡ wins (picked-of (l .best)) x → r ≡ member x (locked-of l)
+pub locked-best : (l : Locked) (x : ℕ) {r : Bool} → x ≢ l .«sched_ctxt» → r ≡ contains (l .best) x → r ≡ member x (locked-of l)
 locked-best l x n e = rw (ne-eqb x (l .«sched_ctxt») n) (e ∙ names-member (l .best) x)
 
 module _ {got : Candidates} (x : ℕ) where
@@ -78,12 +79,12 @@ module _ (locked : List ℕ) (w : Option ℕ) (got : List Entry) (x : ℕ) where
       rw (z, y) (ap not (h ∙ ap (λ (i : ℕ). member i (contexts-of got)) n))
 
 module _ (k : ℕ) (q : Context) where
-  pub not-here : {a : Bool} → a ≡ contains (q .«sched_affinity») k → a ≡ false → false ≡ may-move k q
+  pub not-here : {a : Bool} → a ≡ set.contains (q .«sched_affinity») k → a ≡ false → false ≡ may-move k q
   unfolding may-move
-  not-here e t = let z : contains (q .«sched_affinity») k ≡ false = sym e ∙ t in rw z
+  not-here e t = let z : set.contains (q .«sched_affinity») k ≡ false = sym e ∙ t in rw z
 
-  module _ {a : Bool} (e : a ≡ contains (q .«sched_affinity») k) (t : a ≡ true) where
-    here : contains (q .«sched_affinity») k ≡ true
+  module _ {a : Bool} (e : a ≡ set.contains (q .«sched_affinity») k) (t : a ≡ true) where
+    here : set.contains (q .«sched_affinity») k ≡ true
     here = sym e ∙ t
 
     pub not-runnable : {b : Bool} → b ≡ is-runnable (q .status) → b ≡ false → false ≡ may-move k q
@@ -107,57 +108,40 @@ module _ (k : ℕ) (q : Context) where
       space-decides g h = rw (here, runnable, g, h)
 
 module _ (k : ℕ) (locked : List ℕ) (w : Option ℕ) (got : List Entry) (x : ℕ) (q : Context) where
-  pub stolen-gone : q .gone ≡ true → false ≡ stolen-record k locked w got x q
+  pub stolen-locked : eqb (q .lock) 0 ≡ false → false ≡ stolen-record k locked w got x q
   unfolding stolen-record
-  stolen-gone e = rw e
+  stolen-locked f = rw f
 
-  pub stolen-locked : q .gone ≡ false → eqb (q .lock) 0 ≡ false → false ≡ stolen-record k locked w got x q
+  pub stolen-kept : {a : Bool} → eqb (q .lock) 0 ≡ true → a ≡ is-free locked w got x → a ≡ false → false ≡ stolen-record k locked w got x q
   unfolding stolen-record
-  stolen-locked e f = rw (e, f)
+  stolen-kept f g h = let z : is-free locked w got x ≡ false = sym g ∙ h in rw (f, z)
 
-  split : (a b c d e f g h : Bool) → (a && b && c && d && e && f && g && h) ≡ ((a && b && c) && (d && e && f && g && h))
-  split true true true d e f g h = refl
-  split true true false d e f g h = refl
-  split true false c d e f g h = refl
-  split false b c d e f g h = refl
+  pub stolen-moves : {a r : Bool} → eqb (q .lock) 0 ≡ true → a ≡ is-free locked w got x → a ≡ true → r ≡ may-move k q → r ≡ stolen-record k locked w got x q
+  unfolding stolen-record
+  stolen-moves f g h i = let z : is-free locked w got x ≡ true = sym g ∙ h in rw (f, z) i
 
-  parts : q .gone ≡ false → eqb (q .lock) 0 ≡ true → stolen-record k locked w got x q ≡ (is-free locked w got x && may-move k q)
-  unfolding stolen-record is-free may-move
-  parts e f =
-      rw (e, f)
-      (split (not (member x locked)) (not (wins w x)) (not (member x (contexts-of got))) (contains (q .«sched_affinity») k) (is-runnable (q .status))
-      (not (q .running)) (not (q .«currently_scheduled»)) (not (eqb (q .«addr_space») 2)))
-
-  pub stolen-kept : {a : Bool} → q .gone ≡ false → eqb (q .lock) 0 ≡ true → a ≡ is-free locked w got x → a ≡ false → false ≡ stolen-record k locked w got x q
-  stolen-kept e f g h = let z : is-free locked w got x ≡ false = sym g ∙ h in sym (parts e f ∙ rw z)
-
-  pub stolen-moves : {a r : Bool} → q .gone ≡ false → eqb (q .lock) 0 ≡ true → a ≡ is-free locked w got x → a ≡ true → r ≡ may-move k q
-      → r ≡ stolen-record k locked w got x q
-  stolen-moves e f g h i = let z : is-free locked w got x ≡ true = sym g ∙ h in i ∙ sym (parts e f ∙ rw z)
-
-module _ (present stealable : Bool) (published : ℕ) (locked : Bool) (len load : ℕ) where
+module _ (stealable : Bool) (published : ℕ) (locked : Bool) (len load : ℕ) where
   abbrev Enough : Bool → Type 0
-  Enough r = r ≡ has-enough present stealable published locked len load
+  Enough r = r ≡ has-enough stealable published locked len load
 
-  pub absent : present ≡ false → Enough false
+  pub not-stealable : stealable ≡ false → Enough false
   unfolding has-enough
-  absent e = rw e
+  not-stealable e = rw e
 
-  pub not-stealable : present ≡ true → stealable ≡ false → Enough false
+  pub published-few : stealable ≡ true → published < load + 1 → Enough false
   unfolding has-enough
-  not-stealable e f = rw (e, f)
+  published-few e f = let z : leb (load + 2) (published + 1) ≡ false = lt-leb (load + 2) (published + 1) (omega arith) in rw (e, z)
 
-  pub published-few : present ≡ true → stealable ≡ true → published < load + 1 → Enough false
-  unfolding has-enough
-  published-few e f g = let z : leb (load + 2) (published + 1) ≡ false = lt-leb (load + 2) (published + 1) (omega arith) in rw (e, f, z)
+  published-enough : load + 1 ≤ published → leb (load + 2) (published + 1) ≡ true
+  published-enough f = le-leb (load + 2) (published + 1) (omega arith)
 
-  pub queue-locked : present ≡ true → stealable ≡ true → load + 1 ≤ published → locked ≡ true → Enough false
+  pub queue-locked : stealable ≡ true → load + 1 ≤ published → locked ≡ true → Enough false
   unfolding has-enough
-  queue-locked e f g h = let z : leb (load + 2) (published + 1) ≡ true = le-leb (load + 2) (published + 1) (omega arith) in rw (e, f, z, h)
+  queue-locked e f g = rw (e, published-enough f, g)
 
-  pub length-decides : present ≡ true → stealable ≡ true → load + 1 ≤ published → locked ≡ false → Enough (leb (load + 2) (len + 1))
+  pub length-decides : stealable ≡ true → load + 1 ≤ published → locked ≡ false → Enough (leb (load + 2) (len + 1))
   unfolding has-enough
-  length-decides e f g h = let z : leb (load + 2) (published + 1) ≡ true = le-leb (load + 2) (published + 1) (omega arith) in rw (e, f, z, h)
+  length-decides e f g = rw (e, published-enough f, g)
 
 module _ {got : Candidates} (e : Entry) where
   pub with-none : got ≡ Nothing → entries-of (Single e) ≡ entries-of got ++ (e ∷ [])
@@ -168,6 +152,3 @@ module _ {got : Candidates} (e : Entry) where
 
   pub with-pair : {a b : Entry} → got ≡ Pair a b → length (entries-of got) < 2 → entries-of (Pair a b) ≡ entries-of got ++ (e ∷ [])
   with-pair z h = absurd (let y : 2 < 2 = rw z at h in omega arith)
-
-pub wins-one : {w : Picked} (x : ℕ) {y : ℕ} → w ≡ Somebody y → eqb x y ≡ wins (picked-of w) x
-wins-one x z = rw z

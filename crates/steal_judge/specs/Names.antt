@@ -1,7 +1,7 @@
 -- The small values of the code, as what the definition has in their place. Assumes nothing.
 use mathlib.Core.List.{List, [], _∷_}
 use Prim.Native.Nat.{ℕ}
-use Rattle.run_queue.specs.declared.Entry.{Entry}
+use Rattle.entries.specs.declared.Entry.{Entry}
 use Rattle.picked.specs.Names.{names-of}
 use Rattle.steal_judge.specs.declared.Locked.{Locked}
 use Rattle.steal_judge.specs.declared.Candidates.{Candidates}

@@ -14,15 +14,17 @@ use Rattle.percpu.specs.declared.PercpuBlock.{PercpuBlock}
 use Rattle.percpu.specs.Cpu.{Cpu}
 use Rattle.percpu.specs.With.{cpu-block}
 use Rattle.machine.specs.Shape.{ContextFits, CpuFits}
-use Rattle.decision.specs.State.{State, at, put-context, on-cpu, push-local}
-use Rattle.decision.specs.SwitchTo.{comes, switch-to, direct-switch-by, try-direct-switch-back}
-use Rattle.decision.proofs.Cases.{pick}
+use Rattle.model.specs.State.{State, at, put-context, on-cpu, push-local}
+use Rattle.model.specs.SwitchTo.{comes, switch-to, direct-switch-by, try-direct-switch-back}
+use Rattle.model.proofs.Cases.{pick}
 use Rattle.stages.specs.Stage.{ContextBelow, CpuBelow, StateBelow}
 use Rattle.stages.proofs.Kept.{context-more, cpu-more, state-more, context-kept, name-kept}
 use Rattle.switch_to.specs.Switched.{is-lost, saved-by, left-by, current-by, entered, switched-by}
 use Rattle.switch_to.specs.Direct.{or-same}
 use Rattle.switch_to.proofs.Switching.{at-values}
 use Rattle.switch_to.proofs.Directly.{Good, update-good}
+use Rattle.numbers.specs.Limits.{max-number}
+use Rattle.stages.specs.Bounds.{t-counted}
 
 -- the block of p, with other names and marks, on a CPU with the same bounds
 current-below : {t b : ℕ} (x : ℕ) (q : Context) (p p' : Cpu) → CpuBelow t b p → CpuBelow t b p' → CpuBelow t b (cpu-block (current-by x q (p .block)) p')
@@ -42,14 +44,14 @@ current-below x q p p' o u =
       timer-wake = u .timer-wake;
     }
 
-module _ (k time : ℕ) (l : time ≤ 4611686018427387903) where
-  left-below : {t b : ℕ} (a : PercpuBlock) (q : Context) → ContextBelow t b q → ContextBelow (t + 4611686018427387904) b (left-by time a q)
+module _ (k time : ℕ) (l : time ≤ max-number) where
+  left-below : {t b : ℕ} (a : PercpuBlock) (q : Context) → ContextBelow t b q → ContextBelow (t + t-counted) b (left-by time a q)
   left-below {t} {b} a q o =
-      let u : ContextBelow (t + 4611686018427387904) b q = context-more (omega arith) (omega arith) o
+      let u : ContextBelow (t + t-counted) b q = context-more (omega arith) (omega arith) o
       in record {
         schedule-time = u .schedule-time;
         switch-time = u .switch-time;
-        active-cpu-time = pick (λ (y : ℕ). y ≤ t + 4611686018427387904) (eqb (a .«current_ctxt») (a .«idle_ctxt»)) (λ e. u .active-cpu-time) (λ e. omega (arith, o .active-cpu-time));
+        active-cpu-time = pick (λ (y : ℕ). y ≤ t + t-counted) (eqb (a .«current_ctxt») (a .«idle_ctxt»)) (λ e. u .active-cpu-time) (λ e. omega (arith, o .active-cpu-time));
         sched-cpu-time = u .sched-cpu-time;
         wake = u .wake;
         vtime = u .vtime;
@@ -77,19 +79,19 @@ module _ (k time : ℕ) (l : time ≤ 4611686018427387903) where
     saved-below : StateBelow n t b (saved-by y (s .cpu .block) (at s y) s)
     saved-below = pick (StateBelow n t b) (is-lost (s .cpu .block) (at s y)) (λ e. name-kept s o y) (λ e. o)
 
-    pub switch-to-below : StateBelow n (t + 4611686018427387904) b (switch-to k time x s)
+    pub switch-to-below : StateBelow n (t + t-counted) b (switch-to k time x s)
     unfolding switched-by entered
-    switch-to-below = subst (StateBelow n (t + 4611686018427387904) b) (at-values k time x s) by-read
+    switch-to-below = subst (StateBelow n (t + t-counted) b) (at-values k time x s) by-read
       where
         after : State
         after = put-context y (left-by time (s .cpu .block) (at s y)) (saved-by y (s .cpu .block) (at s y) s)
 
-        after-below : StateBelow n (t + 4611686018427387904) b after
+        after-below : StateBelow n (t + t-counted) b after
         after-below =
             context-kept (saved-by y (s .cpu .block) (at s y) s) (state-more (omega arith) (omega arith) saved-below) y (left-by time (s .cpu .block) (at s y))
             (left-below (s .cpu .block) (at s y) (o .context y (f .current)))
 
-        by-read : StateBelow n (t + 4611686018427387904) b (switched-by k time x y (s .cpu .block) (at s y) s)
+        by-read : StateBelow n (t + t-counted) b (switched-by k time x y (s .cpu .block) (at s y) s)
         by-read =
             let w = context-kept after after-below x (comes k time (at after x)) (comes-below (at after x) (omega arith) (after-below .context x i))
             in record {
@@ -99,20 +101,20 @@ module _ (k time : ℕ) (l : time ≤ 4611686018427387903) where
 
   -- a direct switch, if one is made
   module _ {c n t b : ℕ} (x : ℕ) (i : x < n) (s : State) (f : CpuFits n (s .cpu)) (g : ContextFits c (at s x)) (o : StateBelow n t b s) where
-    by-result : (v : UpdateResult) → Good c t b v → StateBelow n (t + 4611686018427387904) b (or-same s (direct-switch-by k time x s v))
+    by-result : (v : UpdateResult) → Good c t b v → StateBelow n (t + t-counted) b (or-same s (direct-switch-by k time x s v))
     unfolding direct-switch-by
     by-result (CanSwitch r) u = switch-to-below x i (put-context x r s) f (context-kept s o x r (u .1))
     by-result Skip u = state-more (omega arith) (omega arith) o
     by-result Blocked u = state-more (omega arith) (omega arith) o
 
-    pub direct-below : (own current : Bool) → StateBelow n (t + 4611686018427387904) b (or-same s (direct-switch-by k time x s (update-runnable k time own current (at s x))))
+    pub direct-below : (own current : Bool) → StateBelow n (t + t-counted) b (or-same s (direct-switch-by k time x s (update-runnable k time own current (at s x))))
     direct-below own current = by-result _ (update-good c t b k time own current (at s x) g (o .context x i))
 
   pub switch-back-below : {c n t b : ℕ} (s : State) (f : CpuFits n (s .cpu)) → ((x : ℕ) → x < n → ContextFits c (at s x)) → StateBelow n t b s
-      → StateBelow n (t + 4611686018427387904) b (or-same s (try-direct-switch-back k time s))
+      → StateBelow n (t + t-counted) b (or-same s (try-direct-switch-back k time s))
   unfolding try-direct-switch-back
   switch-back-below {n = n} {t = t} {b = b} s f g o =
       let x = s .cpu .block .«sched_ctxt»
       in
-      pick (λ (r : Option State). StateBelow n (t + 4611686018427387904) b (or-same s r)) (eqb (s .cpu .block .«current_ctxt») x) (λ e. state-more (omega arith) (omega arith) o)
+      pick (λ (r : Option State). StateBelow n (t + t-counted) b (or-same s r)) (eqb (s .cpu .block .«current_ctxt») x) (λ e. state-more (omega arith) (omega arith) o)
       (λ e. direct-below x (f .sched) s f (g x (f .sched)) o true false)

@@ -19,9 +19,9 @@ use Rattle.percpu.specs.declared.PercpuBlock.{PercpuBlock}
 use Rattle.machine.specs.Machine.{Machine, context-at, cpu-at}
 use Rattle.machine.specs.Encode.{encode}
 use Rattle.machine.specs.Shape.{ContextFits, Fits, Image}
-use Rattle.decision.specs.State.{State, at, state-of, put-context, is-some}
-use Rattle.decision.specs.SwitchTo.{switch-to, direct-switch-by, try-direct-switch-back}
-use Rattle.decision.proofs.Cases.{pick}
+use Rattle.model.specs.State.{State, at, state-of, put-context, is-some}
+use Rattle.model.specs.SwitchTo.{switch-to, direct-switch-by, try-direct-switch-back}
+use Rattle.model.proofs.Cases.{pick}
 use Rattle.stages.specs.Stage.{Stage, Staged, ContextBelow, Ranged}
 use Rattle.stages.proofs.Compose.{stage-then, stage-as}
 use Rattle.stages.proofs.Reading.{unchanged-with}

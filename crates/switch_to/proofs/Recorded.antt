@@ -16,7 +16,7 @@ use Rattle.cpu_stats.specs.With.{stats-state}
 use Rattle.percpu.specs.declared.PercpuBlock.{PercpuBlock}
 use Rattle.percpu.specs.With.{block-current-ctxt, block-stats, block-inside-syscall, block-being-sigkilled}
 use Rattle.machine.specs.Shape.{ContextFits}
-use Rattle.decision.specs.SwitchTo.{comes}
+use Rattle.model.specs.SwitchTo.{comes}
 use Rattle.stages.specs.Read.{BlockFits}
 use Rattle.switch_to.specs.Switched.{is-lost, left-by, current-by}
 

@@ -13,12 +13,13 @@ use Rattle.percpu.specs.With.{cpu-block}
 use Rattle.machine.specs.Machine.{Machine, context-at, cpu-at}
 use Rattle.machine.specs.Encode.{encode}
 use Rattle.machine.specs.Shape.{Fits, Image}
-use Rattle.decision.specs.State.{State, at, state-of, put-context, on-cpu, push-local}
-use Rattle.decision.specs.SwitchTo.{comes, switch-to}
+use Rattle.model.specs.State.{State, at, state-of, put-context, on-cpu, push-local}
+use Rattle.model.specs.SwitchTo.{comes, switch-to}
 use Rattle.stages.specs.Stage.{Staged, Ranged}
 use Rattle.stages.proofs.Compose.{stage-then, stage-full, stage-as}
 use Rattle.stages.proofs.Reading.{unchanged}
 use Rattle.switch_to.specs.Switched.{is-lost, saved-by, left-by, current-by, entered, switched-by}
+use Rattle.stages.specs.Bounds.{t-handed}
 
 module _ {c n k : ℕ} {m m' : List ℕ} (y : ℕ) (b : PercpuBlock) (q : Context) where
   pub saved-lost : {r l : Bool} → l ≡ is-lost b q → l ≡ true → Staged c n k m m' r (λ (s : State). push-local y s) → Staged c n k m m' r (λ (s : State). saved-by y b q s)
@@ -59,7 +60,7 @@ module _ {c n : ℕ} {m : List ℕ} (k : ℕ) (b : PercpuBlock) (hb : (M : Machi
   current-named i h = let e = hb (i .M) (i .eq) (i .fits) in rw (hy, e) (i .fits .cpu k h .current)
 
   module _ (q : Context) (hq : (M : Machine) → m ≡ encode M → Fits c n M → q ≡ context-at (M .contexts) y) where
-    pub time-below : {u : ℕ} → Ranged c n 9223372045444710400 u m → y < n → q .«active_cpu_time» ≤ 9223372045444710400
+    pub time-below : {u : ℕ} → Ranged c n t-handed u m → y < n → q .«active_cpu_time» ≤ t-handed
     time-below r l = rw (hq (r .M) (r .eq) (r .fits)) (r .below .context y l .active-cpu-time)
 
     pub switched-as : (time x : ℕ) {m' : List ℕ} {r : Bool} → Staged c n k m m' r (λ (s : State). switched-by k time x y b q s) → Staged c n k m m' r (λ (s : State). switch-to k time x s)

@@ -1,7 +1,7 @@
 -- What the code says of a direct switch, against the definition's Option. Assumes nothing.
 use mathlib.Core.Bool.{Bool, true, false}
 use mathlib.Core.Option.{Option, none, some}
-use Rattle.decision.specs.State.{State}
+use Rattle.model.specs.State.{State}
 use Rattle.switch_to.specs.declared.direct.DirectSwitch.{DirectSwitch}
 use Rattle.switch_to.specs.declared.direct.DirectSwitch.the-variants.{NotSwitched, Switched, NoRoom}
 

@@ -11,8 +11,8 @@ use Rattle.cpu_stats.specs.With.{stats-state}
 use Rattle.percpu.specs.declared.PercpuBlock.{PercpuBlock}
 use Rattle.percpu.specs.Cpu.{Cpu}
 use Rattle.percpu.specs.With.{block-current-ctxt, block-stats, block-inside-syscall, block-being-sigkilled, cpu-block}
-use Rattle.decision.specs.State.{State, at, put-context, on-cpu, push-local}
-use Rattle.decision.specs.SwitchTo.{comes}
+use Rattle.model.specs.State.{State, at, put-context, on-cpu, push-local}
+use Rattle.model.specs.SwitchTo.{comes}
 
 abbrev pub is-lost : PercpuBlock → Context → Bool
 is-lost b q = not (eqb (b .«sched_ctxt») (b .«current_ctxt»)) && not (q .«has_queue_key») && is-runnable (q .status)

@@ -6,10 +6,12 @@ ghost use mathlib.Core.Bool.{Bool, true, false};
 ghost use Prim.Native.Nat.{ℕ, _<_, _≤_};
 ghost use Rattle.runnable.specs.Runnable.{update-runnable};
 ghost use Rattle.machine.specs.Shape.{ContextFits, Image};
-ghost use Rattle.decision.specs.State.{State, at, put-context, is-some};
-ghost use Rattle.decision.specs.SwitchTo.{switch-to, direct-switch-by, try-direct-switch-back};
+ghost use Rattle.model.specs.State.{State, at, put-context, is-some};
+ghost use Rattle.model.specs.SwitchTo.{switch-to, direct-switch-by, try-direct-switch-back};
 ghost use Rattle.stages.specs.Stage.{Stage, ContextBelow, Ranged};
 ghost use Rattle.switch_to.specs.Direct.{is-full, is-switched, or-same};
+ghost use Rattle.numbers.specs.Limits.{max-number};
+ghost use Rattle.stages.specs.Bounds.{t-handed, b-advanced};
 
 pub enum DirectSwitch {
     NotSwitched,
@@ -27,10 +29,10 @@ fn direct_switch(
     q: Context,
 ) -> DirectSwitch
     requires { ⌜ Image c n (now m) ⌝ }
-    requires { ⌜ (k < c) × (x < n) × (time ≤ 4611686018427387903) ⌝ }
+    requires { ⌜ (k < c) × (x < n) × (time ≤ max-number) ⌝ }
     requires { ⌜ ContextFits c q ⌝ }
-    requires { ⌜ ContextBelow 9223372045444710400 12105675801593118718 q ⌝ }
-    requires { ⌜ Ranged c n 9223372045444710400 12105675801593118718 (now m) ⌝ }
+    requires { ⌜ ContextBelow t-handed b-advanced q ⌝ }
+    requires { ⌜ Ranged c n t-handed b-advanced (now m) ⌝ }
     ensures { λ r. ⌜ Stage c n k (now (m .entry)) (now (m .exit)) (is-full r) (is-switched r) (λ (s : State). switch-to k time x (put-context x q s)) (λ (s : State). true) ⌝ }
 {
     stages::store_context(m, c, n, k, x, q);
@@ -51,12 +53,12 @@ pub fn direct_switch_by(
     own: bool,
 ) -> DirectSwitch
     requires { ⌜ Image c n (now m) ⌝ }
-    requires { ⌜ (k < c) × (x < n) × (time ≤ 4611686018427387903) ⌝ }
-    requires { ⌜ Ranged c n 9223372045444710400 12105675801593118718 (now m) ⌝ }
+    requires { ⌜ (k < c) × (x < n) × (time ≤ max-number) ⌝ }
+    requires { ⌜ Ranged c n t-handed b-advanced (now m) ⌝ }
     ensures { λ r. ⌜ Stage c n k (now (m .entry)) (now (m .exit)) (is-full r) (is-switched r) (λ (s : State). or-same s (direct-switch-by k time x s (update-runnable k time own false (at s x)))) (λ (s : State). is-some (direct-switch-by k time x s (update-runnable k time own false (at s x)))) ⌝ }
 {
     let q = machine::load(m, c, n, x);
-    let cpu = machine::word(k);
+    let cpu = numbers::word(k);
     let u = runnable::update_runnable(q, cpu, time, own, false);
     match u {
         UpdateResult::CanSwitch(r) => direct_switch(m, c, n, k, time, x, r),
@@ -73,14 +75,14 @@ pub fn try_direct_switch_back(
     time: u64,
 ) -> DirectSwitch
     requires { ⌜ Image c n (now m) ⌝ }
-    requires { ⌜ (k < c) × (time ≤ 4611686018427387903) ⌝ }
-    requires { ⌜ Ranged c n 9223372045444710400 12105675801593118718 (now m) ⌝ }
+    requires { ⌜ (k < c) × (time ≤ max-number) ⌝ }
+    requires { ⌜ Ranged c n t-handed b-advanced (now m) ⌝ }
     ensures { λ r. ⌜ Stage c n k (now (m .entry)) (now (m .exit)) (is-full r) (is-switched r) (λ (s : State). or-same s (try-direct-switch-back k time s)) (λ (s : State). is-some (try-direct-switch-back k time s)) ⌝ }
 {
     let b = stages::load_block(m, c, n, k);
     if b.current_ctxt == b.sched_ctxt {
         return DirectSwitch::NotSwitched;
     }
-    let x = machine::index(b.sched_ctxt);
+    let x = numbers::index(b.sched_ctxt);
     direct_switch_by(m, c, n, k, time, x, true)
 }

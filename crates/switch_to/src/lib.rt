@@ -12,11 +12,13 @@ ghost use mathlib.Core.Path.{_≡_};
 ghost use mathlib.Core.Bool.{Bool, false};
 ghost use Prim.Native.Nat.{ℕ, _<_, _≤_};
 ghost use Rattle.machine.specs.Shape.{ContextFits, Image};
-ghost use Rattle.decision.specs.State.{State};
-ghost use Rattle.decision.specs.SwitchTo.{switch-to};
+ghost use Rattle.model.specs.State.{State};
+ghost use Rattle.model.specs.SwitchTo.{switch-to};
 ghost use Rattle.stages.specs.Stage.{Staged, Ranged};
 ghost use Rattle.stages.specs.Read.{BlockFits};
 ghost use Rattle.switch_to.specs.Switched.{saved-by, entered, switched-by};
+ghost use Rattle.numbers.specs.Limits.{max-number};
+ghost use Rattle.stages.specs.Bounds.{t-handed, b-advanced};
 
 // True if there is no room on the local list.
 fn save(m: &mut [u64], c: usize, n: usize, k: usize, y: usize, b: PercpuBlock, q: Context) -> bool
@@ -59,7 +61,7 @@ fn switch_from(
     requires { ⌜ (k < c) × (x < n) × (y < n) ⌝ }
     requires { ⌜ BlockFits n b ⌝ }
     requires { ⌜ ContextFits c q ⌝ }
-    requires { ⌜ (q .«active_cpu_time» ≤ 9223372045444710400) × (time ≤ 4611686018427387903) ⌝ }
+    requires { ⌜ (q .«active_cpu_time» ≤ t-handed) × (time ≤ max-number) ⌝ }
     ensures { λ r. ⌜ Staged c n k (now (m .entry)) (now (m .exit)) r (λ (s : State). switched-by k time x y b q s) ⌝ }
 {
     if save(m, c, n, k, y, b, q) {
@@ -74,12 +76,12 @@ fn switch_from(
 // True if there is no room for the context that is left on the local list.
 pub fn switch_to(m: &mut [u64], c: usize, n: usize, k: usize, time: u64, x: usize) -> bool
     requires { ⌜ Image c n (now m) ⌝ }
-    requires { ⌜ (k < c) × (x < n) × (time ≤ 4611686018427387903) ⌝ }
-    requires { ⌜ Ranged c n 9223372045444710400 12105675801593118718 (now m) ⌝ }
+    requires { ⌜ (k < c) × (x < n) × (time ≤ max-number) ⌝ }
+    requires { ⌜ Ranged c n t-handed b-advanced (now m) ⌝ }
     ensures { λ r. ⌜ Staged c n k (now (m .entry)) (now (m .exit)) r (λ (s : State). switch-to k time x s) ⌝ }
 {
     let b = stages::load_block(m, c, n, k);
-    let y = machine::index(b.current_ctxt);
+    let y = numbers::index(b.current_ctxt);
     let q = machine::load(m, c, n, y);
     switch_from(m, c, n, k, time, x, y, b, q)
 }

@@ -8,8 +8,10 @@ ghost use mathlib.Core.Bool.{Bool};
 ghost use Prim.Native.Nat.{ℕ, _<_, _≤_};
 ghost use Rattle.columns.specs.Common.{if_then_else_};
 ghost use Rattle.cpu_stats.specs.declared.CpuState.the-variants.{Kernel, User};
-ghost use Rattle.decision.specs.SwitchTo.{comes};
+ghost use Rattle.model.specs.SwitchTo.{comes};
 ghost use Rattle.switch_to.specs.Switched.{is-lost, left-by, current-by};
+ghost use Rattle.numbers.specs.Limits.{max-number};
+ghost use Rattle.stages.specs.Bounds.{t-handed};
 
 // Runnable, left, without the slice and without a key: no list has it.
 pub fn would_be_lost(b: PercpuBlock, q: Context) -> bool
@@ -26,7 +28,7 @@ pub fn would_be_lost(b: PercpuBlock, q: Context) -> bool
 }
 
 pub fn leave(mut q: Context, b: PercpuBlock, time: u64) -> Context
-    requires { ⌜ (q .«active_cpu_time» ≤ 9223372045444710400) × (time ≤ 4611686018427387903) ⌝ }
+    requires { ⌜ (q .«active_cpu_time» ≤ t-handed) × (time ≤ max-number) ⌝ }
     ensures { λ r. ⌜ r ≡ left-by time b q ⌝ }
 {
     q.running = false;
@@ -34,7 +36,7 @@ pub fn leave(mut q: Context, b: PercpuBlock, time: u64) -> Context
     if b.current_ctxt == b.idle_ctxt {
         return q;
     }
-    let elapsed = ticks::saturating_sub(time, q.switch_time);
+    let elapsed = numbers::saturating_sub(time, q.switch_time);
     q.active_cpu_time = q.active_cpu_time + elapsed;
     q
 }
@@ -44,7 +46,7 @@ pub fn come(mut q: Context, k: usize, time: u64) -> Context
     ensures { λ r. ⌜ r ≡ comes k time q ⌝ }
 {
     q.running = true;
-    q.cpu_id = machine::word(k) + 1;
+    q.cpu_id = numbers::word(k) + 1;
     q.switch_time = time;
     q
 }
@@ -65,8 +67,8 @@ pub fn become_current(b: PercpuBlock, x: usize, q: Context) -> PercpuBlock
     let s = b.stats;
     let change = Change::State(state);
     let stats = cpu_stats::lent::update(s, change);
-    let mut r = turn::with_stats(b, stats);
-    r.current_ctxt = machine::word(x);
+    let mut r = b.with_stats(stats);
+    r.current_ctxt = numbers::word(x);
     r.inside_syscall = q.inside_syscall;
     r.being_sigkilled = q.being_sigkilled;
     r

@@ -3,7 +3,8 @@ use mathlib.Core.Path.{_≡_, refl, sym, ap, _∙_}
 use Prim.Native.Nat.{ℕ, _+_, _*_, _/_, _%_, _<_, _≤_}
 use native.Mathlib.Omega.{arith}
 use native.Mathlib.Nat.{div-add-mod', mul-add-div-right, add-mul, mul-assoc, mul-comm}
-use Rattle.ticks.specs.Ticks.{ticks}
+use Rattle.ticks.specs.Ticks.{ticks, max-ticks}
+use Rattle.numbers.specs.Limits.{max-elapsed}
 
 pub ticks-zero : ticks 0 ≡ 0
 unfolding ticks
@@ -14,7 +15,7 @@ unfolding ticks
 ticks-mono a b h = omega arith
 
 -- for every elapsed time that is not refused
-pub ticks-high : (e : ℕ) → e < 4503599627370496 → ticks e ≤ 2149201457092673611
+pub ticks-high : (e : ℕ) → e ≤ max-elapsed → ticks e ≤ max-ticks
 unfolding ticks
 ticks-high e h = omega arith
 

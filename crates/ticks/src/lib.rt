@@ -1,24 +1,23 @@
-// Elapsed nanoseconds in ticks, scaled by 2^30.
+// Elapsed nanoseconds in scaled ticks.
 ghost use mathlib.Core.Path.{_≡_};
 ghost use Prim.Native.Nat.{ℕ, _-_, _<_, _≤_};
-ghost use Rattle.ticks.specs.Ticks.{ticks};
+ghost use Rattle.ticks.specs.Ticks.{ticks, max-ticks};
+ghost use Rattle.numbers.specs.Limits.{max-elapsed};
 
-// Nanoseconds from one time to another; 0 where the clock has gone back.
-pub fn saturating_sub(time: u64, since: u64) -> u64
-    ensures { λ r. ⌜ r ≡ time - since ⌝ }
-{
-    if time < since {
-        return 0;
-    }
-    time - since
-}
+// scaled ticks to a tick
+pub const SCALE: u64 = 1 << 30;
+
+// ticks to a switch
+pub const TICK_INTERVAL: u64 = 3;
+
+pub const NANOS_PER_TICK: u64 = 2_250_000;
 
 // The source's 128-bit product is avoided: whole ticks and the rest are scaled apart.
 pub fn elapsed_ticks(elapsed: u64) -> u64
-    requires { ⌜ elapsed < 4503599627370496 ⌝ }
-    ensures { λ r. ⌜ (r ≡ ticks elapsed) × (r ≤ 2149201457092673611) ⌝ }
+    requires { ⌜ elapsed ≤ max-elapsed ⌝ }
+    ensures { λ r. ⌜ (r ≡ ticks elapsed) × (r ≤ max-ticks) ⌝ }
 {
-    let whole = elapsed / 2250000;
-    let rest = elapsed % 2250000;
-    whole * 1073741824 + rest * 1073741824 / 2250000
+    let whole = elapsed / NANOS_PER_TICK;
+    let rest = elapsed % NANOS_PER_TICK;
+    whole * SCALE + rest * SCALE / NANOS_PER_TICK
 }

@@ -9,11 +9,11 @@ use lib.ListN.{length, getD, take, drop}
 use lib.Dec.{eqb, ltb}
 use borrow.Author.Tests.{eqb-true, le-ltb, le-leb, leb-true}
 use Rattle.columns.specs.Common.{keep}
-use Rattle.run_queue.specs.declared.Key.{Key}
-use Rattle.run_queue.specs.declared.Timer.{Timer}
-use Rattle.run_queue.specs.Order.{before, sooner}
-use Rattle.run_queue.specs.Sorted.{Sorted}
-use Rattle.run_queue.proofs.Orders.{sooner-asym, sooner-trans, sooner-wake}
+use Rattle.entries.specs.declared.Key.{Key}
+use Rattle.entries.specs.declared.Timer.{Timer}
+use Rattle.entries.specs.Order.{before, sooner, is-due}
+use Rattle.entries.specs.Sorted.{Sorted}
+use Rattle.entries.proofs.Orders.{sooner-wake}
 use Rattle.cpu_stats.specs.Words.{stats-words}
 use Rattle.percpu.specs.Cpu.{Cpu}
 use Rattle.percpu.specs.Words.{block-words}
@@ -25,10 +25,10 @@ use Rattle.columns.proofs.Tests.{by-test}
 use Rattle.table.specs.First.{Falls, first-not, lead}
 use Rattle.table.proofs.Tables.{fields}
 use Rattle.table.proofs.Search.{first-is}
-use Rattle.table.proofs.Sorted.{IsOrder}
 use Rattle.table.proofs.Rising.{lead-keeps}
 use Rattle.table.proofs.InBlock.{Table, Lies, entry-fields, count-is}
-use Rattle.timers.specs.Put.{is-due, timer-key}
+use Rattle.timers.specs.Put.{timer-key}
+use Rattle.percpu.specs.Places.{timer-wake-column, timer-context-ref-column}
 
 -- the six columns of the queue come before
 abbrev pub timer-table : Table Timer
@@ -39,7 +39,7 @@ timer-table =
       put = cpu-timers;
       before = λ (c : Cpu). fields entry-fields (c .queue);
       after = λ (c : Cpu). c .«local_wakeup_list» ∷ c .«ipi_context_wakeup_list» ∷ [];
-      start = 409;
+      start = timer-wake-column;
       count = 22;
       item = timer-at;
       none = no-timer;
@@ -56,9 +56,6 @@ timer-lies =
       counts-old = λ c l. refl;
       counts-new = λ c q. refl;
     }
-
-pub timer-order : IsOrder sooner
-timer-order = record { asym = sooner-asym; trans = sooner-trans }
 
 -- what the walk from the front finds
 pub due-is : (time : ℕ) (b : List ℕ) (r : ℕ) → r ≡ first-not (λ (j : ℕ). is-due time (timer-at b j)) 0 (getD b 22 0) → (c : Cpu) → b ≡ cpu-words c → length (c .timers) ≤ 64 → r ≡ lead (is-due time) (c .timers)
@@ -81,13 +78,13 @@ same-order a b =
 
 -- what the search by keys finds is the timer's place
 module _ (b : List ℕ) (t : Timer) (k : Key) (e : k ≡ timer-key t) (n p : ℕ) where
-  pub found : (Falls (is-before b 409 409 473 k) n → p ≡ first-not (is-before b 409 409 473 k) 0 n) → Falls (λ (j : ℕ). sooner (timer-at b j) t) n → p ≡ first-not (λ (j : ℕ). sooner (timer-at b j) t) 0 n
+  pub found : (Falls (is-before b timer-wake-column timer-wake-column timer-context-ref-column k) n → p ≡ first-not (is-before b timer-wake-column timer-wake-column timer-context-ref-column k) 0 n) → Falls (λ (j : ℕ). sooner (timer-at b j) t) n → p ≡ first-not (λ (j : ℕ). sooner (timer-at b j) t) 0 n
   unfolding key-at timer-at
   found =
       subst (λ (f : ℕ → Bool). Falls f n → p ≡ first-not f 0 n)
       (λ i j. (ap (before (timer-key (timer-at b j))) e ∙ same-order (timer-at b j) t) i)
 
-  pub has-timer : (r : Bool) → r ≡ has-key-at b 409 409 473 n p k → r ≡ (ltb p n && not (sooner t (timer-at b p)))
+  pub has-timer : (r : Bool) → r ≡ has-key-at b timer-wake-column timer-wake-column timer-context-ref-column n p k → r ≡ (ltb p n && not (sooner t (timer-at b p)))
   unfolding key-at timer-at
   has-timer r h =
       h ∙ ap (λ (x : Bool). ltb p n && not x) (ap (λ (x : Key). before x (timer-key (timer-at b p))) e ∙ same-order t (timer-at b p))

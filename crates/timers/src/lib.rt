@@ -2,23 +2,28 @@
 ghost use mathlib.Core.Path.{_≡_};
 ghost use Prim.Native.Nat.{ℕ, _+_, _<_, _≤_};
 ghost use lib.ListN.{length, getD, drop};
-ghost use Rattle.run_queue.specs.Order.{sooner};
-ghost use Rattle.run_queue.specs.Sorted.{Sorted};
+ghost use Rattle.entries.specs.Order.{sooner, is-due};
+ghost use Rattle.entries.specs.Sorted.{Sorted};
 ghost use Rattle.percpu.specs.Cpu.{Cpu};
 ghost use Rattle.percpu.specs.With.{cpu-timers};
 ghost use Rattle.percpu.specs.Layout.{cpu-words, timer-at};
 ghost use Rattle.table.specs.First.{lead};
-ghost use Rattle.timers.specs.Put.{no-room, timer-put, is-due, timer-key};
-use run_queue::Key;
-use run_queue::Timer;
+ghost use Rattle.timers.specs.Put.{no-room, timer-put, timer-key};
+ghost use Rattle.numbers.specs.Limits.{half-range};
+ghost use Rattle.percpu.specs.Places.{timers-count, block-size};
+use entries::Key;
+use entries::Timer;
+use percpu::places::TIMER_CONTEXT_REF;
+use percpu::places::TIMER_WAKE;
+use percpu::places::TIMERS_COUNT;
 
 pub fn timer(b: &[u64], i: usize) -> Timer
-    requires { ⌜ (length (now b) ≡ 665) × (i < 64) ⌝ }
+    requires { ⌜ (length (now b) ≡ block-size) × (i < 64) ⌝ }
     ensures { λ r. ⌜ r ≡ timer-at (now (b .entry)) i ⌝ }
 {
     Timer {
-        wake: b[409 + i],
-        context_ref: b[473 + i],
+        wake: b[TIMER_WAKE + i],
+        context_ref: b[TIMER_CONTEXT_REF + i],
     }
 }
 
@@ -35,23 +40,23 @@ fn key(t: Timer) -> Key
 
 // An equal pair adds nothing. True if there is no room; then nothing is changed.
 pub fn insert(b: &mut [u64], t: Timer) -> bool
-    requires { ⌜ (length (now b) ≡ 665) × (getD (now b) 22 0 ≤ 64) ⌝ }
+    requires { ⌜ (length (now b) ≡ block-size) × (getD (now b) timers-count 0 ≤ 64) ⌝ }
     ensures { λ r. ⌜ ((c : Cpu) → now (b .entry) ≡ cpu-words c → length (c .timers) ≤ 64 → Sorted sooner (c .timers) → (r ≡ no-room t c) × (now (b .exit) ≡ cpu-words (timer-put t c))) ⌝ }
 {
-    let n = b[22] as usize;
+    let n = b[TIMERS_COUNT] as usize;
     let k = key(t);
-    let p = table::find(b, 409, 409, 473, n, k);
-    let held = table::holds(b, 409, 409, 473, n, p, k);
+    let p = table::find(b, TIMER_WAKE, TIMER_WAKE, TIMER_CONTEXT_REF, n, k);
+    let held = table::holds(b, TIMER_WAKE, TIMER_WAKE, TIMER_CONTEXT_REF, n, p, k);
     let values = [t.wake, t.context_ref];
-    table::put(b, 409, 22, &values, n, p, held)
+    table::put(b, TIMER_WAKE, TIMERS_COUNT, &values, n, p, held)
 }
 
 // How many timers at the front are due.
 pub fn due(b: &[u64], time: u64) -> usize
-    requires { ⌜ (length (now b) ≡ 665) × (getD (now b) 22 0 ≤ 64) × (time < 9223372036854775808) ⌝ }
-    ensures { λ r. ⌜ (r ≤ getD (now (b .entry)) 22 0) × ((c : Cpu) → now (b .entry) ≡ cpu-words c → length (c .timers) ≤ 64 → r ≡ lead (is-due time) (c .timers)) ⌝ }
+    requires { ⌜ (length (now b) ≡ block-size) × (getD (now b) timers-count 0 ≤ 64) × (time < half-range) ⌝ }
+    ensures { λ r. ⌜ (r ≤ getD (now (b .entry)) timers-count 0) × ((c : Cpu) → now (b .entry) ≡ cpu-words c → length (c .timers) ≤ 64 → r ≡ lead (is-due time) (c .timers)) ⌝ }
 {
-    let n = b[22] as usize;
+    let n = b[TIMERS_COUNT] as usize;
     let last = time + 1;
     let mut i = 0;
     while i < n {
@@ -67,14 +72,14 @@ pub fn due(b: &[u64], time: u64) -> usize
 
 // The first d timers taken out; the words that they free are 0.
 pub fn drop_first(b: &mut [u64], d: usize)
-    requires { ⌜ (length (now b) ≡ 665) × (getD (now b) 22 0 ≤ 64) × (d ≤ getD (now b) 22 0) ⌝ }
+    requires { ⌜ (length (now b) ≡ block-size) × (getD (now b) timers-count 0 ≤ 64) × (d ≤ getD (now b) timers-count 0) ⌝ }
     ensures { λ r. ⌜ ((c : Cpu) → now (b .entry) ≡ cpu-words c → length (c .timers) ≤ 64 → now (b .exit) ≡ cpu-words (cpu-timers (drop d (c .timers)) c)) ⌝ }
 {
-    let n = b[22] as usize;
+    let n = b[TIMERS_COUNT] as usize;
     let mut i = 0;
     while i < d {
-        table::remove_row(b, 409, 2, n - i, 0);
+        table::remove_row(b, TIMER_WAKE, 2, n - i, 0);
         i += 1;
     }
-    b[22] = (n - d) as u64;
+    b[TIMERS_COUNT] = (n - d) as u64;
 }

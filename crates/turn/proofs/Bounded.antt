@@ -1,7 +1,7 @@
 -- What counting, times and the holder's charge add to what grows. Assumes nothing.
 use mathlib.Core.Path.{_≡_, refl, sym, ap, _∙_, subst}
 use mathlib.Core.Bool.{Bool, true, false}
-use Prim.Native.Nat.{ℕ, _+_, _-_, _*_, _/_, _<_, _≤_, max}
+use Prim.Native.Nat.{ℕ, _+_, _-_, _*_, _/_, _<_, _≤_, max, _^_}
 use native.Mathlib.Omega.{arith}
 use native.Mathlib.Nat.{div-le-of-le-mul}
 use lib.Dec.{ltb, eqb}
@@ -12,20 +12,22 @@ use Rattle.context.specs.Status.{is-runnable}
 use Rattle.cpu_stats.specs.declared.CpuState.{CpuState}
 use Rattle.cpu_stats.specs.declared.CpuState.the-variants.{Idle, Kernel, User}
 use Rattle.cpu_stats.specs.declared.CpuStats.{CpuStats}
-use Rattle.ticks.specs.Ticks.{ticks}
+use Rattle.ticks.specs.Ticks.{ticks, max-ticks}
 use Rattle.ticks.proofs.Laws.{ticks-high}
-use Rattle.weights.specs.Weights.{weight}
+use Rattle.weights.specs.Weights.{weight, full-slice, min-weight}
 use Rattle.weights.proofs.Table.{weight-low}
-use Rattle.context.specs.Charge.{charged, stopped}
-use Rattle.context.proofs.Bounds.{charged-frame, charged-vd}
+use Rattle.charging.specs.Charge.{charged, stopped, yield-bound}
+use Rattle.charging.proofs.Bounds.{charged-frame, charged-vd}
 use Rattle.percpu.specs.Cpu.{Cpu}
 use Rattle.percpu.specs.With.{cpu-total-weight}
 use Rattle.machine.specs.Shape.{ContextFits, CpuFits}
-use Rattle.decision.specs.State.{State, at, on-cpu, holder, is-idle}
-use Rattle.decision.specs.Charging.{count-switch, elapsed, add-time, times, inactive, holder-stopped, charge-holder}
-use Rattle.decision.proofs.Cases.{pick}
+use Rattle.model.specs.State.{State, at, on-cpu, holder, is-idle}
+use Rattle.model.specs.Turn.{count-switch, elapsed, times, inactive, holder-stopped, charge-holder}
+use Rattle.model.proofs.Cases.{pick}
 use Rattle.stages.specs.Stage.{ContextBelow, CpuBelow, StateBelow}
 use Rattle.stages.proofs.Kept.{context-more, cpu-more, state-more, context-kept, timer-kept}
+use Rattle.numbers.specs.Limits.{max-elapsed, nanos-per-millisecond}
+use Rattle.cpu_stats.specs.Counted.{time-to, time-added}
 
 mark-small : (b : Bool) → mark b ≤ 1
 mark-small true = omega arith
@@ -61,19 +63,18 @@ record Counted (t : ℕ) (c : CpuStats) : Type 0 where
   switches : c .«context_switches» ≤ t
   syscalls : c .«syscall_switches» ≤ t
 
-time-counted : (t ms : ℕ) (c : CpuStats) (a : CpuState) → Counted t c → Counted (t + ms) (add-time ms c a)
-unfolding add-time
+time-counted : (t ms : ℕ) (c : CpuStats) (a : CpuState) → Counted t c → Counted (t + ms) (time-to a ms c)
 time-counted t ms c Idle o = record { user = omega (arith, o .user); kernel = omega (arith, o .kernel); idle = omega (arith, o .idle); switches = omega (arith, o .switches); syscalls = omega (arith, o .syscalls) }
 time-counted t ms c Kernel o = record { user = omega (arith, o .user); kernel = omega (arith, o .kernel); idle = omega (arith, o .idle); switches = omega (arith, o .switches); syscalls = omega (arith, o .syscalls) }
 time-counted t ms c User o = record { user = omega (arith, o .user); kernel = omega (arith, o .kernel); idle = omega (arith, o .idle); switches = omega (arith, o .switches); syscalls = omega (arith, o .syscalls) }
 
-pub times-below : {n t b : ℕ} (time : ℕ) (s : State) → time ≤ t → elapsed time (s .cpu) ≤ 4503599627370495 → StateBelow n t b s → StateBelow n (t + 8589934592) b (on-cpu (times time) s)
-unfolding times
+pub times-below : {n t b : ℕ} (time : ℕ) (s : State) → time ≤ t → elapsed time (s .cpu) ≤ max-elapsed → StateBelow n t b s → StateBelow n (t + 2 ^ 33) b (on-cpu (times time) s)
+unfolding times time-added
 times-below {n} {t} {b} time s l e o =
-    let h : t ≤ t + 8589934592 = omega arith
+    let h : t ≤ t + 2 ^ 33 = omega arith
     in let g : b ≤ b = omega arith
     in let u = cpu-more h g (o .cpu)
-    in let ms = elapsed time (s .cpu) / 1000000
+    in let ms = elapsed time (s .cpu) / nanos-per-millisecond
     in let m : ms ≤ 4503599627 = omega arith
     in let w = time-counted t ms (s .cpu .block .stats) (s .cpu .block .stats .state) (record { user = o .cpu .user; kernel = o .cpu .kernel; idle = o .cpu .idle; switches = o .cpu .context-switches; syscalls = o .cpu .syscall-switches })
     in record {
@@ -95,23 +96,23 @@ times-below {n} {t} {b} time s l e o =
     }
 
 -- a charge is divided by a weight of at least 15
-module _ (v e : ℕ) (q : Context) (l : e ≤ 4503599627370495) (p : q .prio ≤ 39) (r : q .«rem_slice» ≤ 9663676416) where
-  heavy : 15 ≤ weight (q .prio)
+module _ (v e : ℕ) (q : Context) (l : e ≤ max-elapsed) (p : q .prio ≤ 39) (r : q .«rem_slice» ≤ full-slice) where
+  heavy : min-weight ≤ weight (q .prio)
   heavy = weight-low (q .prio) (omega arith)
 
   turn-small : ticks e / weight (q .prio) ≤ 143280097139511575
   turn-small =
-      let h : ticks e ≤ 2149201457092673611 = ticks-high e (omega arith)
-      in let w : 15 ≤ weight (q .prio) = heavy
+      let h : ticks e ≤ max-ticks = ticks-high e (omega arith)
+      in let w : min-weight ≤ weight (q .prio) = heavy
       in div-le-of-le-mul (weight (q .prio)) (omega arith)
 
   slice-small : (q .«rem_slice» - ticks e) / weight (q .prio) ≤ 644245095
-  slice-small = let w : 15 ≤ weight (q .prio) = heavy in div-le-of-le-mul (weight (q .prio)) (omega arith)
+  slice-small = let w : min-weight ≤ weight (q .prio) = heavy in div-le-of-le-mul (weight (q .prio)) (omega arith)
 
   vtime-small : charged v e q .vtime ≤ max (q .vtime) v + 143280097783756670
   unfolding charged
   vtime-small =
-      by-test (ltb e 3375000) (λ y. rw y (omega (arith, turn-small, slice-small)))
+      by-test (ltb e yield-bound) (λ y. rw y (omega (arith, turn-small, slice-small)))
       (λ n. rw n (by-test (eqb (q .«rem_slice» - ticks e) 0) (λ s. rw s (omega (arith, turn-small))) (λ s. rw s (omega (arith, turn-small)))))
 
   charged-below : {t b : ℕ} → v ≤ b → ContextBelow t b q → ContextBelow t (b + 288230376151711744) (charged v e q)
@@ -175,7 +176,7 @@ module _ {c n t b : ℕ} (s : State) (f : CpuFits n (s .cpu)) (g : (x : ℕ) →
   unfolding holder-stopped
   stop-below = pick (StateBelow n t b) ((holder s) .«has_wake») (λ e. timer-kept (inactive s) inactive-below _ (held .wake)) (λ e. inactive-below)
 
-  pub charge-below : (e : ℕ) → e ≤ 4503599627370495 → StateBelow n t (b + 288230376151711744) (charge-holder e s)
+  pub charge-below : (e : ℕ) → e ≤ max-elapsed → StateBelow n t (b + 288230376151711744) (charge-holder e s)
   unfolding charge-holder
   charge-below e l =
       let h : t ≤ t = omega arith

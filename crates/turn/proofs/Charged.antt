@@ -10,22 +10,24 @@ use Rattle.columns.specs.Common.{if_then_else_}
 use Rattle.context.specs.declared.Context.{Context}
 use Rattle.context.specs.Status.{is-runnable}
 use Rattle.weights.specs.Weights.{weight}
-use Rattle.run_queue.specs.declared.Timer.{Timer}
-use Rattle.context.specs.Charge.{charged, stopped, Chargeable}
-use Rattle.context.proofs.Bounds.{charged-frame, charged-slice}
+use Rattle.entries.specs.declared.Timer.{Timer}
+use Rattle.charging.specs.Charge.{charged, stopped, Chargeable}
+use Rattle.charging.proofs.Bounds.{charged-frame, charged-slice}
 use Rattle.percpu.specs.declared.PercpuBlock.{PercpuBlock}
 use Rattle.percpu.specs.Cpu.{Cpu}
 use Rattle.percpu.specs.With.{block-total-weight, cpu-block}
 use Rattle.machine.specs.Machine.{Machine, context-at, cpu-at}
 use Rattle.machine.specs.Encode.{encode}
 use Rattle.machine.specs.Shape.{ContextFits, CpuFits, Fits, Image}
-use Rattle.decision.specs.State.{State, state-of, put-context, on-cpu, insert-timer}
-use Rattle.decision.specs.Charging.{holder-stopped, charge-holder}
+use Rattle.model.specs.State.{State, state-of, put-context, on-cpu, insert-timer}
+use Rattle.model.specs.Turn.{holder-stopped, charge-holder}
 use Rattle.stages.specs.Stage.{Stage, Staged, Ranged}
 use Rattle.stages.specs.Read.{BlockFits}
 use Rattle.stages.proofs.Compose.{stage-then, stage-as}
 use Rattle.turn.specs.Charged.{weight-left, left, stopped-by, charged-by}
 use Rattle.stages.proofs.Reading.{unchanged}
+use Rattle.numbers.specs.Limits.{max-elapsed}
+use Rattle.stages.specs.Bounds.{b-woken}
 
 -- the total weight, where the context that stops has one in it and where it has not
 module _ (b : PercpuBlock) (q : Context) where
@@ -80,7 +82,7 @@ module _ {c n : ℕ} {m : List ℕ} (k : ℕ) (elapsed : ℕ) (b : PercpuBlock) 
 
   module _ (x : ℕ) (hx : x ≡ b .«sched_ctxt») where
     module _ (q : Context) (hq : (M : Machine) → m ≡ encode M → Fits c n M → q ≡ context-at (M .contexts) x) where
-      pub chargeable : {t : ℕ} → elapsed ≤ 4503599627370495 → Ranged c n t 4611686019501129727 m → k < c → x < n → Chargeable (b .v) elapsed q
+      pub chargeable : {t : ℕ} → elapsed ≤ max-elapsed → Ranged c n t b-woken m → k < c → x < n → Chargeable (b .v) elapsed q
       chargeable l r h g =
           let o = r .fits .context x g
           in let u = r .below .context x g

@@ -8,49 +8,34 @@ use Rattle.cpu_stats.specs.declared.CpuState.{CpuState}
 use Rattle.cpu_stats.specs.declared.CpuState.the-variants.{Idle, Kernel, User}
 use Rattle.cpu_stats.specs.declared.CpuStats.{CpuStats}
 use Rattle.cpu_stats.specs.State.{is-idle-state}
-use Rattle.cpu_stats.specs.Counted.{time-to, time-added, switch-added}
+use Rattle.cpu_stats.specs.Counted.{time-added, switch-added}
 use Rattle.percpu.specs.declared.PercpuBlock.{PercpuBlock}
 use Rattle.percpu.specs.Cpu.{Cpu}
 use Rattle.percpu.specs.With.{block-pit-ticks, block-schedule-time, block-stats, cpu-block}
 use Rattle.stages.specs.Read.{BlockFits}
-use Rattle.decision.specs.Charging.{add-context-switch, count-switch, add-time, times}
+use Rattle.model.specs.Turn.{count-switch, times}
 use Rattle.turn.specs.declared.timing.Turn.{Turn}
 use Rattle.turn.specs.Turn.{turn-of}
-
--- the definitions of the counters say the same as those of the decision
-pub switch-is : (inside : Bool) (t : CpuStats) → switch-added inside t ≡ add-context-switch inside t
-unfolding switch-added
-switch-is true t = refl
-switch-is false t = let e : t .«syscall_switches» + 0 ≡ t .«syscall_switches» = omega arith in rw e
-
-to-state : (ms : ℕ) (t : CpuStats) (s : CpuState) → time-to s ms t ≡ add-time ms t s
-unfolding add-time
-to-state ms t Idle = refl
-to-state ms t Kernel = refl
-to-state ms t User = refl
-
-pub time-is : (ms : ℕ) (t : CpuStats) → time-added ms t ≡ add-time ms t (t .state)
-unfolding time-added
-time-is ms t = to-state ms t (t .state)
+use Rattle.numbers.specs.Limits.{nanos-per-millisecond}
 
 -- b is the block that was loaded, b' the one that is stored
 module _ (p : Cpu) (b b' : PercpuBlock) (h : b ≡ p .block) where
-  pub counted-as : b' ≡ block-pit-ticks 0 (block-stats (add-context-switch (b .«inside_syscall») (b .stats)) b) → cpu-block b' p ≡ count-switch p
-  counted-as e = ap (λ (x : PercpuBlock). cpu-block x p) (e ∙ ap (λ (x : PercpuBlock). block-pit-ticks 0 (block-stats (add-context-switch (x .«inside_syscall») (x .stats)) x)) h)
+  pub counted-as : b' ≡ block-pit-ticks 0 (block-stats (switch-added (b .«inside_syscall») (b .stats)) b) → cpu-block b' p ≡ count-switch p
+  counted-as e = ap (λ (x : PercpuBlock). cpu-block x p) (e ∙ ap (λ (x : PercpuBlock). block-pit-ticks 0 (block-stats (switch-added (x .«inside_syscall») (x .stats)) x)) h)
 
   module _ (time elapsed : ℕ) (d : elapsed ≡ time - b .«schedule_time») where
-    pub timed-as : b' ≡ block-schedule-time time (block-stats (add-time (elapsed / 1000000) (b .stats) (b .stats .state)) b) → cpu-block b' p ≡ times time p
+    pub timed-as : b' ≡ block-schedule-time time (block-stats (time-added (elapsed / nanos-per-millisecond) (b .stats)) b) → cpu-block b' p ≡ times time p
     unfolding times
     timed-as e =
         ap (λ (x : PercpuBlock). cpu-block x p)
-        (e ∙ ap (λ (y : ℕ). block-schedule-time time (block-stats (add-time (y / 1000000) (b .stats) (b .stats .state)) b)) d
-        ∙ ap (λ (x : PercpuBlock). block-schedule-time time (block-stats (add-time ((time - x .«schedule_time») / 1000000) (x .stats) (x .stats .state)) x)) h)
+        (e ∙ ap (λ (y : ℕ). block-schedule-time time (block-stats (time-added (y / nanos-per-millisecond) (b .stats)) b)) d
+        ∙ ap (λ (x : PercpuBlock). block-schedule-time time (block-stats (time-added ((time - x .«schedule_time») / nanos-per-millisecond) (x .stats)) x)) h)
 
 -- its names are the same
-pub counted-fits : {n : ℕ} (b b' : PercpuBlock) → b' ≡ block-pit-ticks 0 (block-stats (add-context-switch (b .«inside_syscall») (b .stats)) b) → BlockFits n b → BlockFits n b'
+pub counted-fits : {n : ℕ} (b b' : PercpuBlock) → b' ≡ block-pit-ticks 0 (block-stats (switch-added (b .«inside_syscall») (b .stats)) b) → BlockFits n b → BlockFits n b'
 counted-fits b b' e o = rw e (record { current = o .current; sched = o .sched; idle = o .idle })
 
-pub timed-fits : {n : ℕ} (b b' : PercpuBlock) (time elapsed : ℕ) → b' ≡ block-schedule-time time (block-stats (add-time (elapsed / 1000000) (b .stats) (b .stats .state)) b) → BlockFits n b → BlockFits n b'
+pub timed-fits : {n : ℕ} (b b' : PercpuBlock) (time elapsed : ℕ) → b' ≡ block-schedule-time time (block-stats (time-added (elapsed / nanos-per-millisecond) (b .stats)) b) → BlockFits n b → BlockFits n b'
 timed-fits b b' time elapsed e o = rw e (record { current = o .current; sched = o .sched; idle = o .idle })
 
 -- what is returned

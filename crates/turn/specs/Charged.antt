@@ -5,11 +5,11 @@ use Rattle.columns.specs.Common.{if_then_else_}
 use Rattle.context.specs.declared.Context.{Context}
 use Rattle.context.specs.Status.{is-runnable}
 use Rattle.weights.specs.Weights.{weight}
-use Rattle.context.specs.Charge.{charged, stopped}
+use Rattle.charging.specs.Charge.{charged, stopped}
 use Rattle.percpu.specs.declared.PercpuBlock.{PercpuBlock}
 use Rattle.percpu.specs.Cpu.{Cpu}
 use Rattle.percpu.specs.With.{block-total-weight, cpu-block}
-use Rattle.decision.specs.State.{State, put-context, on-cpu, insert-timer}
+use Rattle.model.specs.State.{State, put-context, on-cpu, insert-timer}
 
 -- the total weight without a context that stops
 abbrev pub weight-left : PercpuBlock → Context → PercpuBlock

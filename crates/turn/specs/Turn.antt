@@ -1,7 +1,7 @@
 -- What the code returns of a turn. Assumes nothing.
 use Prim.Native.Nat.{ℕ}
 use Rattle.percpu.specs.Cpu.{Cpu}
-use Rattle.decision.specs.Charging.{elapsed, was-idle}
+use Rattle.model.specs.Turn.{elapsed, was-idle}
 use Rattle.turn.specs.declared.timing.Turn.{Turn}
 
 abbrev pub turn-of : ℕ → Cpu → Turn

@@ -6,13 +6,15 @@ ghost use mathlib.Core.Path.{_≡_};
 ghost use mathlib.Core.Bool.{Bool, false};
 ghost use Prim.Native.Nat.{ℕ, _/_, _<_, _≤_};
 ghost use Rattle.cpu_stats.specs.State.{is-idle-state};
-ghost use Rattle.cpu_stats.specs.Counted.{CountersBelow};
+ghost use Rattle.cpu_stats.specs.Counted.{CountersBelow, time-added};
 ghost use Rattle.percpu.specs.With.{block-schedule-time, block-stats};
 ghost use Rattle.machine.specs.Shape.{Image};
-ghost use Rattle.decision.specs.State.{State, on-cpu};
-ghost use Rattle.decision.specs.Charging.{add-time, times};
+ghost use Rattle.model.specs.State.{State, on-cpu};
+ghost use Rattle.model.specs.Turn.{times};
 ghost use Rattle.stages.specs.Stage.{Stage, Ranged};
 ghost use Rattle.turn.specs.Turn.{turn-of};
+ghost use Rattle.numbers.specs.Limits.{max-number, half-range, nanos-per-millisecond};
+ghost use Rattle.stages.specs.Bounds.{t-counted, b-woken};
 
 // the nanoseconds since the CPU's last decision, and whether its state was Idle
 pub struct Turn {
@@ -31,26 +33,26 @@ fn is_idle(s: CpuState) -> bool
 }
 
 fn timed(b: PercpuBlock, time: u64, elapsed: u64) -> PercpuBlock
-    requires { ⌜ CountersBelow 9223372036854775808 (b .stats) ⌝ }
-    requires { ⌜ elapsed ≤ 4611686018427387903 ⌝ }
-    ensures { λ r. ⌜ r ≡ block-schedule-time time (block-stats (add-time (elapsed / 1000000) (b .stats) (b .stats .state)) b) ⌝ }
+    requires { ⌜ CountersBelow half-range (b .stats) ⌝ }
+    requires { ⌜ elapsed ≤ max-number ⌝ }
+    ensures { λ r. ⌜ r ≡ block-schedule-time time (block-stats (time-added (elapsed / nanos-per-millisecond) (b .stats)) b) ⌝ }
 {
     let s = b.stats;
-    let change = Change::Time(elapsed / 1000000);
+    let change = Change::Time(elapsed / numbers::NANOS_PER_MILLISECOND);
     let stats = cpu_stats::lent::update(s, change);
-    let mut r = crate::with_stats(b, stats);
+    let mut r = b.with_stats(stats);
     r.schedule_time = time;
     r
 }
 
 pub fn times(m: &mut [u64], c: usize, n: usize, k: usize, time: u64) -> Turn
     requires { ⌜ Image c n (now m) ⌝ }
-    requires { ⌜ (k < c) × (time ≤ 4611686018427387903) ⌝ }
-    requires { ⌜ Ranged c n 4611686018427387904 4611686019501129727 (now m) ⌝ }
+    requires { ⌜ (k < c) × (time ≤ max-number) ⌝ }
+    requires { ⌜ Ranged c n t-counted b-woken (now m) ⌝ }
     ensures { λ r. ⌜ Stage c n k (now (m .entry)) (now (m .exit)) false r (λ (s : State). on-cpu (times time) s) (λ (s : State). turn-of time (s .cpu)) ⌝ }
 {
     let b = stages::load_block(m, c, n, k);
-    let elapsed = ticks::saturating_sub(time, b.schedule_time);
+    let elapsed = numbers::saturating_sub(time, b.schedule_time);
     let after = timed(b, time, elapsed);
     stages::store_block(m, c, n, k, after);
     let s = b.stats;

@@ -7,25 +7,26 @@ use native.Mathlib.Omega.{arith}
 use Rattle.columns.specs.Common.{if_then_else_, All}
 use Rattle.columns.proofs.Tests.{by-test}
 use Rattle.context.specs.declared.Context.{Context}
-use Rattle.weights.specs.Weights.{weight, whole-slice}
-use Rattle.run_queue.specs.declared.Entry.{Entry}
-use Rattle.run_queue.specs.declared.Timer.{Timer}
-use Rattle.run_queue.specs.Order.{entry-before, sooner}
-use Rattle.run_queue.specs.Queue.{queue-insert, queue-remove, timer-insert, keyed}
+use Rattle.weights.specs.Weights.{weight, whole-slice, max-weight, max-whole-slice}
+use Rattle.entries.specs.declared.Entry.{Entry}
+use Rattle.entries.specs.declared.Timer.{Timer}
+use Rattle.entries.specs.Order.{entry-before, sooner}
+use Rattle.entries.specs.Queue.{queue-insert, queue-remove, timer-insert, keyed}
 use Rattle.percpu.specs.Cpu.{Cpu}
 use Rattle.percpu.specs.With.{cpu-timers}
 use Rattle.percpu.specs.Layout.{no-entry, no-timer}
 use Rattle.machine.specs.Machine.{no-context}
 use Rattle.machine.proofs.Steps.{getD-set}
-use Rattle.decision.specs.State.{State, at, put-context, queue-key}
-use Rattle.decision.specs.Wakeups.{Wakeup, waits-for, woken-by, without-old-key, entering, entry-of, put-back, enter, wake-as, serve-wakeup}
-use Rattle.decision.proofs.WakeupCases.{wakeup-cases}
-use Rattle.decision.proofs.Sorted.{all-insert, all-remove}
+use Rattle.model.specs.State.{State, at, put-context}
+use Rattle.model.specs.Wakeup.{Wakeup, waits-for, woken-by, without-old-key, entering, put-back, enter, wake-as, serve-wakeup}
+use Rattle.model.proofs.WakeupCases.{wakeup-cases}
+use Rattle.model.proofs.Sorted.{all-insert, all-remove}
 use Rattle.stages.specs.Stage.{ContextBelow, CpuBelow, StateBelow}
 use Rattle.stages.proofs.Fitting.{all-of, of-all}
 use Rattle.wakeup.specs.Paced.{Slow}
 use Rattle.wakeup.proofs.Pacing.{weight-at-most, slice-at-most, max-at-most, woken-vtime}
 use Rattle.wakeup.proofs.Listed.{WakeBelow}
+use Rattle.context.specs.Key.{queue-key, entry-of}
 
 -- other timers
 timers-below : {t b : ℕ} (l : List Timer) (p : Cpu) → CpuBelow t b p → All (λ (x : Timer). x .wake ≤ t) l → CpuBelow t b (cpu-timers l p)
@@ -66,7 +67,7 @@ woken-below (some w) c f =
     (λ e. rw e f)
 
 -- one wake-up; u is the bound of the whole stage
-module _ {n t b w u : ℕ} (s : State) (o : Slow n b w s) (f : StateBelow n t u s) (hw : w + 88761 ≤ u) (hb : b + 644245094 ≤ u) where
+module _ {n t b w u : ℕ} (s : State) (o : Slow n b w s) (f : StateBelow n t u s) (hw : w + max-weight ≤ u) (hb : b + max-whole-slice ≤ u) where
   back-below : (k : Option ℕ) (x : ℕ) → WakeBelow t k → StateBelow n t u (put-back k x s)
   back-below none x h =
       record {
@@ -104,7 +105,7 @@ module _ {n t b w u : ℕ} (s : State) (o : Slow n b w s) (f : StateBelow n t u 
     later = max-at-most (q .vtime) (s .cpu .block .v) b h (o .v)
 
     deadline : e .vd ≤ u
-    deadline = let z : e .vtime ≤ b = later in let y : whole-slice (q .prio) ≤ 644245094 = slice-at-most (q .prio) in omega arith
+    deadline = let z : e .vtime ≤ b = later in let y : whole-slice (q .prio) ≤ max-whole-slice = slice-at-most (q .prio) in omega arith
 
     entered-below : ContextBelow t u e
     entered-below =

@@ -1,6 +1,6 @@
 -- One wake-up served, as it was judged: one lemma for each return. Assumes nothing.
 use mathlib.Core.Path.{_≡_, refl, sym, ap, _∙_, subst}
-use mathlib.Core.Bool.{Bool, true, false}
+use mathlib.Core.Bool.{Bool, true, false, not}
 use mathlib.Core.List.{List}
 use mathlib.Core.Option.{Option, none, some}
 use Prim.Native.Nat.{ℕ, _<_}
@@ -9,12 +9,11 @@ use Rattle.columns.specs.Common.{if_then_else_}
 use Rattle.columns.proofs.Tests.{by-test}
 use Rattle.context.specs.declared.Context.{Context}
 use Rattle.percpu.specs.declared.PercpuBlock.{PercpuBlock}
-use Rattle.machine.specs.Machine.{Machine, context-at, cpu-at}
+use Rattle.machine.specs.Machine.{Machine, context-at}
 use Rattle.machine.specs.Encode.{encode}
 use Rattle.machine.specs.Shape.{Fits, Image}
-use Rattle.decision.specs.State.{State, state-of, put-context, insert-timer, push-local}
-use Rattle.decision.specs.Wakeups as definition
-use Rattle.decision.specs.Wakeups.{waits-for, woken-by, put-back, enter, wake-as, serve-wakeup}
+use Rattle.model.specs.State.{State, state-of, put-context, insert-timer, push-local}
+use Rattle.model.specs.Wakeup.{waits-for, woken-by, put-back, enter, wake-as, serve-wakeup}
 use Rattle.stages.specs.Stage.{Staged}
 use Rattle.stages.proofs.Compose.{stage-as}
 use Rattle.wakeup_judge.specs.declared.Wakeup.{Wakeup}
@@ -25,6 +24,7 @@ use Rattle.wakeup_judge.proofs.Judging.{judged-is}
 use Rattle.wakeup.specs.Paced.{Paced, RecordFits, ResultFits}
 use Rattle.stages.proofs.Reading.{stage-none}
 use Rattle.wakeup.proofs.Entering.{Loaded}
+use Rattle.numbers.specs.Limits.{max-number}
 
 -- put back, as the code found it
 abbrev back : Wakeup → Bool → State → State
@@ -82,21 +82,20 @@ unfolding judged
 judged-fits {c} current sched w q f =
     fits-if (eqb (w .«context_ref») sched) (q .gone) (eqb (q .lock) 0) (may-enter-at current sched (w .«context_ref») (woken-by (wake-of w) q)) (woken-by (wake-of w) q) (woken-fits (wake-of w) q f)
   where
-    fits-if : (a g l b : Bool) (y : Context) → RecordFits c y → ResultFits c (if a then Dropped else if g then Dropped else if mathlib.Core.Bool.not l then Locked else if b then Entered y else WokenOnly y)
+    fits-if : (a g l b : Bool) (y : Context) → RecordFits c y → ResultFits c (if a then Dropped else if g then Dropped else if not l then Locked else if b then Entered y else WokenOnly y)
     fits-if true g l b y z = tt
     fits-if false true l b y z = tt
     fits-if false false false b y z = tt
     fits-if false false true true y z = z
     fits-if false false true false y z = z
 
-module _ {c n k : ℕ} {m : List ℕ} (w : Wakeup) (x : ℕ) (b : PercpuBlock) (q : Context) (r : WakeupResult) (f : Loaded c n k m b) (hx : x ≡ w .«context_ref»)
-    (g : (M : Machine) → m ≡ encode M → Fits c n M → q ≡ context-at (M .contexts) x) (hr : r ≡ judged (b .«current_ctxt») (b .«sched_ctxt») w q) where
-  pub result-fits : w .«context_ref» < n → (u : ℕ) → Paced c n k 4611686018427387903 u m → ResultFits c r
+module _ {c n k : ℕ} {m : List ℕ} (w : Wakeup) (b : PercpuBlock) (r : WakeupResult) (f : Loaded c n k m b)
+    (hr : (M : Machine) → m ≡ encode M → Fits c n M → r ≡ judged (b .«current_ctxt») (b .«sched_ctxt») w (context-at (M .contexts) (w .«context_ref»))) where
+  pub result-fits : w .«context_ref» < n → (u : ℕ) → Paced c n k max-number u m → ResultFits c r
   result-fits h u p =
-      let e : context-at (p .M .contexts) (w .«context_ref») ≡ q = sym (g (p .M) (p .eq) (p .fits) ∙ ap (context-at (p .M .contexts)) hx)
-      in subst (ResultFits c) (sym hr)
-      (judged-fits (b .«current_ctxt») (b .«sched_ctxt») w q
-      (subst (RecordFits c) e (record { fits = p .fits .context (w .«context_ref») h; vtime = p .slow .vtime (w .«context_ref») h })))
+      subst (ResultFits c) (sym (hr (p .M) (p .eq) (p .fits)))
+      (judged-fits (b .«current_ctxt») (b .«sched_ctxt») w (context-at (p .M .contexts) (w .«context_ref»))
+      (record { fits = p .fits .context (w .«context_ref») h; vtime = p .slow .vtime (w .«context_ref») h }))
 
   pub served-staged : {m' : List ℕ} {full : Bool} → Staged c n k m m' full (λ (s : State). wake-as s (wakeup-of w) (result-of r))
       → Staged c n k m m' full (λ (s : State). serve-wakeup s (wakeup-of w))
@@ -105,8 +104,7 @@ module _ {c n k : ℕ} {m : List ℕ} (w : Wakeup) (x : ℕ) (b : PercpuBlock) (
       stage-as t
       (λ M e o. (
         ap (wake-as (state-of k M) (wakeup-of w))
-            (ap result-of (hr ∙ ap (λ (y : PercpuBlock). judged (y .«current_ctxt») (y .«sched_ctxt») w q) (f M e o)
-            ∙ ap (judged (cpu-at M k .block .«current_ctxt») (cpu-at M k .block .«sched_ctxt») w) (g M e o ∙ ap (context-at (M .contexts)) hx))
+            (ap result-of (hr M e o ∙ ap (λ (y : PercpuBlock). judged (y .«current_ctxt») (y .«sched_ctxt») w (context-at (M .contexts) (w .«context_ref»))) (f M e o))
             ∙ judged-is (state-of k M) w),
         λ y z. refl,
       ))

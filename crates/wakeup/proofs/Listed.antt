@@ -5,14 +5,16 @@ use Prim.Native.Nat.{ℕ, _<_, _≤_}
 use native.Mathlib.Omega.{arith}
 use lib.ListN.{length, getD, length-append, length-map}
 use Rattle.columns.specs.Common.{keep, All}
-use Rattle.run_queue.specs.declared.Timer.{Timer}
+use Rattle.entries.specs.declared.Timer.{Timer}
 use Rattle.percpu.specs.Layout.{no-timer}
 use Rattle.machine.specs.Shape.{CpuFits}
-use Rattle.decision.specs.State.{State}
-use Rattle.decision.specs.Wakeups.{Wakeup, is-due, is-live-timer, timer-wakeup, local-wakeup, wakeups}
+use Rattle.model.specs.State.{State}
+use Rattle.model.specs.Wakeup.{Wakeup, is-live-timer, timer-wakeup, local-wakeup, wakeups}
 use Rattle.stages.proofs.Fitting.{all-of}
 use Rattle.wakeup_read.proofs.Draining.{all-keep, length-keep}
 use Rattle.wakeup.specs.Paced.{Named}
+use Rattle.wakeup_read.specs.Read.{max-wakeups}
+use Rattle.entries.specs.Order.{is-due}
 
 all-append : {A : Type 0} (P : A → Type 0) (l r : List A) → All P l → All P r → All P (l ++ r)
 all-append P [] r a b = b
@@ -54,7 +56,7 @@ module _ (time : ℕ) (s : State) where
       such (λ (w : Wakeup). WakeBelow t (w .wake)) (all-of (λ (x : Timer). x .wake ≤ t) no-timer (s .cpu .timers) f)
       (all-any (λ (x : ℕ). WakeBelow t ((local-wakeup x) .wake)) (λ x. tt) (s .cpu .«local_wakeup_list»))
 
-  pub wakeups-few : length (s .cpu .timers) ≤ 64 → length (s .cpu .«local_wakeup_list») ≤ 64 → length (wakeups time s) ≤ 128
+  pub wakeups-few : length (s .cpu .timers) ≤ 64 → length (s .cpu .«local_wakeup_list») ≤ 64 → length (wakeups time s) ≤ max-wakeups
   unfolding wakeups
   wakeups-few a b =
       let x : length (keep (is-due time) (s .cpu .timers)) ≤ length (s .cpu .timers) = length-keep (is-due time) (s .cpu .timers)

@@ -2,7 +2,6 @@
 use mathlib.Core.Path.{_≡_, refl, sym, ap, _∙_, subst}
 use mathlib.Core.Bool.{Bool, true, false}
 use mathlib.Core.List.{List, [], _∷_, _++_}
-use mathlib.Core.Option.{Option, none, some}
 use Prim.Native.Nat.{ℕ, zero, suc, _+_, _*_, _<_, _≤_}
 use native.Mathlib.Omega.{arith}
 use native.Mathlib.Numerals.{add-one}
@@ -14,21 +13,23 @@ use Rattle.columns.proofs.Tests.{by-test, never}
 use Rattle.machine.specs.Machine.{Machine}
 use Rattle.machine.specs.Encode.{encode}
 use Rattle.machine.specs.Shape.{Fits, Image}
-use Rattle.decision.specs.State.{State, state-of, at}
-use Rattle.decision.specs.Wakeups as definition
-use Rattle.decision.specs.Wakeups.{wakeups, drained, put-back, enter, wake-as, serve-wakeup, serve-wakeups}
-use Rattle.decision.proofs.WakeupCases.{wakeup-cases}
-use Rattle.decision.proofs.NoRoom.{serve-full}
+use Rattle.model.specs.State.{State, state-of, at}
+use Rattle.model.specs.Wakeup as definition
+use Rattle.model.specs.Wakeup.{wakeups, drained, serve-wakeup, serve-wakeups}
+use Rattle.model.proofs.NoRoom.{serve-full}
 use Rattle.stages.specs.Stage.{put-state, Staged, Ranged}
 use Rattle.stages.proofs.Compose.{state-put, stage-then, stage-as}
 use Rattle.wakeup_judge.specs.declared.Wakeup.{Wakeup}
 use Rattle.wakeup_judge.specs.Judge.{wakeup-of}
-use Rattle.wakeup_read.specs.Read.{wakeup-at, wakeups-in}
+use Rattle.wakeup_read.specs.Read.{wakeup-at, wakeups-in, max-wakeups}
 use Rattle.wakeup_read.proofs.Scratched.{wakeup-such}
 use Rattle.wakeup.specs.Paced.{Slow, Paced, Named}
 use Rattle.wakeup.proofs.Pacing.{slow-more, slow-serve}
 use Rattle.stages.proofs.Reading.{stage-none}
 use Rattle.wakeup.proofs.Listed.{wakeups-named}
+use Rattle.numbers.specs.Limits.{max-number}
+use Rattle.weights.specs.Weights.{max-weight}
+use Rattle.stages.specs.Bounds.{b-waking}
 
 -- the state after the first i wake-ups of the scratch
 abbrev pub after : List ℕ → ℕ → State → State
@@ -74,9 +75,9 @@ pub record ServeLoop (c n k len : ℕ) (m₀ m d : List ℕ) (i : ℕ) : Type 0 
   pub here : i ≤ len
   pub same : length m ≡ length m₀
   pub served : Staged c n k m₀ m false (λ (s : State). after d i s)
-  pub paced : Paced c n k 4611686018427387903 (4611686018427387903 + 88761 * i) m
+  pub paced : Paced c n k max-number (max-number + max-weight * i) m
 
-pub serve-start : {c n k : ℕ} {m : List ℕ} (len : ℕ) (d : List ℕ) → Image c n m → Paced c n k 4611686018427387903 4611686018427387903 m → ServeLoop c n k len m m d 0
+pub serve-start : {c n k : ℕ} {m : List ℕ} (len : ℕ) (d : List ℕ) → Image c n m → Paced c n k max-number max-number m → ServeLoop c n k len m m d 0
 unfolding wakeups-in
 serve-start {k = k} len d i p = record { here = omega arith; same = refl; served = stage-none i; paced = paced-more _ (omega arith) p }
 
@@ -84,8 +85,8 @@ module _ {c n k len : ℕ} {m₀ m d : List ℕ} {i : ℕ} (h : k < c) (l : Serv
   pub serve-named : Named n (wakeups-in d len) → w .«context_ref» < n
   serve-named a = subst (λ (y : Wakeup). y .«context_ref» < n) (sym hw) (wakeup-such (λ (u : definition.Wakeup). u .«context_ref» < n) d len i a b)
 
-  pub serve-paced : len ≤ 128 → Paced c n k 4611686018427387903 4611686018438749311 m
-  serve-paced s = paced-more 4611686018438749311 (omega arith) (l .paced)
+  pub serve-paced : len ≤ max-wakeups → Paced c n k max-number b-waking m
+  serve-paced s = paced-more b-waking (omega arith) (l .paced)
 
   once-more : {m' : List ℕ} {r : Bool} → Staged c n k m m' r (λ (s : State). serve-wakeup s (wakeup-of w)) → Staged c n k m₀ m' r (λ (s : State). after d (suc i) s)
   once-more t =
@@ -104,7 +105,7 @@ module _ {c n k len : ℕ} {m₀ m d : List ℕ} {i : ℕ} (h : k < c) (l : Serv
         here = omega arith;
         same = z ∙ l .same;
         served = rw (add-one i) (once-more u);
-        paced = paced-more (4611686018427387903 + 88761 * (i + 1)) (omega arith)
+        paced = paced-more (max-number + max-weight * (i + 1)) (omega arith)
             (paced-by h (λ s o. slow-serve s (wakeup-of w) o (serve-named a)) u (l .paced));
       }
 

@@ -7,10 +7,11 @@ use Rattle.context.specs.declared.Context.{Context}
 use Rattle.machine.specs.Machine.{Machine, context-at}
 use Rattle.machine.specs.Encode.{encode}
 use Rattle.machine.specs.Shape.{ContextFits, Fits}
-use Rattle.decision.specs.State.{State, state-of}
-use Rattle.decision.specs.Wakeups as definition
+use Rattle.model.specs.State.{State, state-of}
+use Rattle.model.specs.Wakeup as definition
 use Rattle.wakeup_judge.specs.declared.WakeupResult.{WakeupResult}
 use Rattle.wakeup_judge.specs.declared.WakeupResult.the-variants.{Dropped, Locked, WokenOnly, Entered}
+use Rattle.numbers.specs.Limits.{max-number}
 
 -- of a state of n contexts
 pub record Slow (n b w : ℕ) (s : State) : Type 0 where
@@ -28,7 +29,7 @@ pub record Paced (c n k b w : ℕ) (m : List ℕ) : Type 0 where
 -- a record that may be stored, and may enter
 pub record RecordFits (c : ℕ) (q : Context) : Type 0 where
   pub fits : ContextFits c q
-  pub vtime : q .vtime ≤ 4611686018427387903
+  pub vtime : q .vtime ≤ max-number
 
 abbrev pub ResultFits : ℕ → WakeupResult → Type 0
 ResultFits c Dropped = Unit {0}

@@ -8,11 +8,11 @@ use borrow.Author.Tests.{eq-eqb, ne-eqb}
 use Rattle.columns.specs.Common.{if_then_else_}
 use Rattle.context.specs.declared.Context.{Context}
 use Rattle.context.specs.Status.{is-runnable}
-use Rattle.run_queue.specs.declared.Timer.{Timer}
+use Rattle.entries.specs.declared.Timer.{Timer}
 use Rattle.percpu.specs.Cpu.{Cpu}
 use Rattle.percpu.specs.With.{cpu-block}
-use Rattle.decision.specs.State.{State, at}
-use Rattle.decision.specs.Wakeups.{waits-for, may-enter, woken-by, wakeup-result, activated, dropped, locked, entered, woken-only}
+use Rattle.model.specs.State.{State, at}
+use Rattle.model.specs.Wakeup.{waits-for, may-enter, woken-by, wakeup-result, activated, dropped, locked, entered, woken-only}
 use Rattle.wakeup_judge.specs.declared.Wakeup.{Wakeup}
 use Rattle.wakeup_judge.specs.declared.WakeupResult.{WakeupResult}
 use Rattle.wakeup_judge.specs.declared.WakeupResult.the-variants.{Dropped, Locked, WokenOnly, Entered}

@@ -7,14 +7,14 @@ use Rattle.columns.specs.Common.{if_then_else_}
 use Rattle.context.specs.declared.Context.{Context}
 use Rattle.context.specs.Status.{is-runnable}
 use Rattle.weights.specs.Weights.{weight}
-use Rattle.run_queue.specs.declared.Timer.{Timer}
+use Rattle.entries.specs.declared.Timer.{Timer}
 use Rattle.percpu.specs.declared.PercpuBlock.{PercpuBlock}
 use Rattle.percpu.specs.With.{block-total-weight, block-published-weight}
-use Rattle.decision.specs.State.{at}
-use Rattle.decision.specs.Wakeups as definition
+use Rattle.model.specs.Wakeup as definition
 use Rattle.wakeup_judge.specs.declared.Wakeup.{Wakeup}
 use Rattle.wakeup_judge.specs.declared.WakeupResult.{WakeupResult}
 use Rattle.wakeup_judge.specs.declared.WakeupResult.the-variants.{Dropped, Locked, WokenOnly, Entered}
+use Rattle.numbers.specs.Limits.{max-number}
 
 abbrev pub wake-of : Wakeup → Option ℕ
 wake-of w = if w .«by_timer» then some (w .wake) else none
@@ -59,5 +59,5 @@ activated-block c b =
 -- a record that may enter at V without a sum past a word
 pub record Enterable (v : ℕ) (c : Context) : Type 0 where
   pub prio : c .prio < 40
-  pub vtime : c .vtime ≤ 4611686018427387903
-  pub least : v ≤ 4611686018427387903
+  pub vtime : c .vtime ≤ max-number
+  pub least : v ≤ max-number

@@ -20,6 +20,7 @@ use Rattle.percpu.specs.Words.{block-words}
 use Rattle.percpu.specs.Layout.{cpu-words, counts, columns, front-length}
 use Rattle.percpu.proofs.Read.{ipi-is}
 use Rattle.wakeup_lists.proofs.Pushed.{Listed, local-listed, ipi-listed}
+use Rattle.percpu.specs.Places.{local-wakeup-list-column, ipi-context-wakeup-list-column}
 
 -- the first i names are behind the local ones
 abbrev pub appended : Cpu → ℕ → Cpu
@@ -36,10 +37,10 @@ pub ipi-count : (c : Cpu) (b : List ℕ) → b ≡ cpu-words c → getD b 24 0 �
 ipi-count c b e = rw e (ipi-listed c .count-is)
 
 pub appended-next : (b₀ b b' : List ℕ) (k i : ℕ) → k ≡ getD b₀ 24 0 → i < k → Appended b₀ b i
-    → ((c : Cpu) → b ≡ cpu-words c → b' ≡ cpu-words (cpu-local-wakeup-list (c .«local_wakeup_list» ++ (getD b (601 + i) 0 ∷ [])) c)) → Appended b₀ b' (i + 1)
+    → ((c : Cpu) → b ≡ cpu-words c → b' ≡ cpu-words (cpu-local-wakeup-list (c .«local_wakeup_list» ++ (getD b (ipi-context-wakeup-list-column + i) 0 ∷ [])) c)) → Appended b₀ b' (i + 1)
 appended-next b₀ b b' k i hk h f g c e l =
     let n : i < length (c .«ipi_context_wakeup_list») = omega (arith, ipi-count c b₀ e)
-    in let x : getD b (601 + i) 0 ≡ getD (c .«ipi_context_wakeup_list») i 0 = rw (f c e l) (ipi-is (appended c i) i n l)
+    in let x : getD b (ipi-context-wakeup-list-column + i) 0 ≡ getD (c .«ipi_context_wakeup_list») i 0 = rw (f c e l) (ipi-is (appended c i) i n l)
     in g (appended c i) (f c e l)
     ∙ rw (x, add-one i, take-suc (c .«ipi_context_wakeup_list») i 0 n, append-assoc)
 
@@ -63,20 +64,20 @@ zeros-all a n i l h z =
 
 -- the interrupt list's words cleared, and its count
 pub cleared : (b a : List ℕ) (c : Cpu) → b ≡ cpu-words c → a ≡ replicate 64 0
-    → set (splice b 601 64 a) 24 0 ≡ cpu-words (cpu-ipi-context-wakeup-list [] c)
+    → set (splice b ipi-context-wakeup-list-column 64 a) 24 0 ≡ cpu-words (cpu-ipi-context-wakeup-list [] c)
 unfolding cpu-words pad
 cleared b a c e z =
-    let i : splice (cpu-words c) 601 64 (replicate 64 0) ≡ (block-words (c .block) ++ counts c) ++ flat (columns (cpu-ipi-context-wakeup-list [] c))
+    let i : splice (cpu-words c) ipi-context-wakeup-list-column 64 (replicate 64 0) ≡ (block-words (c .block) ++ counts c) ++ flat (columns (cpu-ipi-context-wakeup-list [] c))
     = col-splice (block-words (c .block) ++ counts c) (columns c) 25 9 (front-length c) (ipi-listed c .place) []
     ∙ ap (λ (k : List (List ℕ)). (block-words (c .block) ++ counts c) ++ flat k) (sym (ipi-listed c .other []))
     in rw (z, e) (ap (λ (m : List ℕ). set m 24 0) i ∙ ipi-listed c .counted [])
 
 -- and the local list's
 pub cleared-local : (b a : List ℕ) (c : Cpu) → b ≡ cpu-words c → a ≡ replicate 64 0
-    → set (splice b 537 64 a) 23 0 ≡ cpu-words (cpu-local-wakeup-list [] c)
+    → set (splice b local-wakeup-list-column 64 a) 23 0 ≡ cpu-words (cpu-local-wakeup-list [] c)
 unfolding cpu-words pad
 cleared-local b a c e z =
-    let i : splice (cpu-words c) 537 64 (replicate 64 0) ≡ (block-words (c .block) ++ counts c) ++ flat (columns (cpu-local-wakeup-list [] c))
+    let i : splice (cpu-words c) local-wakeup-list-column 64 (replicate 64 0) ≡ (block-words (c .block) ++ counts c) ++ flat (columns (cpu-local-wakeup-list [] c))
     = col-splice (block-words (c .block) ++ counts c) (columns c) 25 8 (front-length c) (local-listed c .place) []
     ∙ ap (λ (k : List (List ℕ)). (block-words (c .block) ++ counts c) ++ flat k) (sym (local-listed c .other []))
     in rw (z, e) (ap (λ (m : List ℕ). set m 23 0) i ∙ local-listed c .counted [])

@@ -8,9 +8,9 @@ use lib.ListN.{length, take, drop}
 use borrow.Rule.Slice.PartMut.{putMid}
 use Rattle.columns.specs.Common.{keep, All}
 use Rattle.columns.proofs.Tests.{by-test}
-use Rattle.run_queue.specs.declared.Timer.{Timer}
-use Rattle.run_queue.specs.Order.{sooner}
-use Rattle.run_queue.specs.Sorted.{Sorted}
+use Rattle.entries.specs.declared.Timer.{Timer}
+use Rattle.entries.specs.Order.{sooner, is-due}
+use Rattle.entries.specs.Sorted.{Sorted}
 use Rattle.percpu.specs.Cpu.{Cpu}
 use Rattle.percpu.specs.With.{cpu-timers, cpu-local-wakeup-list}
 use Rattle.percpu.specs.Layout.{cpu-words, no-timer}
@@ -18,11 +18,12 @@ use Rattle.table.specs.First.{lead}
 use Rattle.timers.proofs.Table.{due-kept}
 use Rattle.machine.specs.Encode.{cpu-place}
 use Rattle.machine.specs.Shape.{Image, CpuFits}
-use Rattle.decision.specs.State.{State}
-use Rattle.decision.specs.Wakeups.{is-due, drained}
+use Rattle.model.specs.State.{State}
+use Rattle.model.specs.Wakeup.{drained}
 use Rattle.stages.specs.Stage.{Staged}
 use Rattle.stages.proofs.Fitting.{all-of, fits-timers}
 use Rattle.stages.proofs.Lent.{staged-cpu}
+use Rattle.percpu.specs.Places.{block-size}
 
 abbrev left : ℕ → List Timer → List Timer
 left time l = keep (λ t. not (is-due time t)) l
@@ -76,10 +77,10 @@ fits-drained n time p o =
     (all-keep (λ t. not (is-due time t)) (λ (t : Timer). t .«context_ref» < n) (p .timers) (all-of (λ (t : Timer). t .«context_ref» < n) no-timer (p .timers) (o .timer)))
     (sorted-keep (λ t. not (is-due time t)) sooner (p .timers) (o .timers-rise))
 
-pub drained-staged : {c n : ℕ} {m : List ℕ} (i : Image c n m) (k : ℕ) (h : k < c) (l : List ℕ) (time : ℕ)
-    → ((p : Cpu) → take (cpu-place n k + 665 - cpu-place n k) (drop (cpu-place n k) m) ≡ cpu-words p → length (p .timers) ≤ 64 → Sorted sooner (p .timers)
+pub drained-staged : {c n : ℕ} {m : List ℕ} (i : Image c n m) (k : ℕ) {at : ℕ} → at ≡ cpu-place n k → k < c → (l : List ℕ) (time : ℕ)
+    → ((p : Cpu) → take (at + block-size - at) (drop at m) ≡ cpu-words p → length (p .timers) ≤ 64 → Sorted sooner (p .timers)
     → l ≡ cpu-words (cpu-timers (left time (p .timers)) (cpu-local-wakeup-list [] p)))
-    → Staged c n k m (putMid (cpu-place n k) (cpu-place n k + 665 - cpu-place n k) m l) false (λ (s : State). drained time s)
-drained-staged {n = n} i k h l time f =
-    staged-cpu i k h l (λ (p : Cpu). cpu-timers (left time (p .timers)) (cpu-local-wakeup-list [] p))
-    (λ p o z. f p z (o .timers) (o .timers-rise)) (λ p o. fits-drained n time p o)
+    → Staged c n k m (putMid at (at + block-size - at) m l) false (λ (s : State). drained time s)
+drained-staged {n = n} i k z h l time f =
+    staged-cpu i k z h l (λ (p : Cpu). cpu-timers (left time (p .timers)) (cpu-local-wakeup-list [] p))
+    (λ p o y. f p y (o .timers) (o .timers-rise)) (λ p o. fits-drained n time p o)

@@ -10,7 +10,7 @@ use lib.Seq.{getD-set-same, getD-set-other}
 use borrow.Author.Tests.{ltb-true, ltb-false}
 use Rattle.columns.specs.Common.{mark, mark-back, All}
 use Rattle.columns.proofs.Tests.{by-test}
-use Rattle.decision.specs.Wakeups as definition
+use Rattle.model.specs.Wakeup as definition
 use Rattle.wakeup_judge.specs.declared.Wakeup.{Wakeup}
 use Rattle.wakeup_judge.specs.Judge.{wakeup-of}
 use Rattle.wakeup_read.specs.Read.{wakeup-at, wakeups-in}

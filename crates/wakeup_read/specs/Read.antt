@@ -6,14 +6,21 @@ use lib.Dec.{eqb}
 use lib.ListN.{getD}
 use Rattle.columns.specs.Common.{keep}
 use Rattle.context.specs.declared.Context.{Context}
-use Rattle.run_queue.specs.declared.Timer.{Timer}
+use Rattle.entries.specs.declared.Timer.{Timer}
 use Rattle.percpu.specs.Layout.{no-timer}
 use Rattle.machine.specs.Machine.{Machine, context-at, cpu-at}
 use Rattle.machine.specs.Encode.{encode}
 use Rattle.machine.specs.Shape.{Fits}
-use Rattle.decision.specs.Wakeups as definition
+use Rattle.model.specs.Wakeup as definition
 use Rattle.wakeup_judge.specs.declared.Wakeup.{Wakeup}
 use Rattle.wakeup_judge.specs.Judge.{wakeup-of, live-at}
+
+-- 64 timers and 64 names, three words each
+abbrev pub max-wakeups : ℕ
+max-wakeups = 128
+
+abbrev pub wakeup-words : ℕ
+wakeup-words = 3 * max-wakeups
 
 abbrev pub wakeup-at : List ℕ → ℕ → Wakeup
 wakeup-at d i = record { «by_timer» = eqb (getD d (3 * i) 0) 1; wake = getD d (3 * i + 1) 0; «context_ref» = getD d (3 * i + 2) 0 }

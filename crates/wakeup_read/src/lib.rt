@@ -2,48 +2,53 @@
 // In every function m is the image of a machine of c CPUs and n contexts, and k is the CPU; d is the scratch, three words a wake-up.
 mod scratch;
 
-use run_queue::Timer;
+use entries::Timer;
+use machine::Lookup;
+use percpu::places;
+pub use scratch::WAKEUP_WORDS;
 pub use scratch::put_wakeup;
 pub use scratch::wakeup_in;
 use wakeup_judge::Wakeup;
 ghost use mathlib.Core.Path.{_≡_};
-ghost use mathlib.Core.Bool.{Bool, true, false, not};
-ghost use mathlib.Core.List.{List, [], _∷_, _++_, map};
-ghost use Prim.Native.Nat.{ℕ, _+_, _*_, _<_, _≤_};
+ghost use mathlib.Core.Bool.{false, not};
+ghost use mathlib.Core.List.{[], _∷_, _++_, map};
+ghost use Prim.Native.Nat.{_+_, _<_, _≤_};
 ghost use lib.ListN.{length, getD};
 ghost use Rattle.columns.specs.Common.{keep};
-ghost use Rattle.run_queue.specs.Order.{sooner};
-ghost use Rattle.run_queue.specs.Sorted.{Sorted};
+ghost use Rattle.entries.specs.Order.{sooner, is-due};
+ghost use Rattle.entries.specs.Sorted.{Sorted};
 ghost use Rattle.percpu.specs.Cpu.{Cpu};
 ghost use Rattle.percpu.specs.With.{cpu-timers, cpu-local-wakeup-list};
 ghost use Rattle.percpu.specs.Layout.{cpu-words};
 ghost use Rattle.table.specs.First.{lead};
-ghost use Rattle.machine.specs.Machine.{Machine, cpu-at, context-at};
+ghost use Rattle.machine.specs.Machine.{Machine, cpu-at};
 ghost use Rattle.machine.specs.Encode.{encode, cpu-place};
 ghost use Rattle.machine.specs.Shape.{Image, Fits};
-ghost use Rattle.decision.specs.State.{State, state-of};
-ghost use Rattle.decision.specs.Wakeups.{is-due, local-wakeup, timer-wakeup, wakeups, drained};
+ghost use Rattle.model.specs.State.{State, state-of};
+ghost use Rattle.model.specs.Wakeup.{local-wakeup, wakeups, drained};
 ghost use Rattle.stages.specs.Stage.{Staged};
-ghost use Rattle.wakeup_read.specs.Read.{wakeups-in, live-wakeups, TimerRead, NameRead};
+ghost use Rattle.wakeup_read.specs.Read.{wakeups-in, live-wakeups, TimerRead, NameRead, max-wakeups, wakeup-words};
+ghost use Rattle.numbers.specs.Limits.{max-number};
+ghost use Rattle.percpu.specs.Places.{timers-count, local-count, block-size};
 
 // How many timers at the front are due.
 fn due(m: &[u64], c: usize, n: usize, k: usize, time: u64) -> usize
     requires { ⌜ Image c n (now m) ⌝ }
-    requires { ⌜ (k < c) × (time ≤ 4611686018427387903) ⌝ }
-    ensures { λ r. ⌜ (r ≤ getD (now (m .entry)) (cpu-place n k + 22) 0) × (r ≤ 64) × ((M : Machine) → now (m .entry) ≡ encode M → Fits c n M → r ≡ lead (is-due time) (cpu-at M k .timers)) ⌝ }
+    requires { ⌜ (k < c) × (time ≤ max-number) ⌝ }
+    ensures { λ r. ⌜ (r ≤ getD (now (m .entry)) (cpu-place n k + timers-count) 0) × (r ≤ 64) × ((M : Machine) → now (m .entry) ≡ encode M → Fits c n M → r ≡ lead (is-due time) (cpu-at M k .timers)) ⌝ }
 {
-    let at = 2 + 26 * n + 665 * k;
-    let end = at + 665;
+    let at = machine::cpu_place(n, k);
+    let end = at + places::BLOCK_SIZE;
     timers::due(&m[at..end], time)
 }
 
 fn timer(m: &[u64], c: usize, n: usize, k: usize, i: usize) -> Timer
     requires { ⌜ Image c n (now m) ⌝ }
-    requires { ⌜ (k < c) × (i < getD (now m) (cpu-place n k + 22) 0) ⌝ }
+    requires { ⌜ (k < c) × (i < getD (now m) (cpu-place n k + timers-count) 0) ⌝ }
     ensures { λ r. ⌜ TimerRead c n k i (now (m .entry)) r ⌝ }
 {
-    let at = 2 + 26 * n + 665 * k;
-    let end = at + 665;
+    let at = machine::cpu_place(n, k);
+    let end = at + places::BLOCK_SIZE;
     timers::timer(&m[at..end], i)
 }
 
@@ -51,18 +56,18 @@ fn timer(m: &[u64], c: usize, n: usize, k: usize, i: usize) -> Timer
 fn local_len(m: &[u64], c: usize, n: usize, k: usize) -> usize
     requires { ⌜ Image c n (now m) ⌝ }
     requires { ⌜ k < c ⌝ }
-    ensures { λ r. ⌜ (r ≡ getD (now (m .entry)) (cpu-place n k + 23) 0) × (r ≤ 64) × ((M : Machine) → now (m .entry) ≡ encode M → Fits c n M → r ≡ length (cpu-at M k .«local_wakeup_list»)) ⌝ }
+    ensures { λ r. ⌜ (r ≡ getD (now (m .entry)) (cpu-place n k + local-count) 0) × (r ≤ 64) × ((M : Machine) → now (m .entry) ≡ encode M → Fits c n M → r ≡ length (cpu-at M k .«local_wakeup_list»)) ⌝ }
 {
-    let at = 2 + 26 * n + 665 * k + 23;
-    machine::index(m[at])
+    let at = machine::cpu_place(n, k) + places::LOCAL_COUNT;
+    numbers::index(m[at])
 }
 
 fn local_name(m: &[u64], c: usize, n: usize, k: usize, i: usize) -> u64
     requires { ⌜ Image c n (now m) ⌝ }
-    requires { ⌜ (k < c) × (i < getD (now m) (cpu-place n k + 23) 0) ⌝ }
+    requires { ⌜ (k < c) × (i < getD (now m) (cpu-place n k + local-count) 0) ⌝ }
     ensures { λ r. ⌜ NameRead c n k i (now (m .entry)) r ⌝ }
 {
-    let at = 2 + 26 * n + 665 * k + 537 + i;
+    let at = machine::cpu_place(n, k) + places::LOCAL_WAKEUP_LIST + i;
     m[at]
 }
 
@@ -77,10 +82,13 @@ fn read_timer(
     t: Timer,
 ) -> usize
     requires { ⌜ Image c n (now m) ⌝ }
-    requires { ⌜ (t .«context_ref» < n) × (length (now d) ≡ 384) × (len < 128) ⌝ }
+    requires { ⌜ (t .«context_ref» < n) × (length (now d) ≡ wakeup-words) × (len < max-wakeups) ⌝ }
     ensures { λ r. ⌜ (r ≤ len + 1) × ((M : Machine) → now (m .entry) ≡ encode M → Fits c n M → wakeups-in (now (d .exit)) r ≡ wakeups-in (now (d .entry)) len ++ live-wakeups sched (M .contexts) (t ∷ [])) ⌝ }
 {
-    let x = machine::index(t.context_ref);
+    let l = machine::look_up(m, c, n, t.context_ref);
+    let Lookup::Live(x) = l else {
+        return len;
+    };
     let q = machine::load(m, c, n, x);
     if wakeup_judge::is_live(sched, t, q) {
         let w = Wakeup {
@@ -97,7 +105,7 @@ fn read_timer(
 // The due timers that are live, from the scratch's front. How many they are.
 fn read_timers(m: &[u64], d: &mut [u64], c: usize, n: usize, k: usize, time: u64) -> usize
     requires { ⌜ Image c n (now m) ⌝ }
-    requires { ⌜ (k < c) × (time ≤ 4611686018427387903) × (length (now d) ≡ 384) ⌝ }
+    requires { ⌜ (k < c) × (time ≤ max-number) × (length (now d) ≡ wakeup-words) ⌝ }
     ensures { λ r. ⌜ (r ≤ 64) × ((M : Machine) → now (m .entry) ≡ encode M → Fits c n M → wakeups-in (now (d .exit)) r ≡ live-wakeups (cpu-at M k .block .«sched_ctxt») (M .contexts) (keep (is-due time) (cpu-at M k .timers))) ⌝ }
 {
     let b = stages::load_block(m, c, n, k);
@@ -115,8 +123,8 @@ fn read_timers(m: &[u64], d: &mut [u64], c: usize, n: usize, k: usize, time: u64
 // The local list's names behind the first `from` wake-ups. How many there are then.
 fn read_local(m: &[u64], d: &mut [u64], c: usize, n: usize, k: usize, from: usize) -> usize
     requires { ⌜ Image c n (now m) ⌝ }
-    requires { ⌜ (k < c) × (from ≤ 64) × (length (now d) ≡ 384) ⌝ }
-    ensures { λ r. ⌜ (r ≤ 128) × ((M : Machine) → now (m .entry) ≡ encode M → Fits c n M → wakeups-in (now (d .exit)) r ≡ wakeups-in (now (d .entry)) from ++ map local-wakeup (cpu-at M k .«local_wakeup_list»)) ⌝ }
+    requires { ⌜ (k < c) × (from ≤ 64) × (length (now d) ≡ wakeup-words) ⌝ }
+    ensures { λ r. ⌜ (r ≤ max-wakeups) × ((M : Machine) → now (m .entry) ≡ encode M → Fits c n M → wakeups-in (now (d .exit)) r ≡ wakeups-in (now (d .entry)) from ++ map local-wakeup (cpu-at M k .«local_wakeup_list»)) ⌝ }
 {
     let count = local_len(m, c, n, k);
     let mut i = 0;
@@ -136,15 +144,15 @@ fn read_local(m: &[u64], d: &mut [u64], c: usize, n: usize, k: usize, from: usiz
 // All wake-ups, in order. How many they are.
 pub fn read_wakeups(m: &[u64], d: &mut [u64], c: usize, n: usize, k: usize, time: u64) -> usize
     requires { ⌜ Image c n (now m) ⌝ }
-    requires { ⌜ (k < c) × (time ≤ 4611686018427387903) × (length (now d) ≡ 384) ⌝ }
-    ensures { λ r. ⌜ (r ≤ 128) × ((M : Machine) → now (m .entry) ≡ encode M → Fits c n M → wakeups-in (now (d .exit)) r ≡ wakeups time (state-of k M)) ⌝ }
+    requires { ⌜ (k < c) × (time ≤ max-number) × (length (now d) ≡ wakeup-words) ⌝ }
+    ensures { λ r. ⌜ (r ≤ max-wakeups) × ((M : Machine) → now (m .entry) ≡ encode M → Fits c n M → wakeups-in (now (d .exit)) r ≡ wakeups time (state-of k M)) ⌝ }
 {
     let len = read_timers(m, d, c, n, k, time);
     read_local(m, d, c, n, k, len)
 }
 
 fn drain_block(b: &mut [u64], time: u64)
-    requires { ⌜ (length (now b) ≡ 665) × (getD (now b) 22 0 ≤ 64) × (time ≤ 4611686018427387903) ⌝ }
+    requires { ⌜ (length (now b) ≡ block-size) × (getD (now b) timers-count 0 ≤ 64) × (time ≤ max-number) ⌝ }
     ensures { λ r. ⌜ ((p : Cpu) → now (b .entry) ≡ cpu-words p → length (p .timers) ≤ 64 → Sorted sooner (p .timers) → now (b .exit) ≡ cpu-words (cpu-timers (keep (λ t. not (is-due time t)) (p .timers)) (cpu-local-wakeup-list [] p))) ⌝ }
 {
     let count = timers::due(b, time);
@@ -155,10 +163,10 @@ fn drain_block(b: &mut [u64], time: u64)
 // The due timers and the local list taken out.
 pub fn drain(m: &mut [u64], c: usize, n: usize, k: usize, time: u64)
     requires { ⌜ Image c n (now m) ⌝ }
-    requires { ⌜ (k < c) × (time ≤ 4611686018427387903) ⌝ }
+    requires { ⌜ (k < c) × (time ≤ max-number) ⌝ }
     ensures { λ r. ⌜ Staged c n k (now (m .entry)) (now (m .exit)) false (λ (s : State). drained time s) ⌝ }
 {
-    let at = 2 + 26 * n + 665 * k;
-    let end = at + 665;
+    let at = machine::cpu_place(n, k);
+    let end = at + places::BLOCK_SIZE;
     drain_block(&mut m[at..end], time);
 }

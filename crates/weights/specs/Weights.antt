@@ -1,7 +1,8 @@
 -- Weights by priority, and whole slices. Assumes nothing.
 use mathlib.Core.List.{List, [], _∷_}
-use Prim.Native.Nat.{ℕ, _/_}
+use Prim.Native.Nat.{ℕ, _*_, _/_}
 use lib.ListN.{getD}
+use Rattle.ticks.specs.Ticks.{tick-interval, scale}
 
 -- `SCHED_PRIO_TO_WEIGHT`
 unfoldable pub weights : List ℕ
@@ -13,9 +14,22 @@ unfoldable pub weight : ℕ → ℕ
 unfolding weights
 weight prio = getD weights prio 0
 
--- a full slice, `BASE_SLICE_TICKS * SCALE`: 9 ticks scaled by 2^30
+-- the least and the greatest of them, and the longest of the slices below
+abbrev pub min-weight : ℕ
+min-weight = 15
+
+abbrev pub max-weight : ℕ
+max-weight = 88761
+
+abbrev pub max-whole-slice : ℕ
+max-whole-slice = 644245094
+
+-- a full slice: 9 ticks
+abbrev pub base-slice-ticks : ℕ
+base-slice-ticks = tick-interval * 3
+
 abbrev pub full-slice : ℕ
-full-slice = 9663676416
+full-slice = base-slice-ticks * scale
 
 -- a full slice in the virtual time of a priority
 unfoldable pub whole-slice : ℕ → ℕ

@@ -1,7 +1,7 @@
 // Weights by priority (`SCHED_PRIO_TO_WEIGHT`), and the whole slice of each priority.
 ghost use mathlib.Core.Path.{_≡_};
 ghost use Prim.Native.Nat.{ℕ, _<_, _≤_};
-ghost use Rattle.weights.specs.Weights.{weight, whole-slice};
+ghost use Rattle.weights.specs.Weights.{weight, whole-slice, min-weight, max-weight, max-whole-slice};
 
 const SCHED_PRIO_TO_WEIGHT: [u64; 40] = [
     88761,
@@ -46,7 +46,7 @@ const SCHED_PRIO_TO_WEIGHT: [u64; 40] = [
     15,
 ];
 
-// A full slice of 9 ticks, scaled by 2^30, over the weight.
+// A full slice over the weight.
 const PRIO_TO_SLICE: [u64; 40] = [
     108873,
     134676,
@@ -90,16 +90,26 @@ const PRIO_TO_SLICE: [u64; 40] = [
     644245094,
 ];
 
+// the least and the greatest of the weights
+pub const MIN_WEIGHT: u64 = 15;
+
+pub const MAX_WEIGHT: u64 = 88761;
+
+const BASE_SLICE_TICKS: u64 = ticks::TICK_INTERVAL * 3;
+
+// a full slice, in scaled ticks
+pub const FULL_SLICE: u64 = BASE_SLICE_TICKS * ticks::SCALE;
+
 pub fn weight_of(prio: u64) -> u64
     requires { ⌜ prio < 40 ⌝ }
-    ensures { λ r. ⌜ (r ≡ weight prio) × (15 ≤ r) × (r ≤ 88761) ⌝ }
+    ensures { λ r. ⌜ (r ≡ weight prio) × (min-weight ≤ r) × (r ≤ max-weight) ⌝ }
 {
     SCHED_PRIO_TO_WEIGHT[prio as usize]
 }
 
 pub fn slice_of(prio: u64) -> u64
     requires { ⌜ prio < 40 ⌝ }
-    ensures { λ r. ⌜ (r ≡ whole-slice prio) × (r ≤ 644245094) ⌝ }
+    ensures { λ r. ⌜ (r ≡ whole-slice prio) × (r ≤ max-whole-slice) ⌝ }
 {
     PRIO_TO_SLICE[prio as usize]
 }

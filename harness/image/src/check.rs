@@ -67,7 +67,7 @@ fn unlocked(image: View, call: &Call) -> bool {
 
     if decides(call) {
         let (current, sched) = (at(block::CURRENT_CTXT), at(block::SCHED_CTXT));
-        if at(block::RUN_QUEUE_LOCKED) != 0 {
+        if at(block::QUEUE_LOCKED) != 0 {
             return false;
         }
         if !free(current) || !free(sched) || !free(at(block::IDLE_CTXT)) {

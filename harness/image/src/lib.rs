@@ -1,13 +1,14 @@
 //! The machine image of document 01: places of its words, their names, and an own
 //! reading of the table of refused calls.
 
-pub mod block;
 pub mod check;
-pub mod context;
 pub mod name;
+mod places;
 pub mod ranges;
 mod structure;
 pub mod tidy;
+
+pub use places::{block, context};
 
 pub const MAX_CPUS: u64 = 4;
 pub const MAX_CONTEXTS: u64 = 64;

@@ -44,8 +44,8 @@ fn record(image: View, number: usize) -> bool {
     }
     (context::STATUS..context::WORDS).all(|place| word(place) <= record_max(image, place))
         && (word(context::HAS_WAKE) == 1 || word(context::WAKE) == 0)
-        && (word(context::HAS_KEY) == 1
-            || (word(context::KEY_VD) == 0 && word(context::KEY_REM_SLICE) == 0))
+        && (word(context::HAS_QUEUE_KEY) == 1
+            || (word(context::QUEUE_KEY_VD) == 0 && word(context::QUEUE_KEY_REM_SLICE) == 0))
 }
 
 fn record_max(image: View, place: usize) -> u64 {
@@ -54,7 +54,7 @@ fn record_max(image: View, place: usize) -> u64 {
         context::CPU_ID => image.cpus() as u64,
         context::SCHED_AFFINITY => u64::MAX,
         context::PRIO => 39,
-        context::REM_SLICE | context::KEY_REM_SLICE => SLICE_MAX,
+        context::REM_SLICE | context::QUEUE_KEY_REM_SLICE => SLICE_MAX,
         context::LOCK | context::ADDR_SPACE => 2,
         context::RUNNING
         | context::CURRENTLY_SCHEDULED
@@ -63,7 +63,7 @@ fn record_max(image: View, place: usize) -> u64 {
         | context::USERSPACE
         | context::BEING_SIGKILLED
         | context::IS_ACTIVE
-        | context::HAS_KEY => 1,
+        | context::HAS_QUEUE_KEY => 1,
         _ => NUMBER_MAX,
     }
 }
@@ -87,7 +87,7 @@ fn single_max(image: View, place: usize) -> u64 {
         | block::BEING_SIGKILLED
         | block::INSIDE_SYSCALL
         | block::STEALABLE
-        | block::RUN_QUEUE_LOCKED => 1,
+        | block::QUEUE_LOCKED => 1,
         block::CURRENT_CTXT | block::SCHED_CTXT | block::IDLE_CTXT => image.contexts() as u64 - 1,
         block::STEAL_COUNTER => u64::MAX,
         block::STATE => 2,
@@ -113,11 +113,12 @@ fn used(image: View, cpu: usize, column: usize, count: usize) -> bool {
 fn slot_max(image: View, column: usize) -> u64 {
     match column {
         block::KEY_REM_SLICE => SLICE_MAX,
-        block::KEY_ID => ID_MAX,
+        block::KEY_CTXT_ID => ID_MAX,
         block::ENTRY_WEIGHT => *WEIGHTS.end(),
-        block::ENTRY_CONTEXT | block::TIMER_CONTEXT | block::LOCAL | block::IPI => {
-            image.contexts() as u64 - 1
-        }
+        block::ENTRY_CONTEXT_REF
+        | block::TIMER_CONTEXT_REF
+        | block::LOCAL_WAKEUP_LIST
+        | block::IPI_CONTEXT_WAKEUP_LIST => image.contexts() as u64 - 1,
         _ => NUMBER_MAX,
     }
 }

@@ -31,8 +31,8 @@ fn seats_live(image: View, cpu: usize) -> bool {
 
 fn ids_agree(image: View, cpu: usize) -> bool {
     (0..image.block(cpu, block::QUEUE_COUNT) as usize).all(|slot| {
-        let entry = image.block(cpu, block::ENTRY_CONTEXT + slot) as usize;
-        image.block(cpu, block::KEY_ID + slot) == image.context(entry, context::DEBUG_ID)
+        let entry = image.block(cpu, block::ENTRY_CONTEXT_REF + slot) as usize;
+        image.block(cpu, block::KEY_CTXT_ID + slot) == image.context(entry, context::DEBUG_ID)
     })
 }
 
@@ -41,7 +41,7 @@ fn keys_rise(image: View, cpu: usize) -> bool {
         (
             image.block(cpu, block::KEY_VD + slot),
             Reverse(image.block(cpu, block::KEY_REM_SLICE + slot)),
-            image.block(cpu, block::KEY_ID + slot),
+            image.block(cpu, block::KEY_CTXT_ID + slot),
         )
     };
     (1..image.block(cpu, block::QUEUE_COUNT) as usize).all(|slot| key(slot - 1) < key(slot))
@@ -51,7 +51,7 @@ fn timers_rise(image: View, cpu: usize) -> bool {
     let timer = |slot| {
         (
             image.block(cpu, block::TIMER_WAKE + slot),
-            image.block(cpu, block::TIMER_CONTEXT + slot),
+            image.block(cpu, block::TIMER_CONTEXT_REF + slot),
         )
     };
     (1..image.block(cpu, block::TIMERS_COUNT) as usize).all(|slot| timer(slot - 1) < timer(slot))

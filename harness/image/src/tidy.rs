@@ -43,19 +43,22 @@ fn entries(image: View, present: &[usize], number: usize) -> Vec<(usize, usize)>
         (0..count).map(|slot| (*cpu, slot))
     });
     slots
-        .filter(|(cpu, slot)| image.block(*cpu, block::ENTRY_CONTEXT + slot) == number as u64)
+        .filter(|(cpu, slot)| image.block(*cpu, block::ENTRY_CONTEXT_REF + slot) == number as u64)
         .collect()
 }
 
 fn agrees(image: View, number: usize, entry: Option<&(usize, usize)>) -> bool {
     let word = |place| image.context(number, place);
     let Some((cpu, slot)) = entry else {
-        return word(context::HAS_KEY) == 0;
+        return word(context::HAS_QUEUE_KEY) == 0;
     };
     let entry = |column| image.block(*cpu, column + slot);
     let (vd, rem_slice) = (entry(block::KEY_VD), entry(block::KEY_REM_SLICE));
-    word(context::HAS_KEY) == 1
-        && (word(context::KEY_VD), word(context::KEY_REM_SLICE)) == (vd, rem_slice)
+    word(context::HAS_QUEUE_KEY) == 1
+        && (
+            word(context::QUEUE_KEY_VD),
+            word(context::QUEUE_KEY_REM_SLICE),
+        ) == (vd, rem_slice)
         && (word(context::VD), word(context::REM_SLICE)) == (vd, rem_slice)
         && word(context::VTIME) == entry(block::ENTRY_VTIME)
 }

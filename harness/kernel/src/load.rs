@@ -86,8 +86,13 @@ fn record(image: View, number: usize, lock: &ContextLock) {
     context.vd = word(c::VD);
     context.rem_slice = word(c::REM_SLICE);
     context.is_active = mark(c::IS_ACTIVE);
-    context.queue_key =
-        mark(c::HAS_KEY).then(|| key(word(c::KEY_VD), word(c::KEY_REM_SLICE), context.debug_id));
+    context.queue_key = mark(c::HAS_QUEUE_KEY).then(|| {
+        key(
+            word(c::QUEUE_KEY_VD),
+            word(c::QUEUE_KEY_REM_SLICE),
+            context.debug_id,
+        )
+    });
     lock.hold(match word(c::LOCK) {
         0 => Held::Free,
         1 => Held::Read(1),

@@ -53,9 +53,9 @@ fn record(lock: &ContextLock, words: &mut [u64]) {
     words[c::VD] = context.vd;
     words[c::REM_SLICE] = context.rem_slice;
     words[c::IS_ACTIVE] = context.is_active.into();
-    words[c::HAS_KEY] = context.queue_key.is_some().into();
-    words[c::KEY_VD] = key_vd;
-    words[c::KEY_REM_SLICE] = key_slice;
+    words[c::HAS_QUEUE_KEY] = context.queue_key.is_some().into();
+    words[c::QUEUE_KEY_VD] = key_vd;
+    words[c::QUEUE_KEY_REM_SLICE] = key_slice;
     words[c::LOCK] = match lock.held() {
         Held::Free => 0,
         Held::Read(_) => 1,
@@ -103,7 +103,7 @@ fn one_block(block: &mut PercpuBlock, slots: &[Slot], words: &mut [u64]) {
     words[b::INSIDE_SYSCALL] = block.inside_syscall.get().into();
     words[b::STEALABLE] = state.stealable.load(Ordering::Relaxed).into();
     words[b::QUEUE_LEN] = state.queue_len.load(Ordering::Relaxed) as u64;
-    words[b::SHOWN_WEIGHT] = state.total_weight.load(Ordering::Relaxed);
+    words[b::PUBLISHED_WEIGHT] = state.total_weight.load(Ordering::Relaxed);
     words[b::STEAL_COUNTER] = state.steal_counter.load(Ordering::Relaxed) as u64;
     [
         words[b::STATE],
@@ -113,7 +113,7 @@ fn one_block(block: &mut PercpuBlock, slots: &[Slot], words: &mut [u64]) {
         words[b::CONTEXT_SWITCHES],
         words[b::SYSCALL_SWITCHES],
     ] = block.stats.got();
-    words[b::RUN_QUEUE_LOCKED] = state.run_queue.is_held().into();
+    words[b::QUEUE_LOCKED] = state.run_queue.is_held().into();
     let queue = state.run_queue.get_mut();
     (words[b::V], words[b::TOTAL_WEIGHT]) = queue.virtual_time();
 
@@ -123,24 +123,24 @@ fn one_block(block: &mut PercpuBlock, slots: &[Slot], words: &mut [u64]) {
         words[b::QUEUE_COUNT] += 1;
         words[b::KEY_VD + slot] = entry.vd;
         words[b::KEY_REM_SLICE + slot] = entry.rem_slice;
-        words[b::KEY_ID + slot] = entry.ctxt_id.into();
+        words[b::KEY_CTXT_ID + slot] = entry.ctxt_id.into();
         words[b::ENTRY_VTIME + slot] = entry.vtime;
         words[b::ENTRY_WEIGHT + slot] = entry.weight;
-        words[b::ENTRY_CONTEXT + slot] = number(slots, Weak::as_ptr(&entry.context));
+        words[b::ENTRY_CONTEXT_REF + slot] = number(slots, Weak::as_ptr(&entry.context));
     }
     for (slot, (wake, context)) in queue.timers().enumerate() {
         words[b::TIMERS_COUNT] += 1;
         words[b::TIMER_WAKE + slot] = *wake as u64;
-        words[b::TIMER_CONTEXT + slot] = number_of(context);
+        words[b::TIMER_CONTEXT_REF + slot] = number_of(context);
     }
     for (slot, context) in state.local_wakeup_list.get_mut().iter().enumerate() {
         words[b::LOCAL_COUNT] += 1;
-        words[b::LOCAL + slot] = number_of(context);
+        words[b::LOCAL_WAKEUP_LIST + slot] = number_of(context);
     }
     let mut token = unsafe { CleanLockToken::new() };
     let ipi = state.ipi_context_wakeup_list.lock(token.token());
     for (slot, context) in ipi.iter().enumerate() {
         words[b::IPI_COUNT] += 1;
-        words[b::IPI + slot] = number_of(context);
+        words[b::IPI_CONTEXT_WAKEUP_LIST + slot] = number_of(context);
     }
 }

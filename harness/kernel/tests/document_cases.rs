@@ -73,7 +73,7 @@ fn timers() {
         image[record(2) + c::WAKE] = wake;
         image[BLOCK + b::TIMERS_COUNT] = 1;
         image[BLOCK + b::TIMER_WAKE] = wake;
-        image[BLOCK + b::TIMER_CONTEXT] = 2;
+        image[BLOCK + b::TIMER_CONTEXT_REF] = 2;
         let after = switched(image, 1000);
         assert_eq!(after[BLOCK + b::TIMERS_COUNT] == 0, due);
         assert_eq!(after[record(2) + c::STATUS] == c::RUNNABLE, due);
@@ -124,8 +124,8 @@ fn robbed(idle: bool, length: usize) -> u64 {
     for slot in 0..length {
         image[victim + b::KEY_VD + slot] = slot as u64 + 1;
         image[victim + b::ENTRY_WEIGHT + slot] = 1024;
-        image[victim + b::ENTRY_CONTEXT + slot] = if slot == 0 { 2 } else { 0 };
-        image[victim + b::KEY_ID + slot] = if slot == 0 { 2 } else { 0 };
+        image[victim + b::ENTRY_CONTEXT_REF + slot] = if slot == 0 { 2 } else { 0 };
+        image[victim + b::KEY_CTXT_ID + slot] = if slot == 0 { 2 } else { 0 };
     }
     let after = switched(image, 0);
     length as u64 - after[victim + b::QUEUE_COUNT]

@@ -20,7 +20,11 @@ fn example() -> Vec<u64> {
     let mut image = vec![0; length(1, 2)];
     put(&mut image, 0, &[(0, 1), (1, 2)]);
     put(&mut image, 2, &[(c::CURRENTLY_SCHEDULED, 1)]);
-    let key = [(c::HAS_KEY, 1), (c::KEY_VD, vd), (c::KEY_REM_SLICE, SLICE)];
+    let key = [
+        (c::HAS_QUEUE_KEY, 1),
+        (c::QUEUE_KEY_VD, vd),
+        (c::QUEUE_KEY_REM_SLICE, SLICE),
+    ];
     let may_run = [(c::SCHED_AFFINITY, u64::MAX), (c::USERSPACE, 1)];
     let share = [(c::VD, vd), (c::REM_SLICE, SLICE), (c::IS_ACTIVE, 1)];
     put(&mut image, OTHER, &[(c::DEBUG_ID, 1), (c::PRIO, 20)]);
@@ -32,9 +36,9 @@ fn example() -> Vec<u64> {
     let entry = [
         (b::KEY_VD, vd),
         (b::KEY_REM_SLICE, SLICE),
-        (b::KEY_ID, 1),
+        (b::KEY_CTXT_ID, 1),
         (b::ENTRY_WEIGHT, weight),
-        (b::ENTRY_CONTEXT, 1),
+        (b::ENTRY_CONTEXT_REF, 1),
     ];
     put(&mut image, BLOCK, &single);
     put(&mut image, BLOCK, &queue);

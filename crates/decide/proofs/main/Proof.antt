@@ -27,10 +27,4 @@ pub main-spec : {M : Type 1} → statement M
 main-spec =
     tie.close
     (tie.spec
-    large-buffer-requires
-    large-buffer-requires-2
-    slice-aggregate-run
-    slice-aggregate-run-2
-    slice-aggregate-run-3
-    run-requires
-    returns)
+    large-buffer-requires large-buffer-requires-2 slice-aggregate-run slice-aggregate-run-2 slice-aggregate-run-3 run-requires returns)

@@ -36,13 +36,4 @@ pub run-spec : {M : Type 1} → statement M
 run-spec =
     tie.close
     (tie.spec
-    read-full-requires
-    read-on-requires
-    slice-reshare-prefix-of-input
-    slice-aggregate-of-input
-    of-input-requires
-    print-requires
-    same-length
-    same-length-2
-    same-length-3
-    returns)
+    read-full-requires read-on-requires slice-reshare-prefix-of-input slice-aggregate-of-input of-input-requires print-requires same-length same-length-2 same-length-3 returns)

@@ -42,12 +42,4 @@ pub refusal-spec : {M : Type 1} → statement M
 refusal-spec =
     tie.close
     (tie.spec
-    returns
-    shared-slice-read-in-bounds
-    in-bounds-requires
-    returns-2
-    shared-slice-read-in-bounds-2
-    in-bounds-requires-2
-    returns-3
-    sized-refusal-requires
-    returns-4)
+    returns shared-slice-read-in-bounds in-bounds-requires returns-2 shared-slice-read-in-bounds-2 in-bounds-requires-2 returns-3 sized-refusal-requires returns-4)

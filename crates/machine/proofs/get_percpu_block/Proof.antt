@@ -11,41 +11,23 @@ index-requires c κs = search needs
 returns : tie.Need-returns
 returns c = λ M e o. cpu-far _ _ M e o _ (c .before .index .ensures) (c .if1 .taken)
 
-mul-at : tie.Need-mul-at
-mul-at c = search needs
-
-add-at : tie.Need-add-at
-add-at c = search needs
-
-mul-at-2 : tie.Need-mul-at-2
-mul-at-2 c = search needs
-
-add-at-2 : tie.Need-add-at-2
-add-at-2 c = search needs
+cpu-place-requires : tie.Need-cpu-place-requires
+cpu-place-requires c κs = search needs
 
 mul-if2 : tie.Need-mul-if2
 mul-if2 c = search needs
 
 shared-slice-read-if2 : tie.Need-shared-slice-read-if2
-shared-slice-read-if2 c = omega (arith, sized (c .before .before .before .before .pre))
+shared-slice-read-if2 c = omega (arith, sized (c .before .before .before .before .before .pre))
 
 returns-2 : tie.Need-returns-2
-returns-2 c = λ M e o. cpu-present _ _ M e o _ (c .before .before .before .index .ensures) (c .before .before .if1 .left) (c .if2 .taken)
+returns-2 c = λ M e o. cpu-present _ _ M e o _ (c .before .before .before .before .index .ensures) (c .before .before .cpu-place .ensures) (c .before .before .before .if1 .left) (c .if2 .taken)
 
 returns-3 : tie.Need-returns-3
-returns-3 c = λ M e o. cpu-absent _ _ M e o _ (c .before .before .before .index .ensures) (c .before .before .if1 .left) (c .if2 .left)
+returns-3 c = λ M e o. cpu-absent _ _ M e o _ (c .before .before .before .before .index .ensures) (c .before .before .cpu-place .ensures) (c .before .before .before .if1 .left) (c .if2 .left)
 
 pub get-percpu-block-spec : {M : Type 1} → statement M
 get-percpu-block-spec =
     tie.close
     (tie.spec
-    index-requires
-    returns
-    mul-at
-    add-at
-    mul-at-2
-    add-at-2
-    mul-if2
-    shared-slice-read-if2
-    returns-2
-    returns-3)
+    index-requires returns cpu-place-requires mul-if2 shared-slice-read-if2 returns-2 returns-3)

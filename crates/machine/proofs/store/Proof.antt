@@ -6,11 +6,8 @@ use borrow.Author.Needs.{needs}
 use Rattle.machine.proofs.store.Statement.{statement}
 use Rattle.machine.proofs.store.Tie as tie
 
-mul-at : tie.Need-mul-at
-mul-at c = search needs
-
-add-at : tie.Need-add-at
-add-at c = search needs
+context-place-requires : tie.Need-context-place-requires
+context-place-requires c κs = search needs
 
 add-end : tie.Need-add-end
 add-end c = search needs
@@ -25,7 +22,7 @@ part-store-context-start : tie.Need-part-store-context-start
 part-store-context-start c = search needs
 
 part-store-context-end : tie.Need-part-store-context-end
-part-store-context-end c = omega (arith, sized (c .before .pre .0))
+part-store-context-end c = omega (arith, sized (c .before .before .pre .0))
 
 store-context-requires : tie.Need-store-context-requires
 store-context-requires c κs = search needs
@@ -34,19 +31,10 @@ same-length : tie.Need-same-length
 same-length c = search needs
 
 returns : tie.Need-returns
-returns c = stepped (c .before .before .before .before .before .pre .0) (λ M e o. (put-is _ _ (c .before .before .before .before .before .pre .1 .0) M e o _ _ (c .before .before .store-context .ensures), fits-context M _ _ o (c .before .before .before .before .before .pre .1 .1), refl))
+returns c = stepped (c .before .before .before .before .before .before .pre .0) (λ M e o. (put-is _ _ (c .before .before .before .before .context-place .ensures) (c .before .before .before .before .before .before .pre .1 .0) M e o _ _ (c .before .before .store-context .ensures), fits-context M _ _ o (c .before .before .before .before .before .before .pre .1 .1), refl))
 
 pub store-spec : {M : Type 1} → statement M
 store-spec =
     tie.close
     (tie.spec
-    mul-at
-    add-at
-    add-end
-    mul-store-context
-    sub-store-context
-    part-store-context-start
-    part-store-context-end
-    store-context-requires
-    same-length
-    returns)
+    context-place-requires add-end mul-store-context sub-store-context part-store-context-start part-store-context-end store-context-requires same-length returns)

@@ -1,3 +1,4 @@
+use Rattle.ronthuyal.proofs.Left.{direct-switch-to-promises}
 use Rattle.ronthuyal.proofs.Demanded.{demand-refused, demand-directed}
 use Rattle.ronthuyal.proofs.Called.{call-refused, call-image, call-time, call-ranged, call-done}
 use borrow.Author.Needs.{needs}
@@ -23,13 +24,13 @@ same-length : tie.Need-same-length
 same-length c = search needs
 
 returns : tie.Need-returns
-returns c = (call-refused _ _ _ (c .before .before .before .before .check .ensures) _ _ (c .before .before .checked .given .1) (c .refused .ensures), demand-refused _ _ _ (c .before .before .before .before .check .ensures) _ _ _ _ (c .before .before .checked .given .1) (c .refused .ensures))
+returns c = direct-switch-to-promises _ _ _ _ (c .before .before .before .before .before .before .slice-known .given) (call-refused _ _ _ (c .before .before .before .before .check .ensures) _ _ (c .before .before .checked .given .1) (c .refused .ensures)) (demand-refused _ _ _ (c .before .before .before .before .check .ensures) _ _ _ _ (c .before .before .checked .given .1) (c .refused .ensures))
 
 same-length-2 : tie.Need-same-length-2
 same-length-2 c = search needs
 
 returns-2 : tie.Need-returns-2
-returns-2 c = (call-done _ _ _ (c .before .before .before .before .before .before .before .check .ensures) _ _ _ (c .before .before .before .before .before .checked2 .given .1) (λ M e o. c .before .before .direct-switch-to .ensures M e o .replies), demand-directed _ _ _ (c .before .before .before .before .before .before .before .check .ensures) _ _ _ _ (c .before .before .before .before .before .checked2 .given .1) (c .before .before .direct-switch-to .ensures))
+returns-2 c = direct-switch-to-promises _ _ _ _ (c .slice-known2 .given) (call-done _ _ _ (c .before .before .before .before .before .before .before .check .ensures) _ _ _ (c .before .before .before .before .before .checked2 .given .1) (λ M e o. c .before .before .direct-switch-to .ensures M e o .replies)) (demand-directed _ _ _ (c .before .before .before .before .before .before .before .check .ensures) _ _ _ _ (c .before .before .before .before .before .checked2 .given .1) (c .before .before .direct-switch-to .ensures))
 
 pub ronthuyal-direct-switch-to-spec : {M : Type 1} → statement M
 ronthuyal-direct-switch-to-spec =

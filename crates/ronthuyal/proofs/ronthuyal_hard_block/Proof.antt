@@ -1,3 +1,4 @@
+use Rattle.ronthuyal.proofs.Left.{hard-block-promises}
 use Rattle.ronthuyal.proofs.Called.{call-refused, call-image, call-done}
 use borrow.Author.Needs.{needs}
 use Rattle.ronthuyal.proofs.ronthuyal_hard_block.Statement.{statement}
@@ -22,13 +23,13 @@ same-length : tie.Need-same-length
 same-length c = search needs
 
 returns : tie.Need-returns
-returns c = call-refused _ _ _ (c .before .before .before .before .check .ensures) _ _ (c .before .before .checked .given .1) (c .refused .ensures)
+returns c = hard-block-promises _ _ _ _ (call-refused _ _ _ (c .before .before .before .before .check .ensures) _ _ (c .before .before .checked .given .1) (c .refused .ensures))
 
 same-length-2 : tie.Need-same-length-2
 same-length-2 c = search needs
 
 returns-2 : tie.Need-returns-2
-returns-2 c = call-done _ _ _ (c .before .before .before .before .before .before .before .check .ensures) _ _ _ (c .before .before .before .before .before .checked2 .given .1) (c .before .before .hard-block .ensures)
+returns-2 c = hard-block-promises _ _ _ _ (call-done _ _ _ (c .before .before .before .before .before .before .before .check .ensures) _ _ _ (c .before .before .before .before .before .checked2 .given .1) (c .before .before .hard-block .ensures))
 
 pub ronthuyal-hard-block-spec : {M : Type 1} → statement M
 ronthuyal-hard-block-spec =

@@ -1,4 +1,5 @@
-use Rattle.decision.specs.Accepted.{by-tick}
+use Rattle.ronthuyal.proofs.Left.{tick-promises}
+use Rattle.model.specs.Accepted.{by-tick}
 use Rattle.ronthuyal.proofs.Demanded.{demand-refused, demand-decided, stands-tick}
 use Rattle.ronthuyal.proofs.Called.{call-refused, call-image, call-time, call-ranged, call-done}
 use borrow.Author.Needs.{needs}
@@ -24,13 +25,13 @@ same-length : tie.Need-same-length
 same-length c = search needs
 
 returns : tie.Need-returns
-returns c = (call-refused _ _ _ (c .before .before .before .before .check .ensures) _ _ (c .before .before .checked .given .1) (c .refused .ensures), demand-refused _ _ _ (c .before .before .before .before .check .ensures) _ _ _ _ (c .before .before .checked .given .1) (c .refused .ensures))
+returns c = tick-promises _ _ _ 0 (c .before .before .before .before .before .before .slice-known .given) (call-refused _ _ _ (c .before .before .before .before .check .ensures) _ _ (c .before .before .checked .given .1) (c .refused .ensures)) (demand-refused _ _ _ (c .before .before .before .before .check .ensures) _ _ _ _ (c .before .before .checked .given .1) (c .refused .ensures))
 
 same-length-2 : tie.Need-same-length-2
 same-length-2 c = search needs
 
 returns-2 : tie.Need-returns-2
-returns-2 c = (call-done _ _ _ (c .before .before .before .before .before .before .before .check .ensures) _ _ _ (c .before .before .before .before .before .checked2 .given .1) (λ M e o. c .before .before .tick .ensures M e o .replies), demand-decided _ _ _ (c .before .before .before .before .before .before .before .check .ensures) _ _ _ by-tick (stands-tick 0) _ _ (c .before .before .before .before .before .checked2 .given .1) (c .before .before .tick .ensures))
+returns-2 c = tick-promises _ _ _ 0 (c .slice-known2 .given) (call-done _ _ _ (c .before .before .before .before .before .before .before .check .ensures) _ _ _ (c .before .before .before .before .before .checked2 .given .1) (λ M e o. c .before .before .tick .ensures M e o .replies)) (demand-decided _ _ _ (c .before .before .before .before .before .before .before .check .ensures) _ _ _ by-tick (stands-tick 0) _ _ (c .before .before .before .before .before .checked2 .given .1) (c .before .before .tick .ensures))
 
 pub ronthuyal-tick-spec : {M : Type 1} → statement M
 ronthuyal-tick-spec =

@@ -2,7 +2,10 @@
 use mathlib.Core.Bool.{not}
 use mathlib.Core.Path.{sym, _∙_, ap}
 use borrow.Author.Needs.{needs}
+use Rattle.context.proofs.Woken.{woken-is}
+use Rattle.runnable.specs.declared.UpdateResult.the-variants.{CanSwitch}
 use Rattle.runnable.specs.Runnable.{update-runnable}
+use Rattle.runnable.proofs.Due.{soft-blocked}
 use Rattle.runnable.proofs.update_runnable.Statement.{statement}
 use Rattle.runnable.proofs.update_runnable.Tie as tie
 
@@ -35,7 +38,7 @@ wake-up-requires c κs = search needs
 
 returns-4 : tie.Need-returns-4
 unfolding update-runnable
-returns-4 c = rw (sym (c .before .before .before .before .before .before .before .before .elsewhere .ensures) ∙ c .before .before .before .before .before .before .before .if1 .left, sym (c .before .before .before .before .before .before .elsewhere2 .ensures) ∙ c .before .before .before .before .before .if2 .left, ap not (sym (c .before .before .before .before .contains .ensures)) ∙ c .before .before .before .if3 .left, sym (c .before .before .is-due .ensures) ∙ c .before .if4 .taken, c .wake-up .ensures)
+returns-4 c = rw (sym (c .before .before .before .before .before .before .before .before .before .elsewhere .ensures) ∙ c .before .before .before .before .before .before .before .before .if1 .left, sym (c .before .before .before .before .before .before .before .elsewhere2 .ensures) ∙ c .before .before .before .before .before .before .if2 .left, ap not (sym (c .before .before .before .before .before .contains .ensures)) ∙ c .before .before .before .before .if3 .left, sym (c .before .before .before .is-due .ensures) ∙ c .before .before .if4 .taken) (ap CanSwitch (woken-is (c .before .before .before .before .before .before .before .before .before .before .args .c) (c .before .wake-up .ensures) (soft-blocked (c .before .before .before .before .before .before .before .before .before .before .args .schedule-time) (c .before .before .before .before .before .before .before .before .before .before .args .c) (sym (c .before .before .before .is-due .ensures) ∙ c .before .before .if4 .taken))))
 
 is-runnable-requires : tie.Need-is-runnable-requires
 is-runnable-requires c κs = search needs
@@ -52,15 +55,4 @@ pub update-runnable-spec : {M : Type 1} → statement M
 update-runnable-spec =
     tie.close
     (tie.spec
-    elsewhere-requires
-    returns
-    elsewhere-requires-2
-    returns-2
-    contains-requires
-    returns-3
-    is-due-requires
-    wake-up-requires
-    returns-4
-    is-runnable-requires
-    returns-5
-    returns-6)
+    elsewhere-requires returns elsewhere-requires-2 returns-2 contains-requires returns-3 is-due-requires wake-up-requires returns-4 is-runnable-requires returns-5 returns-6)

@@ -1,4 +1,4 @@
-use Rattle.decision.specs.State.{state-of}
+use Rattle.model.specs.State.{state-of}
 use Rattle.select.proofs.Selecting.{sched-below, select-then}
 use native.Mathlib.Omega.{arith}
 use borrow.Author.Needs.{needs}
@@ -33,11 +33,4 @@ pub select-spec : {M : Type 1} → statement M
 select-spec =
     tie.close
     (tie.spec
-    load-block-requires
-    holder-requires
-    scanner-requires
-    scan-queue-requires
-    apply-choice-requires
-    same-length
-    same-length-2
-    returns)
+    load-block-requires holder-requires scanner-requires scan-queue-requires apply-choice-requires same-length same-length-2 returns)

@@ -5,17 +5,8 @@ use borrow.Author.Needs.{needs}
 use Rattle.stages.proofs.entry.Statement.{statement}
 use Rattle.stages.proofs.entry.Tie as tie
 
-mul-at : tie.Need-mul-at
-mul-at c = search needs
-
-add-at : tie.Need-add-at
-add-at c = search needs
-
-mul-at-2 : tie.Need-mul-at-2
-mul-at-2 c = search needs
-
-add-at-2 : tie.Need-add-at-2
-add-at-2 c = search needs
+cpu-place-requires : tie.Need-cpu-place-requires
+cpu-place-requires c κs = search needs
 
 add-end : tie.Need-add-end
 add-end c = search needs
@@ -30,26 +21,16 @@ part-entry-start : tie.Need-part-entry-start
 part-entry-start c = search needs
 
 part-entry-end : tie.Need-part-entry-end
-part-entry-end c = omega (arith, sized (c .before .pre .0))
+part-entry-end c = omega (arith, sized (c .before .before .pre .0))
 
 entry-requires : tie.Need-entry-requires
-entry-requires c κs = (search needs, omega (arith, queue-small (c .before .before .pre .0) _ (c .before .before .pre .1 .0)))
+entry-requires c κs = (search needs, omega (arith, queue-small (c .before .before .before .pre .0) _ (c .before .before .before .pre .1 .0)))
 
 returns : tie.Need-returns
-returns c = entry-read (c .before .before .before .pre .0) _ _ (c .before .before .before .pre .1 .0) (c .before .before .before .pre .1 .1) _ (c .entry .ensures)
+returns c = entry-read (c .before .before .before .before .pre .0) _ _ (c .before .before .cpu-place .ensures) (c .before .before .before .before .pre .1 .0) (c .before .before .before .before .pre .1 .1) _ (c .entry .ensures)
 
 pub entry-spec : {M : Type 1} → statement M
 entry-spec =
     tie.close
     (tie.spec
-    mul-at
-    add-at
-    mul-at-2
-    add-at-2
-    add-end
-    mul-entry
-    sub-entry
-    part-entry-start
-    part-entry-end
-    entry-requires
-    returns)
+    cpu-place-requires add-end mul-entry sub-entry part-entry-start part-entry-end entry-requires returns)

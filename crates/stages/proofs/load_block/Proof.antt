@@ -5,17 +5,8 @@ use borrow.Author.Needs.{needs}
 use Rattle.stages.proofs.load_block.Statement.{statement}
 use Rattle.stages.proofs.load_block.Tie as tie
 
-mul-at : tie.Need-mul-at
-mul-at c = search needs
-
-add-at : tie.Need-add-at
-add-at c = search needs
-
-mul-at-2 : tie.Need-mul-at-2
-mul-at-2 c = search needs
-
-add-at-2 : tie.Need-add-at-2
-add-at-2 c = search needs
+cpu-place-requires : tie.Need-cpu-place-requires
+cpu-place-requires c κs = search needs
 
 add-end : tie.Need-add-end
 add-end c = search needs
@@ -30,26 +21,16 @@ part-load-start : tie.Need-part-load-start
 part-load-start c = search needs
 
 part-load-end : tie.Need-part-load-end
-part-load-end c = omega (arith, sized (c .before .pre .0))
+part-load-end c = omega (arith, sized (c .before .before .pre .0))
 
 load-requires : tie.Need-load-requires
 load-requires c κs = search needs
 
 returns : tie.Need-returns
-returns c = λ M e o. c .load .ensures _ (lent-is _ _ (c .before .before .before .pre .1) M e o)
+returns c = λ M e o. c .load .ensures _ (lent-is _ _ (c .before .before .cpu-place .ensures) (c .before .before .before .before .pre .1) M e o)
 
 pub load-block-spec : {M : Type 1} → statement M
 load-block-spec =
     tie.close
     (tie.spec
-    mul-at
-    add-at
-    mul-at-2
-    add-at-2
-    add-end
-    mul-load
-    sub-load
-    part-load-start
-    part-load-end
-    load-requires
-    returns)
+    cpu-place-requires add-end mul-load sub-load part-load-start part-load-end load-requires returns)

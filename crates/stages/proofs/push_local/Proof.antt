@@ -5,17 +5,8 @@ use borrow.Author.Needs.{needs}
 use Rattle.stages.proofs.push_local.Statement.{statement}
 use Rattle.stages.proofs.push_local.Tie as tie
 
-mul-at : tie.Need-mul-at
-mul-at c = search needs
-
-add-at : tie.Need-add-at
-add-at c = search needs
-
-mul-at-2 : tie.Need-mul-at-2
-mul-at-2 c = search needs
-
-add-at-2 : tie.Need-add-at-2
-add-at-2 c = search needs
+cpu-place-requires : tie.Need-cpu-place-requires
+cpu-place-requires c κs = search needs
 
 add-end : tie.Need-add-end
 add-end c = search needs
@@ -33,7 +24,7 @@ part-push-local-start : tie.Need-part-push-local-start
 part-push-local-start c = search needs
 
 part-push-local-end : tie.Need-part-push-local-end
-part-push-local-end c = omega (arith, sized (c .before .before .pre .0))
+part-push-local-end c = omega (arith, sized (c .before .before .before .pre .0))
 
 push-local-requires : tie.Need-push-local-requires
 push-local-requires c κs = search needs
@@ -42,22 +33,10 @@ same-length : tie.Need-same-length
 same-length c = search needs
 
 returns : tie.Need-returns
-returns c = staged-name (c .before .before .before .before .before .before .pre .0) _ (c .before .before .before .before .before .before .pre .1 .0) _ _ _ _ (c .before .before .before .before .before .before .pre .1 .1) (c .before .before .before .before .word .ensures) (c .before .before .push-local .ensures)
+returns c = staged-name (c .before .before .before .before .before .before .before .pre .0) _ (c .before .before .before .before .before .cpu-place .ensures) (c .before .before .before .before .before .before .before .pre .1 .0) _ _ _ _ (c .before .before .before .before .before .before .before .pre .1 .1) (c .before .before .before .before .word .ensures) (c .before .before .push-local .ensures)
 
 pub push-local-spec : {M : Type 1} → statement M
 push-local-spec =
     tie.close
     (tie.spec
-    mul-at
-    add-at
-    mul-at-2
-    add-at-2
-    add-end
-    word-requires
-    mul-push-local
-    sub-push-local
-    part-push-local-start
-    part-push-local-end
-    push-local-requires
-    same-length
-    returns)
+    cpu-place-requires add-end word-requires mul-push-local sub-push-local part-push-local-start part-push-local-end push-local-requires same-length returns)

@@ -5,17 +5,8 @@ use borrow.Author.Needs.{needs}
 use Rattle.stages.proofs.store_block.Statement.{statement}
 use Rattle.stages.proofs.store_block.Tie as tie
 
-mul-at : tie.Need-mul-at
-mul-at c = search needs
-
-add-at : tie.Need-add-at
-add-at c = search needs
-
-mul-at-2 : tie.Need-mul-at-2
-mul-at-2 c = search needs
-
-add-at-2 : tie.Need-add-at-2
-add-at-2 c = search needs
+cpu-place-requires : tie.Need-cpu-place-requires
+cpu-place-requires c κs = search needs
 
 add-end : tie.Need-add-end
 add-end c = search needs
@@ -30,7 +21,7 @@ part-store-start : tie.Need-part-store-start
 part-store-start c = search needs
 
 part-store-end : tie.Need-part-store-end
-part-store-end c = omega (arith, sized (c .before .pre .0))
+part-store-end c = omega (arith, sized (c .before .before .pre .0))
 
 store-requires : tie.Need-store-requires
 store-requires c κs = search needs
@@ -39,21 +30,10 @@ same-length : tie.Need-same-length
 same-length c = search needs
 
 returns : tie.Need-returns
-returns c = staged-block (c .before .before .before .before .before .pre .0) _ (c .before .before .before .before .before .pre .1 .0) _ _ (c .before .before .before .before .before .pre .1 .1) (c .before .before .store .ensures)
+returns c = staged-block (c .before .before .before .before .before .before .pre .0) _ (c .before .before .before .before .cpu-place .ensures) (c .before .before .before .before .before .before .pre .1 .0) _ _ (c .before .before .before .before .before .before .pre .1 .1) (c .before .before .store .ensures)
 
 pub store-block-spec : {M : Type 1} → statement M
 store-block-spec =
     tie.close
     (tie.spec
-    mul-at
-    add-at
-    mul-at-2
-    add-at-2
-    add-end
-    mul-store
-    sub-store
-    part-store-start
-    part-store-end
-    store-requires
-    same-length
-    returns)
+    cpu-place-requires add-end mul-store sub-store part-store-start part-store-end store-requires same-length returns)

@@ -1,4 +1,4 @@
-use Rattle.decision.specs.State.{state-of}
+use Rattle.model.specs.State.{state-of}
 use Rattle.steal.proofs.Stolen.{due-is}
 use borrow.Author.Needs.{needs}
 use Rattle.steal.proofs.should_steal.Statement.{statement}

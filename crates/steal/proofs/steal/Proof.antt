@@ -1,5 +1,5 @@
 use mathlib.Core.Path.{refl}
-use Rattle.steal_judge.proofs.Judging.{was-false, was-true}
+use Rattle.model.proofs.Cases.{not-is-true, not-is-false}
 use Rattle.steal.proofs.Round.{not-empty, is-empty-list}
 use Rattle.steal.proofs.Stolen.{counted-ranged, not-due, nothing-stolen, robbed}
 use native.Mathlib.Omega.{arith}
@@ -17,41 +17,31 @@ same-length : tie.Need-same-length
 same-length c = search needs
 
 returns : tie.Need-returns
-returns c = not-due (c .before .before .before .before .before .before .before .before .pre .1 .0) (c .before .before .before .count-steal .ensures) (c .before .before .before .before .before .before .before .before .args .w) (c .before .before .before .before .before .before .before .before .args .runs) (c .before .before .before .before .before .before .before .before .args .locked) (c .before .before .before .before .before .should-steal .ensures) (was-false _ (c .if1 .taken))
+returns c = not-due (c .before .before .before .before .before .before .before .before .pre .1 .0) (c .before .before .before .count-steal .ensures) (c .before .before .before .before .before .before .before .before .args .w) (c .before .before .before .before .before .before .before .before .args .runs) (c .before .before .before .before .before .before .before .before .args .locked) (c .before .before .before .before .before .should-steal .ensures) (not-is-true _ (c .if1 .taken))
 
 search-requires : tie.Need-search-requires
 search-requires c κs = (c .before .before .before .before .count-steal .ensures .image refl, c .before .before .before .before .before .before .before .before .before .pre .1 .0)
 
-count-requires : tie.Need-count-requires
-count-requires c κs = search needs
+len-requires : tie.Need-len-requires
+len-requires c κs = search needs
 
 same-length-2 : tie.Need-same-length-2
 same-length-2 c = search needs
 
 returns-2 : tie.Need-returns-2
-returns-2 c = nothing-stolen (c .before .before .before .before .before .before .before .before .before .before .before .before .pre .1 .0) (c .before .before .before .before .before .before .before .count-steal .ensures) (c .before .before .before .before .before .before .before .before .before .before .before .before .args .w) (c .before .before .before .before .before .before .before .before .before .before .before .before .args .runs) (c .before .before .before .before .before .before .before .before .before .before .before .before .args .locked) (c .before .before .before .before .before .before .before .before .before .should-steal .ensures) (was-true _ (c .before .before .before .before .if1 .left)) _ (c .before .before .search .ensures) (is-empty-list _ (omega (arith, c .before .count .ensures, c .if2 .taken)))
+returns-2 c = nothing-stolen (c .before .before .before .before .before .before .before .before .before .before .before .before .pre .1 .0) (c .before .before .before .before .before .before .before .count-steal .ensures) (c .before .before .before .before .before .before .before .before .before .before .before .before .args .w) (c .before .before .before .before .before .before .before .before .before .before .before .before .args .runs) (c .before .before .before .before .before .before .before .before .before .before .before .before .args .locked) (c .before .before .before .before .before .before .before .before .before .should-steal .ensures) (not-is-false _ (c .before .before .before .before .if1 .left)) _ (c .before .before .search .ensures) (is-empty-list _ (omega (arith, c .before .len .ensures, c .if2 .taken)))
 
 rob-requires : tie.Need-rob-requires
-rob-requires c κs = (c .before .before .before .before .before .before .before .before .count-steal .ensures .image refl, ((c .before .before .before .before .before .before .before .before .before .before .before .before .before .pre .1 .0, c .before .before .before .search .ensures .cpu, c .before .before .before .search .ensures .other (not-empty _ (omega (arith, c .before .before .count .ensures, c .before .if2 .left))), c .before .before .before .search .ensures .entries), counted-ranged (c .before .before .before .before .before .before .before .before .before .before .before .before .before .pre .1 .0) (c .before .before .before .before .before .before .before .before .count-steal .ensures) (c .before .before .before .before .before .before .before .before .before .before .before .before .before .pre .1 .1)))
+rob-requires c κs = (c .before .before .before .before .before .before .before .before .count-steal .ensures .image refl, ((c .before .before .before .before .before .before .before .before .before .before .before .before .before .pre .1 .0, c .before .before .before .search .ensures .cpu, c .before .before .before .search .ensures .other (not-empty _ (omega (arith, c .before .before .len .ensures, c .before .if2 .left))), c .before .before .before .search .ensures .entries), counted-ranged (c .before .before .before .before .before .before .before .before .before .before .before .before .before .pre .1 .0) (c .before .before .before .before .before .before .before .before .count-steal .ensures) (c .before .before .before .before .before .before .before .before .before .before .before .before .before .pre .1 .1)))
 
 same-length-3 : tie.Need-same-length-3
 same-length-3 c = search needs
 
 returns-3 : tie.Need-returns-3
-returns-3 c = robbed (c .before .before .before .before .before .before .before .before .before .before .before .before .before .before .before .before .pre .1 .0) (c .before .before .before .before .before .before .before .before .before .before .before .count-steal .ensures) (c .before .before .before .before .before .before .before .before .before .before .before .before .before .before .before .before .args .w) (c .before .before .before .before .before .before .before .before .before .before .before .before .before .before .before .before .args .runs) (c .before .before .before .before .before .before .before .before .before .before .before .before .before .before .before .before .args .locked) (c .before .before .before .before .before .before .before .before .before .before .before .before .before .should-steal .ensures) (was-true _ (c .before .before .before .before .before .before .before .before .if1 .left)) _ (c .before .before .before .before .before .before .search .ensures) (not-empty _ (omega (arith, c .before .before .before .before .before .count .ensures, c .before .before .before .before .if2 .left))) (c .before .before .rob .ensures)
+returns-3 c = robbed (c .before .before .before .before .before .before .before .before .before .before .before .before .before .before .before .before .pre .1 .0) (c .before .before .before .before .before .before .before .before .before .before .before .count-steal .ensures) (c .before .before .before .before .before .before .before .before .before .before .before .before .before .before .before .before .args .w) (c .before .before .before .before .before .before .before .before .before .before .before .before .before .before .before .before .args .runs) (c .before .before .before .before .before .before .before .before .before .before .before .before .before .before .before .before .args .locked) (c .before .before .before .before .before .before .before .before .before .before .before .before .before .should-steal .ensures) (not-is-false _ (c .before .before .before .before .before .before .before .before .if1 .left)) _ (c .before .before .before .before .before .before .search .ensures) (not-empty _ (omega (arith, c .before .before .before .before .before .len .ensures, c .before .before .before .before .if2 .left))) (c .before .before .rob .ensures)
 
 pub steal-spec : {M : Type 1} → statement M
 steal-spec =
     tie.close
     (tie.spec
-    should-steal-requires
-    count-steal-requires
-    same-length
-    returns
-    search-requires
-    count-requires
-    same-length-2
-    returns-2
-    rob-requires
-    same-length-3
-    returns-3)
+    should-steal-requires count-steal-requires same-length returns search-requires len-requires same-length-2 returns-2 rob-requires same-length-3 returns-3)

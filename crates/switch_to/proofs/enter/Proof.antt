@@ -33,10 +33,4 @@ pub enter-spec : {M : Type 1} → statement M
 enter-spec =
     tie.close
     (tie.spec
-    load-requires
-    come-requires
-    store-context-requires
-    become-current-requires
-    store-block-requires
-    same-length
-    returns)
+    load-requires come-requires store-context-requires become-current-requires store-block-requires same-length returns)

@@ -34,11 +34,4 @@ pub switch-from-spec : {M : Type 1} → statement M
 switch-from-spec =
     tie.close
     (tie.spec
-    save-requires
-    same-length
-    returns
-    leave-requires
-    store-context-requires
-    enter-requires
-    same-length-2
-    returns-2)
+    save-requires same-length returns leave-requires store-context-requires enter-requires same-length-2 returns-2)

@@ -27,9 +27,4 @@ pub switch-to-spec : {M : Type 1} → statement M
 switch-to-spec =
     tie.close
     (tie.spec
-    load-block-requires
-    index-requires
-    load-requires
-    switch-from-requires
-    same-length
-    returns)
+    load-block-requires index-requires load-requires switch-from-requires same-length returns)

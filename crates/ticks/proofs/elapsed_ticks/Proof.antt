@@ -2,7 +2,7 @@
 use native.Mathlib.Omega.{arith}
 use borrow.Author.Needs.{needs}
 use Rattle.ticks.proofs.Laws.{scaled}
-use Rattle.ticks.specs.Ticks.{ticks}
+use Rattle.ticks.specs.Ticks.{ticks, nanos-per-tick, scale}
 use Rattle.ticks.proofs.elapsed_ticks.Statement.{statement}
 use Rattle.ticks.proofs.elapsed_ticks.Tie as tie
 
@@ -17,7 +17,7 @@ add-result c = search needs
 
 returns : tie.Need-returns
 unfolding ticks
-returns c = (scaled _ 1073741824 2250000 (omega arith), omega arith)
+returns c = (scaled _ scale nanos-per-tick (omega arith), omega arith)
 
 pub elapsed-ticks-spec : {M : Type 1} → statement M
 elapsed-ticks-spec = tie.close (tie.spec mul-result mul-result-2 add-result returns)

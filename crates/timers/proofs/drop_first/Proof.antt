@@ -12,9 +12,10 @@ use Rattle.percpu.specs.Layout.{cpu-words}
 use Rattle.percpu.specs.Cpu.{Cpu}
 use Rattle.timers.proofs.drop_first.Statement.{statement}
 use Rattle.timers.proofs.drop_first.Tie as tie
+use Rattle.percpu.specs.Places.{block-size}
 
 abbrev Inv-loop : tie.InvT-loop
-Inv-loop b₀ d n i₀ b i = (i ≤ d) × (length b ≡ 665) × ((c : Cpu) → b₀ ≡ cpu-words c → length (c .timers) ≤ 64 → b ≡ holding timer-table c (drop i (c .timers)))
+Inv-loop b₀ d n i₀ b i = (i ≤ d) × (length b ≡ block-size) × ((c : Cpu) → b₀ ≡ cpu-words c → length (c .timers) ≤ 64 → b ≡ holding timer-table c (drop i (c .timers)))
 
 abbrev μ-loop : tie.MeasureT-loop
 μ-loop b₀ d n i₀ b i = d - i

@@ -5,12 +5,12 @@ use native.Mathlib.Omega.{arith}
 use borrow.Author.Tests.{le-leb, lt-leb}
 use borrow.Author.Needs.{needs}
 use Rattle.timers.proofs.Table.{due-is}
-use Rattle.timers.specs.Put.{is-due}
 use Rattle.table.proofs.Search.{first-start, first-next, first-here, first-end}
 use Rattle.table.specs.First.{first-not}
 use Rattle.percpu.specs.Layout.{timer-at}
 use Rattle.timers.proofs.due.Statement.{statement}
 use Rattle.timers.proofs.due.Tie as tie
+use Rattle.entries.specs.Order.{is-due}
 
 abbrev Inv-loop : tie.InvT-loop
 Inv-loop b time n last i₀ i = (i ≤ n) × (first-not (λ (j : ℕ). is-due time (timer-at b j)) 0 n ≡ first-not (λ (j : ℕ). is-due time (timer-at b j)) i (n - i))

@@ -2,12 +2,13 @@
 use mathlib.Core.Path.{refl}
 use lib.ListN.{getD}
 use borrow.Author.Needs.{needs}
-use Rattle.timers.proofs.Table.{timer-table, timer-lies, timer-order, found, has-timer}
+use Rattle.timers.proofs.Table.{timer-table, timer-lies, found, has-timer}
 use Rattle.table.proofs.Sorted.{puts}
 use Rattle.table.proofs.Tables.{row}
-use Rattle.run_queue.specs.Order.{sooner}
+use Rattle.entries.specs.Order.{sooner}
 use Rattle.timers.proofs.insert.Statement.{statement}
 use Rattle.timers.proofs.insert.Tie as tie
+use Rattle.entries.proofs.Ordered.{timers-ordered}
 
 slice-read-n : tie.Need-slice-read-n
 slice-read-n c = search needs
@@ -32,7 +33,7 @@ same-length c = search needs
 
 returns : tie.Need-returns
 unfolding row
-returns c = λ k hb g u. puts timer-table timer-lies sooner timer-order (c .before .before .before .before .before .before .before .before .before .before .before .before .args .t) (c .before .before .before .before .before .before .before .before .before .before .before .before .args .b .now) _ _ _ refl (found _ _ _ (c .before .before .before .before .before .before .before .before .before .key .ensures) _ _ (c .before .before .before .before .before .before .before .find .ensures .1)) (has-timer (c .before .before .before .before .before .before .before .before .before .before .before .before .args .b .now) (c .before .before .before .before .before .before .before .before .before .before .before .before .args .t) _ (c .before .before .before .before .before .before .before .before .before .key .ensures) (getD (c .before .before .before .before .before .before .before .before .before .before .before .before .args .b .now) 22 0) (c .before .before .before .before .before .before .before .find .result) _ (c .before .before .before .before .before .holds .ensures .0)) k hb g u _ _ (c .before .before .put .ensures .0) (c .before .before .put .ensures .1)
+returns c = λ k hb g u. puts timer-table timer-lies sooner timers-ordered (c .before .before .before .before .before .before .before .before .before .before .before .before .args .t) (c .before .before .before .before .before .before .before .before .before .before .before .before .args .b .now) _ _ _ refl (found _ _ _ (c .before .before .before .before .before .before .before .before .before .key .ensures) _ _ (c .before .before .before .before .before .before .before .find .ensures .1)) (has-timer (c .before .before .before .before .before .before .before .before .before .before .before .before .args .b .now) (c .before .before .before .before .before .before .before .before .before .before .before .before .args .t) _ (c .before .before .before .before .before .before .before .before .before .key .ensures) (getD (c .before .before .before .before .before .before .before .before .before .before .before .before .args .b .now) 22 0) (c .before .before .before .before .before .before .before .find .result) _ (c .before .before .before .before .before .holds .ensures .0)) k hb g u _ _ (c .before .before .put .ensures .0) (c .before .before .put .ensures .1)
 
 pub insert-spec : {M : Type 1} → statement M
 insert-spec =

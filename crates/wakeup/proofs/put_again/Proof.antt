@@ -28,10 +28,4 @@ pub put-again-spec : {M : Type 1} → statement M
 put-again-spec =
     tie.close
     (tie.spec
-    insert-timer-requires
-    same-length
-    returns
-    index-requires
-    push-local-requires
-    same-length-2
-    returns-2)
+    insert-timer-requires same-length returns index-requires push-local-requires same-length-2 returns-2)

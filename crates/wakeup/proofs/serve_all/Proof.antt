@@ -47,15 +47,4 @@ pub serve-all-spec : {M : Type 1} → statement M
 serve-all-spec =
     tie.close
     (tie.spec
-    Inv-loop
-    μ-loop
-    loop-holds
-    wakeup-in-requires
-    serve-one-requires
-    same-length
-    returns
-    add-i
-    loop-less
-    loop-again
-    same-length-2
-    returns-2)
+    Inv-loop μ-loop loop-holds wakeup-in-requires serve-one-requires same-length returns add-i loop-less loop-again same-length-2 returns-2)

@@ -53,18 +53,4 @@ pub serve-as-spec : {M : Type 1} → statement M
 serve-as-spec =
     tie.close
     (tie.spec
-    index-requires
-    enum-told
-    returns
-    enum-told-2
-    put-again-requires
-    same-length
-    returns-2
-    enum-known-r
-    store-context-requires
-    same-length-2
-    returns-3
-    enum-known-r-2
-    enter-queue-requires
-    same-length-3
-    returns-4)
+    index-requires enum-told returns enum-told-2 put-again-requires same-length returns-2 enum-known-r store-context-requires same-length-2 returns-3 enum-known-r-2 enter-queue-requires same-length-3 returns-4)

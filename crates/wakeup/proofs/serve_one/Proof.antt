@@ -6,32 +6,20 @@ use Rattle.wakeup.proofs.serve_one.Tie as tie
 load-block-requires : tie.Need-load-block-requires
 load-block-requires c κs = search needs
 
-index-requires : tie.Need-index-requires
-index-requires c κs = search needs
-
-load-requires : tie.Need-load-requires
-load-requires c κs = search needs
-
-judge-requires : tie.Need-judge-requires
-judge-requires c κs = search needs
+verdict-requires : tie.Need-verdict-requires
+verdict-requires c κs = search needs
 
 serve-as-requires : tie.Need-serve-as-requires
-serve-as-requires c κs = (c .before .before .before .before .before .before .before .before .pre .0, ((c .before .before .before .before .before .before .before .before .pre .1 .0 .0, c .before .before .before .before .before .before .before .before .pre .1 .0 .1, result-fits _ _ _ _ _ (c .before .before .before .before .before .load-block .ensures) (c .before .before .before .before .index .ensures) (c .before .before .load .ensures) (c .before .judge .ensures) (c .before .before .before .before .before .before .before .before .pre .1 .0 .1) _ (c .before .before .before .before .before .before .before .before .pre .1 .1)), c .before .before .before .before .before .before .before .before .pre .1 .1))
+serve-as-requires c κs = (c .before .before .before .before .before .before .pre .0, ((c .before .before .before .before .before .before .pre .1 .0 .0, c .before .before .before .before .before .before .pre .1 .0 .1, result-fits _ _ _ (c .before .before .before .load-block .ensures) (c .before .verdict .ensures) (c .before .before .before .before .before .before .pre .1 .0 .1) _ (c .before .before .before .before .before .before .pre .1 .1)), c .before .before .before .before .before .before .pre .1 .1))
 
 same-length : tie.Need-same-length
 same-length c = search needs
 
 returns : tie.Need-returns
-returns c = served-staged _ _ _ _ _ (c .before .before .before .before .before .before .before .before .load-block .ensures) (c .before .before .before .before .before .before .before .index .ensures) (c .before .before .before .before .before .load .ensures) (c .before .before .before .before .judge .ensures) (c .before .before .serve-as .ensures)
+returns c = served-staged _ _ _ (c .before .before .before .before .before .before .load-block .ensures) (c .before .before .before .before .verdict .ensures) (c .before .before .serve-as .ensures)
 
 pub serve-one-spec : {M : Type 1} → statement M
 serve-one-spec =
     tie.close
     (tie.spec
-    load-block-requires
-    index-requires
-    load-requires
-    judge-requires
-    serve-as-requires
-    same-length
-    returns)
+    load-block-requires verdict-requires serve-as-requires same-length returns)

@@ -27,9 +27,4 @@ pub serve-wakeups-spec : {M : Type 1} → statement M
 serve-wakeups-spec =
     tie.close
     (tie.spec
-    read-wakeups-requires
-    drain-requires
-    serve-all-requires
-    same-length
-    same-length-2
-    returns)
+    read-wakeups-requires drain-requires serve-all-requires same-length same-length-2 returns)

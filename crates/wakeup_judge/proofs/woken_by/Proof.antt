@@ -1,5 +1,7 @@
 use mathlib.Core.Path.{sym, _∙_}
 use borrow.Author.Needs.{needs}
+use Rattle.context.proofs.Woken.{woken-is}
+use Rattle.wakeup_judge.proofs.Waiting.{soft-blocked}
 use Rattle.wakeup_judge.proofs.woken_by.Statement.{statement}
 use Rattle.wakeup_judge.proofs.woken_by.Tie as tie
 
@@ -10,7 +12,7 @@ wake-up-requires : tie.Need-wake-up-requires
 wake-up-requires c κs = search needs
 
 returns : tie.Need-returns
-returns c = rw (c .before .before .before .if1 .taken, sym (c .before .before .waits-for .ensures) ∙ c .before .if2 .taken) (c .wake-up .ensures)
+returns c = rw (c .before .before .before .before .if1 .taken, sym (c .before .before .before .waits-for .ensures) ∙ c .before .before .if2 .taken) (woken-is (c .before .before .before .before .before .args .c) (c .before .wake-up .ensures) (soft-blocked (c .before .before .before .before .before .args .w .wake) (c .before .before .before .before .before .args .c) (sym (c .before .before .before .waits-for .ensures) ∙ c .before .before .if2 .taken)))
 
 returns-2 : tie.Need-returns-2
 returns-2 c = rw (c .before .before .if1 .taken, sym (c .before .waits-for .ensures) ∙ c .if2 .left)

@@ -6,9 +6,10 @@ use borrow.Author.Needs.{needs}
 use native.Mathlib.Omega.{arith}
 use Rattle.wakeup_lists.proofs.append_ipi.Statement.{statement}
 use Rattle.wakeup_lists.proofs.append_ipi.Tie as tie
+use Rattle.percpu.specs.Places.{block-size}
 
 abbrev Inv-loop : tie.InvT-loop
-Inv-loop b₀ k i₀ b i = (i ≤ k) × (k ≡ getD b₀ 24 0) × (length b ≡ 665) × (getD b 23 0 ≡ getD b₀ 23 0 + i) × (getD b₀ 23 0 + k ≤ 64) × Appended b₀ b i
+Inv-loop b₀ k i₀ b i = (i ≤ k) × (k ≡ getD b₀ 24 0) × (length b ≡ block-size) × (getD b 23 0 ≡ getD b₀ 23 0 + i) × (getD b₀ 23 0 + k ≤ 64) × Appended b₀ b i
 
 abbrev μ-loop : tie.MeasureT-loop
 μ-loop b₀ k i₀ b i = k - i

@@ -8,6 +8,7 @@ use native.Mathlib.Omega.{arith}
 use borrow.Author.Needs.{needs}
 use Rattle.wakeup_lists.proofs.push_local.Statement.{statement}
 use Rattle.wakeup_lists.proofs.push_local.Tie as tie
+use Rattle.percpu.specs.Places.{local-wakeup-list-column}
 
 slice-read-index : tie.Need-slice-read-index
 slice-read-index c = search needs
@@ -41,7 +42,7 @@ same-length c = search needs
 
 returns : tie.Need-returns
 unfolding part splice
-returns c = ((λ p e. pushed (local-listed p) _ _ _ _ _ e (c .before .before .before .before .before .index .ensures) (omega (arith, c .before .before .before .before .before .before .before .before .pre .1, c .before .before .before .before .before .index .ensures)) (c .before .before .before .insert-at .ensures) (c .word .ensures)), getD-set-same (putMid 537 64 (c .before .before .before .before .before .before .before .before .args .b .now) (c .before .before .before .insert-at .last .0)) 23 (c .word .result) 0 (search needs) ∙ c .word .ensures ∙ ap (λ y. y + 1) (c .before .before .before .before .before .index .ensures))
+returns c = ((λ p e. pushed (local-listed p) _ _ _ _ _ e (c .before .before .before .before .before .index .ensures) (omega (arith, c .before .before .before .before .before .before .before .before .pre .1, c .before .before .before .before .before .index .ensures)) (c .before .before .before .insert-at .ensures) (c .word .ensures)), getD-set-same (putMid local-wakeup-list-column 64 (c .before .before .before .before .before .before .before .before .args .b .now) (c .before .before .before .insert-at .last .0)) 23 (c .word .result) 0 (search needs) ∙ c .word .ensures ∙ ap (λ y. y + 1) (c .before .before .before .before .before .index .ensures))
 
 pub push-local-spec : {M : Type 1} → statement M
 push-local-spec =

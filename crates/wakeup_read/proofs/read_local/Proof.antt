@@ -48,16 +48,4 @@ pub read-local-spec : {M : Type 1} → statement M
 read-local-spec =
     tie.close
     (tie.spec
-    Inv-loop
-    μ-loop
-    local-len-requires
-    loop-holds
-    local-name-requires
-    add-put-wakeup
-    put-wakeup-requires
-    add-i
-    loop-less
-    loop-again
-    add-result
-    same-length
-    returns)
+    Inv-loop μ-loop local-len-requires loop-holds local-name-requires add-put-wakeup put-wakeup-requires add-i loop-less loop-again add-result same-length returns)

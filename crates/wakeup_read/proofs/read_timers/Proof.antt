@@ -47,15 +47,4 @@ pub read-timers-spec : {M : Type 1} → statement M
 read-timers-spec =
     tie.close
     (tie.spec
-    Inv-loop
-    μ-loop
-    load-block-requires
-    due-requires
-    loop-holds
-    timer-requires
-    read-timer-requires
-    add-i
-    loop-less
-    loop-again
-    same-length
-    returns)
+    Inv-loop μ-loop load-block-requires due-requires loop-holds timer-requires read-timer-requires add-i loop-less loop-again same-length returns)

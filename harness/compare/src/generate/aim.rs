@@ -75,9 +75,9 @@ pub fn at_holder(rng: &mut Rng, machine: &mut Machine, at: usize, time: u64, tid
             record[c::VD] = entry.vd;
             record[c::REM_SLICE] = entry.rem_slice;
         }
-        if follows && record[c::HAS_KEY] == 1 {
-            record[c::KEY_VD] = entry.vd;
-            record[c::KEY_REM_SLICE] = entry.rem_slice;
+        if follows && record[c::HAS_QUEUE_KEY] == 1 {
+            record[c::QUEUE_KEY_VD] = entry.vd;
+            record[c::QUEUE_KEY_REM_SLICE] = entry.rem_slice;
         }
     }
     machine.settle();

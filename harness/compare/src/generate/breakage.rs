@@ -22,10 +22,10 @@ pub fn break_structure(rng: &mut Rng, image: &mut [u64]) {
         }
         2 if queue > 0 => {
             let slot = rng.below(queue);
-            image[block + b::ENTRY_CONTEXT + slot] = one as u64;
+            image[block + b::ENTRY_CONTEXT_REF + slot] = one as u64;
         }
         3 if queue > 0 => {
-            let at = block + b::KEY_ID + rng.below(queue);
+            let at = block + b::KEY_CTXT_ID + rng.below(queue);
             image[at] = rng.pick(&[image[at] ^ 1, image[at] + 1, 0]);
         }
         4 if queue > 1 => swap(rng, image, block, b::COLUMNS[0]),

@@ -68,9 +68,9 @@ fn newcomer(rng: &mut Rng, machine: &mut Machine, at: usize) {
         record[c::LOCK] = 0;
         record[c::RUNNING] = 0;
         if !queued {
-            record[c::HAS_KEY] = 0;
-            record[c::KEY_VD] = 0;
-            record[c::KEY_REM_SLICE] = 0;
+            record[c::HAS_QUEUE_KEY] = 0;
+            record[c::QUEUE_KEY_VD] = 0;
+            record[c::QUEUE_KEY_REM_SLICE] = 0;
         }
         machine.cpu[at].local.push(context);
     }
@@ -81,9 +81,9 @@ fn keyless(rng: &mut Rng, machine: &mut Machine, at: usize) {
     for entry in &machine.cpu[at].queue {
         let record = &mut machine.record[entry.context];
         if record[c::GONE] == 0 && !rng.once_in(8) {
-            record[c::HAS_KEY] = 0;
-            record[c::KEY_VD] = 0;
-            record[c::KEY_REM_SLICE] = 0;
+            record[c::HAS_QUEUE_KEY] = 0;
+            record[c::QUEUE_KEY_VD] = 0;
+            record[c::QUEUE_KEY_REM_SLICE] = 0;
         }
     }
     let sched = machine.cpu[at].sched();
@@ -109,7 +109,7 @@ fn queue(rng: &mut Rng, scale: &Scale, machine: &mut Machine, at: usize, to: usi
         if next < contexts {
             let record = &mut machine.record[next];
             let free = record[c::GONE] == 0
-                && record[c::HAS_KEY] == 0
+                && record[c::HAS_QUEUE_KEY] == 0
                 && record[c::CURRENTLY_SCHEDULED] == 0;
             if free && !rng.once_in(8) {
                 machine.cpu[at].queue.push(tidy::entry(record, next));

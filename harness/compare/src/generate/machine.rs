@@ -96,20 +96,20 @@ impl Machine {
         for (slot, entry) in cpu.queue.iter().enumerate() {
             words[b::KEY_VD + slot] = entry.vd;
             words[b::KEY_REM_SLICE + slot] = entry.rem_slice;
-            words[b::KEY_ID + slot] = self.id(entry.context);
+            words[b::KEY_CTXT_ID + slot] = self.id(entry.context);
             words[b::ENTRY_VTIME + slot] = entry.vtime;
             words[b::ENTRY_WEIGHT + slot] = entry.weight;
-            words[b::ENTRY_CONTEXT + slot] = entry.context as u64;
+            words[b::ENTRY_CONTEXT_REF + slot] = entry.context as u64;
         }
         for (slot, (wake, context)) in cpu.timers.iter().enumerate() {
             words[b::TIMER_WAKE + slot] = *wake;
-            words[b::TIMER_CONTEXT + slot] = *context as u64;
+            words[b::TIMER_CONTEXT_REF + slot] = *context as u64;
         }
         for (slot, context) in cpu.local.iter().enumerate() {
-            words[b::LOCAL + slot] = *context as u64;
+            words[b::LOCAL_WAKEUP_LIST + slot] = *context as u64;
         }
         for (slot, context) in cpu.ipi.iter().enumerate() {
-            words[b::IPI + slot] = *context as u64;
+            words[b::IPI_CONTEXT_WAKEUP_LIST + slot] = *context as u64;
         }
     }
 }

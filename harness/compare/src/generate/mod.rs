@@ -134,7 +134,7 @@ impl Stream {
             let held = machine.cpu[other].present() && self.rng.once_in(8);
             if held && other as u64 != call.cpu {
                 let at = View(&image).block_at(other);
-                image[at + b::RUN_QUEUE_LOCKED] = 1;
+                image[at + b::QUEUE_LOCKED] = 1;
             }
         }
         if kind == Kind::Damaged {

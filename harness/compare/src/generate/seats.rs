@@ -16,7 +16,7 @@ pub fn seats(rng: &mut Rng, scale: &Scale, machine: &mut Machine) {
             .filter(|context| {
                 let record = &machine.record[*context];
                 record[c::GONE] == 0
-                    && record[c::HAS_KEY] == 0
+                    && record[c::HAS_QUEUE_KEY] == 0
                     && record[c::CURRENTLY_SCHEDULED] == 0
             })
             .collect();
@@ -96,7 +96,7 @@ pub fn show(rng: &mut Rng, machine: &mut Machine) {
         } else {
             total
         };
-        cpu.word[b::SHOWN_WEIGHT] = if rng.once_in(16) {
+        cpu.word[b::PUBLISHED_WEIGHT] = if rng.once_in(16) {
             7
         } else {
             cpu.word[b::TOTAL_WEIGHT]

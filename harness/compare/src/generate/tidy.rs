@@ -124,7 +124,7 @@ fn cpu(rng: &mut Rng, scale: &Scale, number: usize, machine: &mut Machine) -> Cp
     ] {
         word[total] = rng.pick(&[0, 3, 1 << 40]);
     }
-    word[b::RUN_QUEUE_LOCKED] = rng.once_in(60).into();
+    word[b::QUEUE_LOCKED] = rng.once_in(60).into();
     word[b::V] = if number == 0 {
         scale.v
     } else {
@@ -181,9 +181,9 @@ fn place(rng: &mut Rng, scale: &Scale, machine: &mut Machine) {
 
 /// An entry that agrees with the record, which gets its key.
 pub fn entry(record: &mut [u64; c::WORDS], context: usize) -> Entry {
-    record[c::HAS_KEY] = 1;
-    record[c::KEY_VD] = record[c::VD];
-    record[c::KEY_REM_SLICE] = record[c::REM_SLICE];
+    record[c::HAS_QUEUE_KEY] = 1;
+    record[c::QUEUE_KEY_VD] = record[c::VD];
+    record[c::QUEUE_KEY_REM_SLICE] = record[c::REM_SLICE];
     Entry {
         vd: record[c::VD],
         rem_slice: record[c::REM_SLICE],

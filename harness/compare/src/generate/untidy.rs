@@ -89,9 +89,9 @@ fn key(rng: &mut Rng, scale: &Scale, machine: &mut Machine, at: usize, context: 
     };
     let has = !rng.once_in(3);
     let record = &mut machine.record[context];
-    record[c::HAS_KEY] = has.into();
-    record[c::KEY_VD] = if has { vd } else { 0 };
-    record[c::KEY_REM_SLICE] = if has { rem_slice } else { 0 };
+    record[c::HAS_QUEUE_KEY] = has.into();
+    record[c::QUEUE_KEY_VD] = if has { vd } else { 0 };
+    record[c::QUEUE_KEY_REM_SLICE] = if has { rem_slice } else { 0 };
 }
 
 /// A key on the one in charge, with or without an entry.
@@ -102,13 +102,13 @@ fn holder_key(rng: &mut Rng, scale: &Scale, machine: &mut Machine, at: usize) {
     }
     let vtime = scale.vtime(rng, false);
     let record = &mut machine.record[sched];
-    record[c::HAS_KEY] = 1;
-    record[c::KEY_VD] = scale.deadline(rng, vtime);
-    record[c::KEY_REM_SLICE] = values::slice(rng);
+    record[c::HAS_QUEUE_KEY] = 1;
+    record[c::QUEUE_KEY_VD] = scale.deadline(rng, vtime);
+    record[c::QUEUE_KEY_REM_SLICE] = values::slice(rng);
     if rng.once_in(2) {
         machine.cpu[at].queue.push(Entry {
-            vd: record[c::KEY_VD],
-            rem_slice: record[c::KEY_REM_SLICE],
+            vd: record[c::QUEUE_KEY_VD],
+            rem_slice: record[c::QUEUE_KEY_REM_SLICE],
             vtime,
             weight: 1024,
             context: sched,

@@ -160,9 +160,9 @@ fn queue(machine: &mut Machine, cpu: usize, context: usize, later: u64, vtime: u
     record[c::VTIME] = vtime;
     record[c::VD] = vd;
     record[c::IS_ACTIVE] = 1;
-    record[c::HAS_KEY] = 1;
-    record[c::KEY_VD] = vd;
-    record[c::KEY_REM_SLICE] = SLICE_MAX;
+    record[c::HAS_QUEUE_KEY] = 1;
+    record[c::QUEUE_KEY_VD] = vd;
+    record[c::QUEUE_KEY_REM_SLICE] = SLICE_MAX;
     let cpu = &mut machine.cpu[cpu];
     cpu.queue.push(Entry {
         vd,
@@ -174,5 +174,5 @@ fn queue(machine: &mut Machine, cpu: usize, context: usize, later: u64, vtime: u
     cpu.word[b::QUEUE_LEN] += 1;
     cpu.word[b::STEALABLE] = 1;
     cpu.word[b::TOTAL_WEIGHT] += 1024;
-    cpu.word[b::SHOWN_WEIGHT] = cpu.word[b::TOTAL_WEIGHT];
+    cpu.word[b::PUBLISHED_WEIGHT] = cpu.word[b::TOTAL_WEIGHT];
 }

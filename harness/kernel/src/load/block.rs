@@ -35,7 +35,7 @@ pub fn block(image: View, cpu: usize, slots: &[Slot]) -> Box<PercpuBlock> {
         .store(word(b::QUEUE_LEN) as usize, Ordering::Relaxed);
     state
         .total_weight
-        .store(word(b::SHOWN_WEIGHT), Ordering::Relaxed);
+        .store(word(b::PUBLISHED_WEIGHT), Ordering::Relaxed);
     state
         .steal_counter
         .store(word(b::STEAL_COUNTER) as usize, Ordering::Relaxed);
@@ -62,22 +62,22 @@ fn queue(image: View, cpu: usize, slots: &[Slot], made: &PercpuBlock) {
             queue.put_entry(Entry {
                 vd: word(b::KEY_VD + slot),
                 rem_slice: word(b::KEY_REM_SLICE + slot),
-                ctxt_id: word(b::KEY_ID + slot) as u32,
+                ctxt_id: word(b::KEY_CTXT_ID + slot) as u32,
                 vtime: word(b::ENTRY_VTIME + slot),
                 weight: word(b::ENTRY_WEIGHT + slot),
-                context: weak(b::ENTRY_CONTEXT + slot),
+                context: weak(b::ENTRY_CONTEXT_REF + slot),
             });
         }
         for slot in 0..word(b::TIMERS_COUNT) as usize {
             queue.put_timer(
                 word(b::TIMER_WAKE + slot).into(),
-                weak(b::TIMER_CONTEXT + slot),
+                weak(b::TIMER_CONTEXT_REF + slot),
             );
         }
     }
     made.switch_internals
         .run_queue
-        .set_held(word(b::RUN_QUEUE_LOCKED) == 1);
+        .set_held(word(b::QUEUE_LOCKED) == 1);
 }
 
 fn lists(image: View, cpu: usize, slots: &[Slot], made: &PercpuBlock) {
@@ -85,7 +85,7 @@ fn lists(image: View, cpu: usize, slots: &[Slot], made: &PercpuBlock) {
     let named = |place| WeakContextRef(slots[word(place) as usize].weak.clone());
     let mut local = made.switch_internals.local_wakeup_list.borrow_mut();
     for slot in 0..word(b::LOCAL_COUNT) as usize {
-        local.push(named(b::LOCAL + slot));
+        local.push(named(b::LOCAL_WAKEUP_LIST + slot));
     }
     let mut token = unsafe { CleanLockToken::new() };
     let mut ipi = made
@@ -93,6 +93,6 @@ fn lists(image: View, cpu: usize, slots: &[Slot], made: &PercpuBlock) {
         .ipi_context_wakeup_list
         .lock(token.token());
     for slot in 0..word(b::IPI_COUNT) as usize {
-        ipi.push(named(b::IPI + slot));
+        ipi.push(named(b::IPI_CONTEXT_WAKEUP_LIST + slot));
     }
 }

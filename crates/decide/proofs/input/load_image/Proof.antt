@@ -48,15 +48,4 @@ pub load-image-spec : {M : Type 1} → statement M
 load-image-spec =
     tie.close
     (tie.spec
-    Inv-loop
-    μ-loop
-    loop-holds
-    add-word
-    word-requires
-    mul-image
-    slice-write-image
-    add-i
-    loop-less
-    loop-again
-    same-length
-    returns)
+    Inv-loop μ-loop loop-holds add-word word-requires mul-image slice-write-image add-i loop-less loop-again same-length returns)

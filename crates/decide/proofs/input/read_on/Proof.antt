@@ -45,15 +45,4 @@ pub read-on-spec : {M : Type 1} → statement M
 read-on-spec =
     tie.close
     (tie.spec
-    Inv-loop
-    μ-loop
-    loop-holds
-    read-full-requires
-    same-length
-    returns
-    add-over
-    sub-turns
-    loop-less
-    loop-again
-    same-length-2
-    returns-2)
+    Inv-loop μ-loop loop-holds read-full-requires same-length returns add-over sub-turns loop-less loop-again same-length-2 returns-2)

@@ -1,6 +1,6 @@
 -- `handover::advancing::mark_stealable` meets its contract. Assumes nothing.
 use borrow.Author.Needs.{needs}
-use Rattle.decision.specs.Steal.{mark-stealable}
+use Rattle.model.specs.Steal.{mark-stealable}
 use Rattle.stages.proofs.Reading.{block-fits, stored-as}
 use Rattle.handover.proofs.Advanced.{stealable-as, stealable-fits}
 use Rattle.handover.proofs.advancing.mark_stealable.Statement.{statement}

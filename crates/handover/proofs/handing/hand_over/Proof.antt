@@ -27,9 +27,4 @@ pub hand-over-spec : {M : Type 1} → statement M
 hand-over-spec =
     tie.close
     (tie.spec
-    load-block-requires
-    index-requires
-    load-requires
-    hand-from-requires
-    same-length
-    returns)
+    load-block-requires index-requires load-requires hand-from-requires same-length returns)

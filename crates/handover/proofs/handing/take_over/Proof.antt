@@ -31,10 +31,4 @@ pub take-over-spec : {M : Type 1} → statement M
 take-over-spec =
     tie.close
     (tie.spec
-    load-requires
-    take-requires
-    store-context-requires
-    word-requires
-    store-block-requires
-    same-length
-    returns)
+    load-requires take-requires store-context-requires word-requires store-block-requires same-length returns)

@@ -27,9 +27,4 @@ pub requeue-spec : {M : Type 1} → statement M
 requeue-spec =
     tie.close
     (tie.spec
-    load-block-requires
-    index-requires
-    load-requires
-    requeue-context-requires
-    same-length
-    returns)
+    load-block-requires index-requires load-requires requeue-context-requires same-length returns)

@@ -33,11 +33,4 @@ pub settle-spec : {M : Type 1} → statement M
 settle-spec =
     tie.close
     (tie.spec
-    either-requires
-    advance-requires
-    send-back-requires
-    same-length
-    returns
-    mark-stealable-requires
-    same-length-2
-    returns-2)
+    either-requires advance-requires send-back-requires same-length returns mark-stealable-requires same-length-2 returns-2)

@@ -69,23 +69,4 @@ pub array-in-range-spec : {M : Type 1} → statement M
 array-in-range-spec =
     tie.close
     (tie.spec
-    counter-of-requires
-    mul-index
-    shared-slice-read-index
-    index-requires
-    mul-at
-    add-at
-    add-end
-    array-least-requires
-    mul-used
-    sub-used
-    part-used-start
-    part-used-end
-    used-requires
-    returns
-    mul-unused
-    sub-unused
-    part-unused-start
-    part-unused-end
-    unused-requires
-    returns-2)
+    counter-of-requires mul-index shared-slice-read-index index-requires mul-at add-at add-end array-least-requires mul-used sub-used part-used-start part-used-end used-requires returns mul-unused sub-unused part-unused-start part-unused-end unused-requires returns-2)

@@ -1,4 +1,4 @@
-use Rattle.image.specs.Ranges.{array-most, array-in-range}
+use Rattle.image.specs.Ranges.{array-most, array-in-range, array-most-to}
 use Rattle.columns.proofs.Tests.{every-none, every-next, every-no, every-end}
 use Rattle.columns.specs.Common.{every}
 use borrow.Author.Tests.{not-true, not-false}
@@ -21,7 +21,7 @@ sub-last : tie.Need-sub-last Inv-loop μ-loop
 sub-last c = search needs
 
 loop-holds : tie.Need-loop-holds Inv-loop μ-loop
-unfolding array-most
+unfolding array-most-to
 loop-holds c = (omega arith, refl, every-none _)
 
 mul-array-in-range : tie.Need-mul-array-in-range Inv-loop μ-loop
@@ -52,15 +52,4 @@ pub arrays-in-range-spec : {M : Type 1} → statement M
 arrays-in-range-spec =
     tie.close
     (tie.spec
-    Inv-loop
-    μ-loop
-    sub-last
-    loop-holds
-    mul-array-in-range
-    array-read-array-in-range
-    array-in-range-requires
-    returns
-    add-j
-    loop-less
-    loop-again
-    returns-2)
+    Inv-loop μ-loop sub-last loop-holds mul-array-in-range array-read-array-in-range array-in-range-requires returns add-j loop-less loop-again returns-2)

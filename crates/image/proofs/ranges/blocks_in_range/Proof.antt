@@ -1,5 +1,5 @@
 use Rattle.image.proofs.Checked.{block-lent}
-use Rattle.image.specs.Ranges.{block-in-range, blocks-in-range}
+use Rattle.image.specs.Ranges.{block-in-range, blocks-in-range, blocks-in-range-to}
 use Rattle.machine.specs.Encode.{cpu-place}
 use Rattle.columns.specs.Blocks.{part}
 use Rattle.columns.proofs.Tests.{every-none, every-next, every-no, every-end}
@@ -12,9 +12,10 @@ use borrow.Author.Needs.{needs}
 use native.Mathlib.Omega.{arith}
 use Rattle.image.proofs.ranges.blocks_in_range.Statement.{statement}
 use Rattle.image.proofs.ranges.blocks_in_range.Tie as tie
+use Rattle.percpu.specs.Places.{block-size}
 
 abbrev Inv-loop : tie.InvT-loop
-Inv-loop m c n names k₀ k = (k ≤ c) × (every (λ (j : ℕ). block-in-range n (part m (cpu-place n j) 665)) k ≡ true)
+Inv-loop m c n names k₀ k = (k ≤ c) × (every (λ (j : ℕ). block-in-range n (part m (cpu-place n j) block-size)) k ≡ true)
 
 abbrev μ-loop : tie.MeasureT-loop
 μ-loop m c n names k₀ k = c - k
@@ -25,17 +26,8 @@ word-requires c κs = search needs
 loop-holds : tie.Need-loop-holds Inv-loop μ-loop
 loop-holds c = (omega arith, every-none _)
 
-mul-at : tie.Need-mul-at Inv-loop μ-loop
-mul-at c = search needs
-
-add-at : tie.Need-add-at Inv-loop μ-loop
-add-at c = search needs
-
-mul-at-2 : tie.Need-mul-at-2 Inv-loop μ-loop
-mul-at-2 c = search needs
-
-add-at-2 : tie.Need-add-at-2 Inv-loop μ-loop
-add-at-2 c = search needs
+cpu-place-requires : tie.Need-cpu-place-requires Inv-loop μ-loop
+cpu-place-requires c κs = search needs
 
 add-end : tie.Need-add-end Inv-loop μ-loop
 add-end c = search needs
@@ -56,8 +48,8 @@ block-in-range-requires : tie.Need-block-in-range-requires Inv-loop μ-loop
 block-in-range-requires c κs = search needs
 
 returns : tie.Need-returns Inv-loop μ-loop
-unfolding blocks-in-range
-returns c = sym (every-no _ _ _ (c .before .before .before .loop-test .taken) (sym (block-lent _ _ _ _ (c .before .before .before .before .before .word .ensures) (c .before .block-in-range .ensures)) ∙ not-true _ (c .if1 .taken)))
+unfolding blocks-in-range-to
+returns c = sym (every-no _ _ _ (c .before .before .before .before .loop-test .taken) (sym (block-lent _ _ _ _ (c .before .before .before .cpu-place .ensures) (c .before .before .before .before .before .before .word .ensures) (c .before .block-in-range .ensures)) ∙ not-true _ (c .if1 .taken)))
 
 add-k : tie.Need-add-k Inv-loop μ-loop
 add-k c = search needs
@@ -66,32 +58,14 @@ loop-less : tie.Need-loop-less Inv-loop μ-loop
 loop-less c = search needs
 
 loop-again : tie.Need-loop-again Inv-loop μ-loop
-loop-again c = (omega arith, every-next _ _ (c .before .before .before .before .loop .inv .1) (sym (block-lent _ _ _ _ (c .before .before .before .before .before .word .ensures) (c .before .block-in-range .ensures)) ∙ not-false _ (c .if1 .left)))
+loop-again c = (omega arith, every-next _ _ (c .before .before .before .before .before .loop .inv .1) (sym (block-lent _ _ _ _ (c .before .before .before .cpu-place .ensures) (c .before .before .before .before .before .before .word .ensures) (c .before .block-in-range .ensures)) ∙ not-false _ (c .if1 .left)))
 
 returns-2 : tie.Need-returns-2 Inv-loop μ-loop
-unfolding blocks-in-range
+unfolding blocks-in-range-to
 returns-2 c = every-end _ _ _ (c .loop-test .left) (c .before .loop .inv .0) (c .before .loop .inv .1)
 
 pub blocks-in-range-spec : {M : Type 1} → statement M
 blocks-in-range-spec =
     tie.close
     (tie.spec
-    Inv-loop
-    μ-loop
-    word-requires
-    loop-holds
-    mul-at
-    add-at
-    mul-at-2
-    add-at-2
-    add-end
-    mul-block-in-range
-    sub-block-in-range
-    part-block-in-range-start
-    part-block-in-range-end
-    block-in-range-requires
-    returns
-    add-k
-    loop-less
-    loop-again
-    returns-2)
+    Inv-loop μ-loop word-requires loop-holds cpu-place-requires add-end mul-block-in-range sub-block-in-range part-block-in-range-start part-block-in-range-end block-in-range-requires returns add-k loop-less loop-again returns-2)

@@ -49,14 +49,4 @@ pub unused-spec : {M : Type 1} → statement M
 unused-spec =
     tie.close
     (tie.spec
-    Inv-loop
-    μ-loop
-    loop-holds
-    sub-loop
-    add-all
-    mul-all
-    shared-slice-read-all
-    add-i
-    loop-less
-    loop-again
-    returns)
+    Inv-loop μ-loop loop-holds sub-loop add-all mul-all shared-slice-read-all add-i loop-less loop-again returns)

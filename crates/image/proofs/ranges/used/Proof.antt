@@ -52,14 +52,4 @@ pub used-spec : {M : Type 1} → statement M
 used-spec =
     tie.close
     (tie.spec
-    Inv-loop
-    μ-loop
-    loop-holds
-    mul-x
-    shared-slice-read-x
-    returns
-    returns-2
-    add-i
-    loop-less
-    loop-again
-    returns-3)
+    Inv-loop μ-loop loop-holds mul-x shared-slice-read-x returns returns-2 add-i loop-less loop-again returns-3)

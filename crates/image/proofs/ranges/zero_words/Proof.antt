@@ -43,12 +43,4 @@ pub zero-words-spec : {M : Type 1} → statement M
 zero-words-spec =
     tie.close
     (tie.spec
-    Inv-loop
-    μ-loop
-    loop-holds
-    mul-all
-    shared-slice-read-all
-    add-i
-    loop-less
-    loop-again
-    returns)
+    Inv-loop μ-loop loop-holds mul-all shared-slice-read-all add-i loop-less loop-again returns)

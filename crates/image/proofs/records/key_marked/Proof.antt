@@ -30,9 +30,4 @@ pub key-marked-spec : {M : Type 1} → statement M
 key-marked-spec =
     tie.close
     (tie.spec
-    shared-slice-read-if1
-    returns
-    shared-slice-read-if2
-    shared-slice-read-result
-    returns-2
-    returns-3)
+    shared-slice-read-if1 returns shared-slice-read-if2 shared-slice-read-result returns-2 returns-3)

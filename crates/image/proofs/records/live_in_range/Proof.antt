@@ -71,24 +71,4 @@ pub live-in-range-spec : {M : Type 1} → statement M
 live-in-range-spec =
     tie.close
     (tie.spec
-    shared-slice-read-marks
-    shared-slice-read-marks-2
-    shared-slice-read-marks-3
-    shared-slice-read-marks-4
-    shared-slice-read-marks-5
-    shared-slice-read-marks-6
-    shared-slice-read-marks-7
-    shared-slice-read-marks-8
-    shared-slice-read-marks-9
-    returns
-    shared-slice-read-numbers
-    shared-slice-read-numbers-2
-    shared-slice-read-numbers-3
-    shared-slice-read-numbers-4
-    shared-slice-read-numbers-5
-    shared-slice-read-numbers-6
-    shared-slice-read-numbers-7
-    shared-slice-read-numbers-8
-    returns-2
-    single-words-requires
-    returns-3)
+    shared-slice-read-marks shared-slice-read-marks-2 shared-slice-read-marks-3 shared-slice-read-marks-4 shared-slice-read-marks-5 shared-slice-read-marks-6 shared-slice-read-marks-7 shared-slice-read-marks-8 shared-slice-read-marks-9 returns shared-slice-read-numbers shared-slice-read-numbers-2 shared-slice-read-numbers-3 shared-slice-read-numbers-4 shared-slice-read-numbers-5 shared-slice-read-numbers-6 shared-slice-read-numbers-7 shared-slice-read-numbers-8 returns-2 single-words-requires returns-3)

@@ -72,21 +72,4 @@ pub single-words-spec : {M : Type 1} → statement M
 single-words-spec =
     tie.close
     (tie.spec
-    shared-slice-read-if1
-    returns
-    shared-slice-read-if2
-    returns-2
-    shared-slice-read-if3
-    returns-3
-    shared-slice-read-if4
-    returns-4
-    shared-slice-read-if5
-    returns-5
-    shared-slice-read-if6
-    returns-6
-    shared-slice-read-if7
-    returns-7
-    shared-slice-read-if8
-    returns-8
-    shared-slice-read-result
-    returns-9)
+    shared-slice-read-if1 returns shared-slice-read-if2 returns-2 shared-slice-read-if3 returns-3 shared-slice-read-if4 returns-4 shared-slice-read-if5 returns-5 shared-slice-read-if6 returns-6 shared-slice-read-if7 returns-7 shared-slice-read-if8 returns-8 shared-slice-read-result returns-9)

@@ -60,17 +60,4 @@ pub block-structure-spec : {M : Type 1} → statement M
 block-structure-spec =
     tie.close
     (tie.spec
-    shared-slice-read-if1
-    returns
-    names-live-requires
-    returns-2
-    entry-ids-requires
-    returns-3
-    shared-slice-read-index
-    index-requires
-    rises-requires
-    returns-4
-    shared-slice-read-index-2
-    index-requires-2
-    rises-requires-2
-    returns-5)
+    shared-slice-read-if1 returns names-live-requires returns-2 entry-ids-requires returns-3 shared-slice-read-index index-requires rises-requires returns-4 shared-slice-read-index-2 index-requires-2 rises-requires-2 returns-5)

@@ -12,9 +12,10 @@ use borrow.Author.Needs.{needs}
 use native.Mathlib.Omega.{arith}
 use Rattle.image.proofs.structure.entry_ids.Statement.{statement}
 use Rattle.image.proofs.structure.entry_ids.Tie as tie
+use Rattle.percpu.specs.Places.{key-ctxt-id-column, entry-context-ref-column}
 
 abbrev Inv-loop : tie.InvT-loop
-Inv-loop m b n k i₀ i = (i ≤ k) × (k ≡ getD b 21 0) × (k ≤ 64) × (every (λ (j : ℕ). eqb (getD b (153 + j) 0) (id-of m (getD b (345 + j) 0))) i ≡ true)
+Inv-loop m b n k i₀ i = (i ≤ k) × (k ≡ getD b 21 0) × (k ≤ 64) × (every (λ (j : ℕ). eqb (getD b (key-ctxt-id-column + j) 0) (id-of m (getD b (entry-context-ref-column + j) 0))) i ≡ true)
 
 abbrev μ-loop : tie.MeasureT-loop
 μ-loop m b n k i₀ i = k - i
@@ -73,21 +74,4 @@ pub entry-ids-spec : {M : Type 1} → statement M
 entry-ids-spec =
     tie.close
     (tie.spec
-    Inv-loop
-    μ-loop
-    shared-slice-read-index
-    index-requires
-    loop-holds
-    add-index
-    mul-index
-    shared-slice-read-index-2
-    index-requires-2
-    add-if1
-    mul-if1
-    shared-slice-read-if1
-    id-of-requires
-    returns
-    add-i
-    loop-less
-    loop-again
-    returns-2)
+    Inv-loop μ-loop shared-slice-read-index index-requires loop-holds add-index mul-index shared-slice-read-index-2 index-requires-2 add-if1 mul-if1 shared-slice-read-if1 id-of-requires returns add-i loop-less loop-again returns-2)

@@ -4,14 +4,11 @@ use borrow.Author.Needs.{needs}
 use Rattle.image.proofs.structure.id_of.Statement.{statement}
 use Rattle.image.proofs.structure.id_of.Tie as tie
 
-mul-at : tie.Need-mul-at
-mul-at c = search needs
+context-place-requires : tie.Need-context-place-requires
+context-place-requires c κs = search needs
 
 add-at : tie.Need-add-at
 add-at c = search needs
-
-add-at-2 : tie.Need-add-at-2
-add-at-2 c = search needs
 
 mul-result : tie.Need-mul-result
 mul-result c = search needs
@@ -21,8 +18,8 @@ shared-slice-read-result c = search needs
 
 returns : tie.Need-returns
 unfolding id-of
-returns c = refl
+returns c = rw (c .before .context-place .ensures)
 
 pub id-of-spec : {M : Type 1} → statement M
 id-of-spec =
-    tie.close (tie.spec mul-at add-at add-at-2 mul-result shared-slice-read-result returns)
+    tie.close (tie.spec context-place-requires add-at mul-result shared-slice-read-result returns)

@@ -59,16 +59,4 @@ pub ids-differ-spec : {M : Type 1} → statement M
 ids-differ-spec =
     tie.close
     (tie.spec
-    Inv-loop
-    μ-loop
-    loop-holds
-    id-of-requires
-    index-requires
-    array-read-is-new-if
-    is-new-if-requires
-    returns
-    array-write-seen
-    add-y
-    loop-less
-    loop-again
-    returns-2)
+    Inv-loop μ-loop loop-holds id-of-requires index-requires array-read-is-new-if is-new-if-requires returns array-write-seen add-y loop-less loop-again returns-2)

@@ -7,11 +7,8 @@ use Rattle.image.proofs.structure.is_live.Tie as tie
 index-requires : tie.Need-index-requires
 index-requires c κs = search needs
 
-mul-at : tie.Need-mul-at
-mul-at c = search needs
-
-add-at : tie.Need-add-at
-add-at c = search needs
+context-place-requires : tie.Need-context-place-requires
+context-place-requires c κs = search needs
 
 mul-result : tie.Need-mul-result
 mul-result c = search needs
@@ -21,8 +18,8 @@ shared-slice-read-result c = search needs
 
 returns : tie.Need-returns
 unfolding is-live
-returns c = rw (c .before .index .ensures)
+returns c = rw (c .before .context-place .ensures, c .before .before .index .ensures)
 
 pub is-live-spec : {M : Type 1} → statement M
 is-live-spec =
-    tie.close (tie.spec index-requires mul-at add-at mul-result shared-slice-read-result returns)
+    tie.close (tie.spec index-requires context-place-requires mul-result shared-slice-read-result returns)

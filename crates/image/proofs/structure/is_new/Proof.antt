@@ -47,13 +47,4 @@ pub is-new-spec : {M : Type 1} → statement M
 is-new-spec =
     tie.close
     (tie.spec
-    Inv-loop
-    μ-loop
-    id-of-requires
-    loop-holds
-    id-of-requires-2
-    returns
-    add-x
-    loop-less
-    loop-again
-    returns-2)
+    Inv-loop μ-loop id-of-requires loop-holds id-of-requires-2 returns add-x loop-less loop-again returns-2)

@@ -42,12 +42,4 @@ pub names-live-spec : {M : Type 1} → statement M
 names-live-spec =
     tie.close
     (tie.spec
-    shared-slice-read-is-live
-    is-live-requires
-    returns
-    shared-slice-read-is-live-2
-    is-live-requires-2
-    returns-2
-    shared-slice-read-is-live-3
-    is-live-requires-3
-    returns-3)
+    shared-slice-read-is-live is-live-requires returns shared-slice-read-is-live-2 is-live-requires-2 returns-2 shared-slice-read-is-live-3 is-live-requires-3 returns-3)

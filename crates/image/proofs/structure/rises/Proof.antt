@@ -1,7 +1,7 @@
 use Rattle.image.proofs.Structured.{neighbours}
 use Rattle.image.specs.Rises.{rises}
 use Rattle.table.specs.Keys.{key-at}
-use Rattle.run_queue.specs.Order.{before}
+use Rattle.entries.specs.Order.{before}
 use Rattle.columns.proofs.Tests.{every-none, every-next, every-no, every-end}
 use Rattle.columns.specs.Common.{every}
 use borrow.Author.Tests.{not-true, not-false}
@@ -58,16 +58,4 @@ pub rises-spec : {M : Type 1} → statement M
 rises-spec =
     tie.close
     (tie.spec
-    Inv-loop
-    μ-loop
-    key-requires
-    loop-holds
-    add-loop
-    add-key
-    key-requires-2
-    before-requires
-    returns
-    add-i
-    loop-less
-    loop-again
-    returns-2)
+    Inv-loop μ-loop key-requires loop-holds add-loop add-key key-requires-2 before-requires returns add-i loop-less loop-again returns-2)

@@ -12,9 +12,10 @@ use borrow.Author.Needs.{needs}
 use native.Mathlib.Omega.{arith}
 use Rattle.image.proofs.structure.structure.Statement.{statement}
 use Rattle.image.proofs.structure.structure.Tie as tie
+use Rattle.percpu.specs.Places.{block-size}
 
 abbrev Inv-loop : tie.InvT-loop
-Inv-loop m c n names k₀ k = (k ≤ c) × (every (λ (j : ℕ). block-structure m (part m (cpu-place n j) 665)) k ≡ true)
+Inv-loop m c n names k₀ k = (k ≤ c) × (every (λ (j : ℕ). block-structure m (part m (cpu-place n j) block-size)) k ≡ true)
 
 abbrev μ-loop : tie.MeasureT-loop
 μ-loop m c n names k₀ k = c - k
@@ -32,17 +33,8 @@ word-requires c κs = search needs
 loop-holds : tie.Need-loop-holds Inv-loop μ-loop
 loop-holds c = (omega arith, every-none _)
 
-mul-at : tie.Need-mul-at Inv-loop μ-loop
-mul-at c = search needs
-
-add-at : tie.Need-add-at Inv-loop μ-loop
-add-at c = search needs
-
-mul-at-2 : tie.Need-mul-at-2 Inv-loop μ-loop
-mul-at-2 c = search needs
-
-add-at-2 : tie.Need-add-at-2 Inv-loop μ-loop
-add-at-2 c = search needs
+cpu-place-requires : tie.Need-cpu-place-requires Inv-loop μ-loop
+cpu-place-requires c κs = search needs
 
 add-end : tie.Need-add-end Inv-loop μ-loop
 add-end c = search needs
@@ -60,11 +52,11 @@ part-block-structure-end : tie.Need-part-block-structure-end Inv-loop μ-loop
 part-block-structure-end c = search needs
 
 block-structure-requires : tie.Need-block-structure-requires Inv-loop μ-loop
-block-structure-requires c κs = ((omega (arith, c .before .before .before .word .ensures), omega (arith, c .before .before .before .word .ensures), omega (arith, c .before .before .before .word .ensures), search needs), lent-in-range _ _ _ _ _ (c .before .before .before .word .ensures) (c .before .loop-test .taken) (c .before .before .before .before .before .before .before .pre .1))
+block-structure-requires c κs = ((omega (arith, c .before .before .before .before .word .ensures), omega (arith, c .before .before .before .before .word .ensures), omega (arith, c .before .before .before .before .word .ensures), search needs), lent-in-range _ _ _ _ _ (c .before .cpu-place .ensures) (c .before .before .before .before .word .ensures) (c .before .before .loop-test .taken) (c .before .before .before .before .before .before .before .before .pre .1))
 
 returns-2 : tie.Need-returns-2 Inv-loop μ-loop
 unfolding structure
-returns-2 c = rw (sym (c .before .before .before .before .before .before .before .ids-differ .ensures) ∙ not-false _ (c .before .before .before .before .before .before .if1 .left)) (sym (every-no _ _ _ (c .before .before .before .loop-test .taken) (sym (lent-structure (c .before .before .before .before .before .before .before .before .before .args .c) _ _ _ _ (c .before .before .before .before .before .word .ensures) (c .before .block-structure .ensures)) ∙ not-true _ (c .if2 .taken))))
+returns-2 c = rw (sym (c .before .before .before .before .before .before .before .before .ids-differ .ensures) ∙ not-false _ (c .before .before .before .before .before .before .before .if1 .left)) (sym (every-no _ _ _ (c .before .before .before .before .loop-test .taken) (sym (lent-structure (c .before .before .before .before .before .before .before .before .before .before .args .c) _ _ _ _ (c .before .before .before .cpu-place .ensures) (c .before .before .before .before .before .before .word .ensures) (c .before .block-structure .ensures)) ∙ not-true _ (c .if2 .taken))))
 
 add-k : tie.Need-add-k Inv-loop μ-loop
 add-k c = search needs
@@ -73,7 +65,7 @@ loop-less : tie.Need-loop-less Inv-loop μ-loop
 loop-less c = search needs
 
 loop-again : tie.Need-loop-again Inv-loop μ-loop
-loop-again c = (omega arith, every-next _ _ (c .before .before .before .before .loop .inv .1) (sym (lent-structure (c .before .before .before .before .before .before .before .before .before .args .c) _ _ _ _ (c .before .before .before .before .before .word .ensures) (c .before .block-structure .ensures)) ∙ not-false _ (c .if2 .left)))
+loop-again c = (omega arith, every-next _ _ (c .before .before .before .before .before .loop .inv .1) (sym (lent-structure (c .before .before .before .before .before .before .before .before .before .before .args .c) _ _ _ _ (c .before .before .before .cpu-place .ensures) (c .before .before .before .before .before .before .word .ensures) (c .before .block-structure .ensures)) ∙ not-false _ (c .if2 .left)))
 
 returns-3 : tie.Need-returns-3 Inv-loop μ-loop
 unfolding structure
@@ -83,24 +75,4 @@ pub structure-spec : {M : Type 1} → statement M
 structure-spec =
     tie.close
     (tie.spec
-    Inv-loop
-    μ-loop
-    ids-differ-requires
-    returns
-    word-requires
-    loop-holds
-    mul-at
-    add-at
-    mul-at-2
-    add-at-2
-    add-end
-    mul-block-structure
-    sub-block-structure
-    part-block-structure-start
-    part-block-structure-end
-    block-structure-requires
-    returns-2
-    add-k
-    loop-less
-    loop-again
-    returns-3)
+    Inv-loop μ-loop ids-differ-requires returns word-requires loop-holds cpu-place-requires add-end mul-block-structure sub-block-structure part-block-structure-start part-block-structure-end block-structure-requires returns-2 add-k loop-less loop-again returns-3)

@@ -35,11 +35,4 @@ pub begin-spec : {M : Type 1} → statement M
 begin-spec =
     tie.close
     (tie.spec
-    count-switch-requires
-    slice-aggregate-serve-wakeups
-    serve-wakeups-requires
-    same-length
-    returns
-    times-requires
-    same-length-2
-    returns-2)
+    count-switch-requires slice-aggregate-serve-wakeups serve-wakeups-requires same-length returns times-requires same-length-2 returns-2)

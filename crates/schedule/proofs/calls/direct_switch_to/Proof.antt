@@ -60,18 +60,4 @@ pub direct-switch-to-spec : {M : Type 1} → statement M
 direct-switch-to-spec =
     tie.close
     (tie.spec
-    load-block-requires
-    word-requires
-    same-length
-    returns
-    direct-switch-by-requires
-    enum-told
-    enum-told-2
-    enum-told-3
-    switch-inner-requires
-    same-length-2
-    returns-2
-    same-length-3
-    returns-3
-    same-length-4
-    returns-4)
+    load-block-requires word-requires same-length returns direct-switch-by-requires enum-told enum-told-2 enum-told-3 switch-inner-requires same-length-2 returns-2 same-length-3 returns-3 same-length-4 returns-4)

@@ -27,9 +27,4 @@ pub tick-spec : {M : Type 1} → statement M
 tick-spec =
     tie.close
     (tie.spec
-    count-tick-requires
-    same-length
-    returns
-    switch-inner-requires
-    same-length-2
-    returns-2)
+    count-tick-requires same-length returns switch-inner-requires same-length-2 returns-2)

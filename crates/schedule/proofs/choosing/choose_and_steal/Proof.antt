@@ -30,10 +30,4 @@ pub choose-and-steal-spec : {M : Type 1} → statement M
 choose-and-steal-spec =
     tie.close
     (tie.spec
-    load-block-requires
-    slice-aggregate-select
-    select-requires
-    index-requires
-    steal-requires
-    same-length
-    returns)
+    load-block-requires slice-aggregate-select select-requires index-requires steal-requires same-length returns)

@@ -27,9 +27,4 @@ pub prev-runnable-spec : {M : Type 1} → statement M
 prev-runnable-spec =
     tie.close
     (tie.spec
-    load-block-requires
-    returns
-    index-requires
-    load-requires
-    is-runnable-requires
-    returns-2)
+    load-block-requires returns index-requires load-requires is-runnable-requires returns-2)

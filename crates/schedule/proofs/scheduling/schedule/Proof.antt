@@ -44,14 +44,4 @@ pub schedule-spec : {M : Type 1} → statement M
 schedule-spec =
     tie.close
     (tie.spec
-    begin-requires
-    no-room-requires
-    same-length
-    returns
-    select-next-context-requires
-    no-room-requires-2
-    same-length-2
-    returns-2
-    hand-over-requires
-    same-length-3
-    returns-3)
+    begin-requires no-room-requires same-length returns select-next-context-requires no-room-requires-2 same-length-2 returns-2 hand-over-requires same-length-3 returns-3)

@@ -32,10 +32,4 @@ pub select-next-context-spec : {M : Type 1} → statement M
 select-next-context-spec =
     tie.close
     (tie.spec
-    charge-holder-requires
-    no-room-requires
-    same-length
-    returns
-    selected-requires
-    same-length-2
-    returns-2)
+    charge-holder-requires no-room-requires same-length returns selected-requires same-length-2 returns-2)

@@ -31,9 +31,4 @@ pub mark-idle-spec : {M : Type 1} → statement M
 mark-idle-spec =
     tie.close
     (tie.spec
-    load-block-requires
-    update-requires
-    with-stats-requires
-    store-block-requires
-    same-length
-    returns)
+    load-block-requires update-requires with-stats-requires store-block-requires same-length returns)

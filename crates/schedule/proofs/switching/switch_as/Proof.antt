@@ -34,11 +34,4 @@ pub switch-as-spec : {M : Type 1} → statement M
 switch-as-spec =
     tie.close
     (tie.spec
-    enum-told
-    mark-idle-requires
-    enum-known-picked
-    switch-unless-current-requires
-    same-length
-    returns
-    same-length-2
-    returns-2)
+    enum-told mark-idle-requires enum-known-picked switch-unless-current-requires same-length returns same-length-2 returns-2)

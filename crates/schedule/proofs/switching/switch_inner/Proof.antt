@@ -1,6 +1,6 @@
 -- `schedule::switching::switch_inner` meets its contract. Assumes nothing.
 use mathlib.Core.Path.{refl}
-use Rattle.decision.specs.SwitchTo.{try-direct-switch-back}
+use Rattle.model.specs.SwitchTo.{try-direct-switch-back}
 use Rattle.switch_to.specs.declared.direct.DirectSwitch.the-variants.{NotSwitched, Switched, NoRoom}
 use Rattle.schedule.proofs.Inner.{back-ranged, direct-is, begin-again, switched-back, no-room-back, not-back}
 use borrow.Author.Needs.{needs}
@@ -44,14 +44,4 @@ pub switch-inner-spec : {M : Type 1} → statement M
 switch-inner-spec =
     tie.close
     (tie.spec
-    try-direct-switch-back-requires
-    enum-told
-    enum-told-2
-    enum-told-3
-    decide-requires
-    same-length
-    returns
-    same-length-2
-    returns-2
-    same-length-3
-    returns-3)
+    try-direct-switch-back-requires enum-told enum-told-2 enum-told-3 decide-requires same-length returns same-length-2 returns-2 same-length-3 returns-3)

@@ -30,10 +30,4 @@ pub switch-unless-current-spec : {M : Type 1} → statement M
 switch-unless-current-spec =
     tie.close
     (tie.spec
-    load-block-requires
-    word-requires
-    same-length
-    returns
-    switch-to-requires
-    same-length-2
-    returns-2)
+    load-block-requires word-requires same-length returns switch-to-requires same-length-2 returns-2)

@@ -32,11 +32,4 @@ pub choose-spec : {M : Type 1} → statement M
 choose-spec =
     tie.close
     (tie.spec
-    enum-told
-    without-entry-requires
-    enum-known-best
-    index-requires
-    load-requires
-    against-requires
-    returns
-    returns-2)
+    enum-told without-entry-requires enum-known-best index-requires load-requires against-requires returns returns-2)

@@ -33,11 +33,4 @@ pub without-entry-spec : {M : Type 1} → statement M
 without-entry-spec =
     tie.close
     (tie.spec
-    locked-requires
-    returns
-    enum-told
-    alone-requires
-    enum-known-late
-    least-requires
-    returns-2
-    returns-3)
+    locked-requires returns enum-told alone-requires enum-known-late least-requires returns-2 returns-3)

@@ -29,10 +29,4 @@ pub clean-up-spec : {M : Type 1} → statement M
 clean-up-spec =
     tie.close
     (tie.spec
-    load-block-requires
-    queue-len-requires
-    lightened-requires
-    store-block-requires
-    remove-keys-requires
-    same-length
-    returns)
+    load-block-requires queue-len-requires lightened-requires store-block-requires remove-keys-requires same-length returns)

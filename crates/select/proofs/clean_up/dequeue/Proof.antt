@@ -13,8 +13,8 @@ without-key-requires c κs = search needs
 store-context-requires : tie.Need-store-context-requires
 store-context-requires c κs = (c .before .before .before .before .before .before .pre .0, ((c .before .before .before .before .before .before .pre .1 .0, c .before .before .before .before .before .before .pre .1 .1), without-fits _ _ (c .before .before .before .before .before .before .pre .1 .0) (c .before .before .before .before .before .before .pre .0) (c .before .before .before .before .before .before .pre .1 .1) (c .before .before .before .load .ensures) (c .before .without-key .ensures)))
 
-key-of-context-requires : tie.Need-key-of-context-requires
-key-of-context-requires c κs = search needs
+queue-key-requires : tie.Need-queue-key-requires
+queue-key-requires c κs = search needs
 
 remove-key-requires : tie.Need-remove-key-requires
 remove-key-requires c κs = (c .before .before .before .before .store-context .ensures .image refl, c .before .before .before .before .before .before .before .before .before .before .before .pre .1 .0)
@@ -23,7 +23,7 @@ same-length : tie.Need-same-length
 same-length c = search needs
 
 returns : tie.Need-returns
-returns c = dequeued-key _ _ (c .before .before .before .before .before .before .before .before .before .before .before .before .before .before .pre .1 .0) (c .before .before .before .before .before .before .before .before .before .before .before .before .before .before .pre .0) (c .before .before .before .before .before .before .before .before .before .before .before .before .before .before .pre .1 .1) (c .before .before .before .before .before .before .before .before .before .before .before .load .ensures) (c .before .before .before .before .before .before .before .before .before .before .if1 .taken) (c .before .before .before .before .before .before .before .before .before .without-key .ensures) (c .before .before .before .before .key-of-context .ensures) (c .before .before .before .before .before .before .before .store-context .ensures) (c .before .before .remove-key .ensures)
+returns c = dequeued-key _ _ (c .before .before .before .before .before .before .before .before .before .before .before .before .before .before .pre .1 .0) (c .before .before .before .before .before .before .before .before .before .before .before .before .before .before .pre .0) (c .before .before .before .before .before .before .before .before .before .before .before .before .before .before .pre .1 .1) (c .before .before .before .before .before .before .before .before .before .before .before .load .ensures) (c .before .before .before .before .before .before .before .before .before .before .if1 .taken) (c .before .before .before .before .before .before .before .before .before .without-key .ensures) (c .before .before .before .before .queue-key .ensures) (c .before .before .before .before .before .before .before .store-context .ensures) (c .before .before .remove-key .ensures)
 
 same-length-2 : tie.Need-same-length-2
 same-length-2 c = search needs
@@ -35,12 +35,4 @@ pub dequeue-spec : {M : Type 1} → statement M
 dequeue-spec =
     tie.close
     (tie.spec
-    load-requires
-    without-key-requires
-    store-context-requires
-    key-of-context-requires
-    remove-key-requires
-    same-length
-    returns
-    same-length-2
-    returns-2)
+    load-requires without-key-requires store-context-requires queue-key-requires remove-key-requires same-length returns same-length-2 returns-2)

@@ -40,13 +40,4 @@ pub remove-keys-spec : {M : Type 1} → statement M
 remove-keys-spec =
     tie.close
     (tie.spec
-    Inv-loop
-    μ-loop
-    loop-holds
-    key-of-requires
-    remove-key-requires
-    add-j
-    loop-less
-    loop-again
-    same-length
-    returns)
+    Inv-loop μ-loop loop-holds key-of-requires remove-key-requires add-j loop-less loop-again same-length returns)

@@ -1,4 +1,4 @@
-use Rattle.decision.specs.Scan.{blocked}
+use Rattle.model.specs.Scan.{blocked}
 use mathlib.Core.Path.{_∙_, ap}
 use borrow.Author.Tests.{eq-eqb, ne-eqb}
 use Rattle.select.proofs.Judging.{in-use, free, judge-idle, judge-sched, judge-locked, judge-update}
@@ -46,15 +46,4 @@ pub judged-spec : {M : Type 1} → statement M
 judged-spec =
     tie.close
     (tie.spec
-    returns
-    returns-2
-    returns-3
-    update-runnable-requires
-    enum-told
-    enum-told-2
-    deactivated-requires
-    enum-known-u
-    returns-4
-    returns-5
-    returns-6
-    returns-7)
+    returns returns-2 returns-3 update-runnable-requires enum-told enum-told-2 deactivated-requires enum-known-u returns-4 returns-5 returns-6 returns-7)

@@ -1,4 +1,4 @@
-use Rattle.decision.specs.State.{state-of}
+use Rattle.model.specs.State.{state-of}
 use Rattle.select.proofs.Selecting.{holder-at}
 use borrow.Author.Needs.{needs}
 use Rattle.select.proofs.read.holder.Statement.{statement}

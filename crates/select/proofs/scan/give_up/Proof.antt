@@ -49,16 +49,4 @@ pub give-up-spec : {M : Type 1} → statement M
 give-up-spec =
     tie.close
     (tie.spec
-    mul-at
-    mul-d
-    slice-write-d
-    add-d
-    mul-d-2
-    slice-write-d-2
-    add-d-2
-    mul-d-3
-    slice-write-d-3
-    add-t14
-    add-t9
-    same-length
-    returns)
+    mul-at mul-d slice-write-d add-d mul-d-2 slice-write-d-2 add-d-2 mul-d-3 slice-write-d-3 add-t14 add-t9 same-length returns)

@@ -33,11 +33,4 @@ pub give-up-blocked-spec : {M : Type 1} → statement M
 give-up-blocked-spec =
     tie.close
     (tie.spec
-    index-requires
-    load-requires
-    active-weight-requires
-    store-requires
-    give-up-requires
-    same-length
-    same-length-2
-    returns)
+    index-requires load-requires active-weight-requires store-requires give-up-requires same-length same-length-2 returns)

@@ -58,19 +58,4 @@ pub scan-queue-spec : {M : Type 1} → statement M
 scan-queue-spec =
     tie.close
     (tie.spec
-    Inv-loop
-    μ-loop
-    queue-len-requires
-    loop-holds
-    entry-requires
-    scan-step-requires
-    is-found-requires
-    same-length
-    same-length-2
-    returns
-    add-i
-    loop-less
-    loop-again
-    same-length-3
-    same-length-4
-    returns-2)
+    Inv-loop μ-loop queue-len-requires loop-holds entry-requires scan-step-requires is-found-requires same-length same-length-2 returns add-i loop-less loop-again same-length-3 same-length-4 returns-2)

@@ -1,8 +1,9 @@
 use mathlib.Core.Path.{sym, _∙_}
-use Rattle.select.proofs.Visiting.{visit-late, visit-gone, visit-held, visit-live, gone-at, live-at, live-below, live-gone, live-record}
+use Rattle.select.proofs.Visiting.{visit-late, visit-gone, visit-held, visit-live}
 use borrow.Author.Needs.{needs}
 use Rattle.select.proofs.scan.verdict.Statement.{statement}
 use Rattle.select.proofs.scan.verdict.Tie as tie
+use Rattle.machine.proofs.Looked.{gone-at, live-at, live-below, live-gone, live-record}
 
 too-late-requires : tie.Need-too-late-requires
 too-late-requires c κs = search needs
@@ -41,14 +42,4 @@ pub verdict-spec : {M : Type 1} → statement M
 verdict-spec =
     tie.close
     (tie.spec
-    too-late-requires
-    returns
-    look-up-requires
-    enum-known-l
-    enum-told
-    returns-2
-    is-of-requires
-    returns-3
-    load-requires
-    judged-requires
-    returns-4)
+    too-late-requires returns look-up-requires enum-known-l enum-told returns-2 is-of-requires returns-3 load-requires judged-requires returns-4)

@@ -73,24 +73,4 @@ pub visited-spec : {M : Type 1} → statement M
 visited-spec =
     tie.close
     (tie.spec
-    index-requires
-    enum-told
-    returns
-    enum-told-2
-    give-up-requires
-    same-length
-    returns-2
-    enum-known-v
-    give-up-blocked-requires
-    same-length-2
-    same-length-3
-    returns-3
-    enum-known-v-2
-    store-requires
-    same-length-4
-    returns-4
-    enum-known-v-3
-    store-requires-2
-    pick-requires
-    same-length-5
-    returns-5)
+    index-requires enum-told returns enum-told-2 give-up-requires same-length returns-2 enum-known-v give-up-blocked-requires same-length-2 same-length-3 returns-3 enum-known-v-2 store-requires same-length-4 returns-4 enum-known-v-3 store-requires-2 pick-requires same-length-5 returns-5)

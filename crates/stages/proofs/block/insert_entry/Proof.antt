@@ -30,10 +30,4 @@ pub insert-entry-spec : {M : Type 1} → statement M
 insert-entry-spec =
     tie.close
     (tie.spec
-    insert-requires
-    same-length
-    returns
-    slice-read-b
-    slice-write-b
-    same-length-2
-    returns-2)
+    insert-requires same-length returns slice-read-b slice-write-b same-length-2 returns-2)

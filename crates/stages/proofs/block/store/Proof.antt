@@ -25,9 +25,4 @@ pub store-spec : {M : Type 1} → statement M
 store-spec =
     tie.close
     (tie.spec
-    sub-store-block
-    part-store-block-start
-    part-store-block-end
-    store-block-requires
-    same-length
-    returns)
+    sub-store-block part-store-block-start part-store-block-end store-block-requires same-length returns)

@@ -25,9 +25,4 @@ pub give-up-spec : {M : Type 1} → statement M
 give-up-spec =
     tie.close
     (tie.spec
-    remove-requires
-    slice-read-saturating-sub
-    saturating-sub-requires
-    slice-write-b
-    same-length
-    returns)
+    remove-requires slice-read-saturating-sub saturating-sub-requires slice-write-b same-length returns)

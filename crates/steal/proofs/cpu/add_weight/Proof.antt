@@ -3,24 +3,17 @@ use mathlib.Core.Path.{sym, subst}
 use Prim.Native.Nat.{_≤_, _+_}
 use Rattle.percpu.specs.With.{cpu-total-weight}
 use Rattle.percpu.specs.Cpu.{Cpu}
-use Rattle.stages.proofs.Lent.{lent-word, staged-cpu}
+use Rattle.stages.proofs.Lent.{staged-cpu}
 use Rattle.steal.proofs.Blocks.{fits-weight}
 use native.Mathlib.Omega.{arith}
 use borrow.Author.Needs.{needs}
 use Rattle.steal.proofs.cpu.add_weight.Statement.{statement}
 use Rattle.steal.proofs.cpu.add_weight.Tie as tie
+use Rattle.stages.specs.Bounds.{b-moving}
+use Rattle.machine.proofs.Places.{lent-word}
 
-mul-at : tie.Need-mul-at
-mul-at c = search needs
-
-add-at : tie.Need-add-at
-add-at c = search needs
-
-mul-at-2 : tie.Need-mul-at-2
-mul-at-2 c = search needs
-
-add-at-2 : tie.Need-add-at-2
-add-at-2 c = search needs
+cpu-place-requires : tie.Need-cpu-place-requires
+cpu-place-requires c κs = search needs
 
 add-end : tie.Need-add-end
 add-end c = search needs
@@ -35,30 +28,19 @@ part-add-weight-start : tie.Need-part-add-weight-start
 part-add-weight-start c = search needs
 
 part-add-weight-end : tie.Need-part-add-weight-end
-part-add-weight-end c = omega (arith, sized (c .before .pre .0))
+part-add-weight-end c = omega (arith, sized (c .before .before .pre .0))
 
 add-weight-requires : tie.Need-add-weight-requires
-add-weight-requires c κs = (search needs, subst (λ y. y ≤ 9799832791305682942) (sym (lent-word (c .before .before .args .m .now) (c .before .before .args .n) (c .before .before .args .k) 20 (omega arith))) (c .before .before .pre .1 .2), c .before .before .pre .1 .1)
+add-weight-requires c κs = (search needs, subst (λ y. y ≤ b-moving) (sym (lent-word (c .before .before .before .args .m .now) (c .before .before .before .args .n) (c .before .before .before .args .k) 20 (c .before .cpu-place .ensures) (omega arith))) (c .before .before .before .pre .1 .2), c .before .before .before .pre .1 .1)
 
 same-length : tie.Need-same-length
 same-length c = search needs
 
 returns : tie.Need-returns
-returns c = staged-cpu (c .before .before .before .before .before .pre .0) _ (c .before .before .before .before .before .pre .1 .0) _ (λ (p : Cpu). cpu-total-weight (p .block .«total_weight» + c .before .before .before .before .before .args .weight) p) (λ p o e. c .before .before .add-weight .ensures p e) (λ p o. fits-weight _ _ p o)
+returns c = staged-cpu (c .before .before .before .before .before .before .pre .0) _ (c .before .before .before .before .cpu-place .ensures) (c .before .before .before .before .before .before .pre .1 .0) _ (λ (p : Cpu). cpu-total-weight (p .block .«total_weight» + c .before .before .before .before .before .before .args .weight) p) (λ p o e. c .before .before .add-weight .ensures p e) (λ p o. fits-weight _ _ p o)
 
 pub add-weight-spec : {M : Type 1} → statement M
 add-weight-spec =
     tie.close
     (tie.spec
-    mul-at
-    add-at
-    mul-at-2
-    add-at-2
-    add-end
-    mul-add-weight
-    sub-add-weight
-    part-add-weight-start
-    part-add-weight-end
-    add-weight-requires
-    same-length
-    returns)
+    cpu-place-requires add-end mul-add-weight sub-add-weight part-add-weight-start part-add-weight-end add-weight-requires same-length returns)

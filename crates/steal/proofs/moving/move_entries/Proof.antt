@@ -1,5 +1,6 @@
 use Rattle.steal.proofs.Victims.{moves-none}
-use Rattle.steal.proofs.Moved.{movable-first, moved-nothing, moved-single, moved-pair, fits-single, fits-pair}
+use Rattle.steal.proofs.Moved.{moved-nothing, moved-single, moved-pair, fits-single, fits-pair}
+use Rattle.steal.proofs.Movable.{movable-first}
 use borrow.Author.Needs.{needs}
 use Rattle.steal.proofs.moving.move_entries.Statement.{statement}
 use Rattle.steal.proofs.moving.move_entries.Tie as tie
@@ -38,13 +39,4 @@ pub move-entries-spec : {M : Type 1} → statement M
 move-entries-spec =
     tie.close
     (tie.spec
-    enum-told
-    returns
-    enum-known-got
-    move-entry-requires
-    same-length
-    returns-2
-    enum-known-got-2
-    move-two-requires
-    same-length-2
-    returns-3)
+    enum-told returns enum-known-got move-entry-requires same-length returns-2 enum-known-got-2 move-two-requires same-length-2 returns-3)

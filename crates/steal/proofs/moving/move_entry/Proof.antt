@@ -1,7 +1,8 @@
 use mathlib.Core.Path.{refl}
-use Rattle.decision.specs.Steal.{give-up}
+use Rattle.model.specs.Steal.{give-up}
 use Rattle.percpu.specs.Cpu.{Cpu}
-use Rattle.steal.proofs.Moved.{weight-small, entry-moved}
+use Rattle.steal.proofs.Moved.{entry-moved}
+use Rattle.steal.proofs.Movable.{weight-small}
 use native.Mathlib.Omega.{arith}
 use borrow.Author.Needs.{needs}
 use Rattle.steal.proofs.moving.move_entry.Statement.{statement}
@@ -32,10 +33,4 @@ pub move-entry-spec : {M : Type 1} → statement M
 move-entry-spec =
     tie.close
     (tie.spec
-    index-requires
-    stolen-requires
-    give-up-requires
-    add-weight-requires
-    take-in-requires
-    same-length
-    returns)
+    index-requires stolen-requires give-up-requires add-weight-requires take-in-requires same-length returns)

@@ -1,6 +1,7 @@
-use Rattle.decision.specs.Steal.{Moving, move-entry}
+use Rattle.model.specs.Steal.{Moving, move-entry}
 use Rattle.steal.proofs.Victims.{moves-then, moves-full}
-use Rattle.steal.proofs.Moved.{movable-first, movable-second, move-stays-full}
+use Rattle.steal.proofs.Moved.{move-stays-full}
+use Rattle.steal.proofs.Movable.{movable-first, movable-second}
 use borrow.Author.Needs.{needs}
 use Rattle.steal.proofs.moving.move_two.Statement.{statement}
 use Rattle.steal.proofs.moving.move_two.Tie as tie
@@ -27,9 +28,4 @@ pub move-two-spec : {M : Type 1} → statement M
 move-two-spec =
     tie.close
     (tie.spec
-    move-entry-requires
-    same-length
-    returns
-    move-entry-requires-2
-    same-length-2
-    returns-2)
+    move-entry-requires same-length returns move-entry-requires-2 same-length-2 returns-2)

@@ -1,7 +1,7 @@
 use Rattle.steal.proofs.Victims.{moves-finish}
 use mathlib.Core.Path.{refl}
 use Rattle.steal.specs.Moves.{finished}
-use Rattle.decision.specs.Steal.{mark-stealable, published}
+use Rattle.model.specs.Steal.{mark-stealable, published}
 use Rattle.percpu.specs.Cpu.{Cpu}
 use Rattle.steal.proofs.Victims.{moves-full, victim-then}
 use borrow.Author.Needs.{needs}
@@ -33,10 +33,4 @@ pub rob-spec : {M : Type 1} → statement M
 rob-spec =
     tie.close
     (tie.spec
-    move-entries-requires
-    same-length
-    returns
-    publish-victim-requires
-    publish-requires
-    same-length-2
-    returns-2)
+    move-entries-requires same-length returns publish-victim-requires publish-requires same-length-2 returns-2)

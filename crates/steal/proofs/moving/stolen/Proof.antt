@@ -1,4 +1,5 @@
-use Rattle.steal.proofs.Moved.{movable-sum, stolen-fits, stolen-as}
+use Rattle.steal.proofs.Moved.{stolen-fits, stolen-as}
+use Rattle.steal.proofs.Movable.{movable-sum}
 use borrow.Author.Needs.{needs}
 use Rattle.steal.proofs.moving.stolen.Statement.{statement}
 use Rattle.steal.proofs.moving.stolen.Tie as tie

@@ -32,11 +32,4 @@ pub take-in-spec : {M : Type 1} → statement M
 take-in-spec =
     tie.close
     (tie.spec
-    index-requires
-    first-wins-requires
-    store-context-requires
-    same-length
-    returns
-    queue-in-requires
-    same-length-2
-    returns-2)
+    index-requires first-wins-requires store-context-requires same-length returns queue-in-requires same-length-2 returns-2)

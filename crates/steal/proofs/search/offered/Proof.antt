@@ -1,4 +1,4 @@
-use Rattle.decision.specs.State.{state-of}
+use Rattle.model.specs.State.{state-of}
 use Rattle.steal.proofs.Searching.{offers-all, offers-none}
 use native.Mathlib.Omega.{arith}
 use borrow.Author.Needs.{needs}

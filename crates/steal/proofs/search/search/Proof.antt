@@ -1,6 +1,7 @@
 use mathlib.Core.Path.{refl, sym, _∙_}
 use Prim.Native.Nat.{_-_}
-use Rattle.steal.proofs.Round.{Outer, Inner, found, not-found, passed-next, passed-none, round-is, inner-first, inner-next, inner-enough, inner-all, not-empty, is-empty-list}
+use Rattle.steal.proofs.Round.{Outer, found, not-found, passed-next, passed-none, round-is, not-empty, is-empty-list}
+use Rattle.steal.proofs.Offered.{Inner, inner-first, inner-next, inner-enough, inner-all}
 use borrow.Author.Needs.{needs}
 use native.Mathlib.Omega.{arith}
 use Rattle.steal.proofs.search.search.Statement.{statement}
@@ -48,8 +49,8 @@ entry-requires c κs = (c .before .before .before .before .before .before .befor
 take-candidate-requires : tie.Need-take-candidate-requires Inv-loop μ-loop Inv-search μ-search
 take-candidate-requires c κs = (c .before .before .before .before .before .before .before .before .pre .0, ((c .before .before .before .before .before .before .before .before .pre .1, c .entry .ensures .fits), (c .before .before .before .wanted .ensures .1, c .before .before .loop .inv .few, c .before .before .loop .inv .entries)))
 
-count-requires : tie.Need-count-requires Inv-loop μ-loop Inv-search μ-search
-count-requires c κs = search needs
+len-requires : tie.Need-len-requires Inv-loop μ-loop Inv-search μ-search
+len-requires c κs = search needs
 
 add-j : tie.Need-add-j Inv-loop μ-loop Inv-search μ-search
 add-j c = search needs
@@ -58,10 +59,10 @@ loop-less : tie.Need-loop-less Inv-loop μ-loop Inv-search μ-search
 loop-less c = search needs
 
 loop-again : tie.Need-loop-again Inv-loop μ-loop Inv-search μ-search
-loop-again c = inner-next (c .before .before .take-candidate .result) (c .before .before .before .before .before .loop .inv) (c .before .before .before .before .loop-test .taken) (c .before .before .before .before .before .before .before .offered .ensures .1) (c .before .before .before .entry .ensures) (c .before .before .take-candidate .ensures .0) (c .before .before .take-candidate .ensures .1) (omega (arith, c .before .count .ensures, c .if1 .left))
+loop-again c = inner-next (c .before .before .take-candidate .result) (c .before .before .before .before .before .loop .inv) (c .before .before .before .before .loop-test .taken) (c .before .before .before .before .before .before .before .offered .ensures .1) (c .before .before .before .entry .ensures) (c .before .before .take-candidate .ensures .0) (c .before .before .take-candidate .ensures .1) (omega (arith, c .before .len .ensures, c .if1 .left))
 
-count-requires-2 : tie.Need-count-requires-2 Inv-loop μ-loop Inv-search μ-search
-count-requires-2 c κs = search needs
+len-requires-2 : tie.Need-len-requires-2 Inv-loop μ-loop Inv-search μ-search
+len-requires-2 c κs = search needs
 
 add-i : tie.Need-add-i Inv-loop μ-loop Inv-search μ-search
 add-i c = search needs
@@ -70,43 +71,19 @@ search-less : tie.Need-search-less Inv-loop μ-loop Inv-search μ-search
 search-less c = search needs
 
 search-again : tie.Need-search-again Inv-loop μ-loop Inv-search μ-search
-search-again c = record { here = omega arith; none = is-empty-list _ (omega (arith, c .before .count2 .ensures, c .if2 .left)); cpu = round-is _ _ _ (c .before .before .before .before .before .before .before .before .before .pre .1) (c .before .before .before .before .before .before .search-test .taken) .0; passed = passed-next (c .before .before .before .before .before .before .before .search .inv .passed) (λ M e o. sym (is-empty-list _ (omega (arith, c .before .count2 .ensures, c .if2 .left))) ∙ inner-all (c .before .before .before .loop .inv) (c .before .before .loop-test .left) (c .before .before .before .before .before .offered .ensures .1) (c .before .before .before .before .wanted .ensures .2) M e o) }
+search-again c = record { here = omega arith; none = is-empty-list _ (omega (arith, c .before .len2 .ensures, c .if2 .left)); cpu = round-is _ _ _ (c .before .before .before .before .before .before .before .before .before .pre .1) (c .before .before .before .before .before .before .search-test .taken) .0; passed = passed-next (c .before .before .before .before .before .before .before .search .inv .passed) (λ M e o. sym (is-empty-list _ (omega (arith, c .before .len2 .ensures, c .if2 .left))) ∙ inner-all (c .before .before .before .loop .inv) (c .before .before .loop-test .left) (c .before .before .before .before .before .offered .ensures .1) (c .before .before .before .before .wanted .ensures .2) M e o) }
 
 returns : tie.Need-returns Inv-loop μ-loop Inv-search μ-search
 returns c = not-found (c .before .before .before .pre .1) (c .before .search .inv .passed) (c .search-test .left) (c .before .search .inv .here) (c .before .search .inv .none) (c .before .search .inv .cpu)
 
 returns-2 : tie.Need-returns-2 Inv-loop μ-loop Inv-search μ-search
-returns-2 c = found (c .before .before .before .before .before .before .before .before .before .before .before .pre .1) (c .before .before .before .before .before .before .before .before .before .search .inv .passed) (c .before .before .before .before .before .before .before .before .search-test .taken) refl (inner-enough (c .before .before .take-candidate .result) (c .before .before .before .before .before .loop .inv) (c .before .before .before .before .loop-test .taken) (c .before .before .before .before .before .before .before .offered .ensures .1) (c .before .before .before .entry .ensures) (c .before .before .take-candidate .ensures .1) (c .before .before .before .before .before .before .wanted .ensures .2) (omega (arith, c .before .count .ensures, c .if1 .taken))) (not-empty _ (omega (arith, c .before .count .ensures, c .if1 .taken, c .before .before .before .before .before .before .wanted .ensures .0))) (c .before .before .take-candidate .ensures .0)
+returns-2 c = found (c .before .before .before .before .before .before .before .before .before .before .before .pre .1) (c .before .before .before .before .before .before .before .before .before .search .inv .passed) (c .before .before .before .before .before .before .before .before .search-test .taken) refl (inner-enough (c .before .before .take-candidate .result) (c .before .before .before .before .before .loop .inv) (c .before .before .before .before .loop-test .taken) (c .before .before .before .before .before .before .before .offered .ensures .1) (c .before .before .before .entry .ensures) (c .before .before .take-candidate .ensures .1) (c .before .before .before .before .before .before .wanted .ensures .2) (omega (arith, c .before .len .ensures, c .if1 .taken))) (not-empty _ (omega (arith, c .before .len .ensures, c .if1 .taken, c .before .before .before .before .before .before .wanted .ensures .0))) (c .before .before .take-candidate .ensures .0)
 
 returns-3 : tie.Need-returns-3 Inv-loop μ-loop Inv-search μ-search
-returns-3 c = found (c .before .before .before .before .before .before .before .before .before .pre .1) (c .before .before .before .before .before .before .before .search .inv .passed) (c .before .before .before .before .before .before .search-test .taken) refl (inner-all (c .before .before .before .loop .inv) (c .before .before .loop-test .left) (c .before .before .before .before .before .offered .ensures .1) (c .before .before .before .before .wanted .ensures .2)) (not-empty _ (omega (arith, c .before .count2 .ensures, c .if2 .taken))) (c .before .before .before .loop .inv .entries)
+returns-3 c = found (c .before .before .before .before .before .before .before .before .before .pre .1) (c .before .before .before .before .before .before .before .search .inv .passed) (c .before .before .before .before .before .before .search-test .taken) refl (inner-all (c .before .before .before .loop .inv) (c .before .before .loop-test .left) (c .before .before .before .before .before .offered .ensures .1) (c .before .before .before .before .wanted .ensures .2)) (not-empty _ (omega (arith, c .before .len2 .ensures, c .if2 .taken))) (c .before .before .before .loop .inv .entries)
 
 pub search-spec : {M : Type 1} → statement M
 search-spec =
     tie.close
     (tie.spec
-    Inv-loop
-    μ-loop
-    Inv-search
-    μ-search
-    sub-others
-    search-holds
-    add-t
-    add-t-2
-    rem-t
-    offered-requires
-    wanted-requires
-    loop-holds
-    entry-requires
-    take-candidate-requires
-    count-requires
-    add-j
-    loop-less
-    loop-again
-    count-requires-2
-    add-i
-    search-less
-    search-again
-    returns
-    returns-2
-    returns-3)
+    Inv-loop μ-loop Inv-search μ-search sub-others search-holds add-t add-t-2 rem-t offered-requires wanted-requires loop-holds entry-requires take-candidate-requires len-requires add-j loop-less loop-again len-requires-2 add-i search-less search-again returns returns-2 returns-3)

@@ -30,9 +30,4 @@ pub direct-switch-spec : {M : Type 1} → statement M
 direct-switch-spec =
     tie.close
     (tie.spec
-    store-context-requires
-    switch-to-requires
-    same-length
-    returns
-    same-length-2
-    returns-2)
+    store-context-requires switch-to-requires same-length returns same-length-2 returns-2)

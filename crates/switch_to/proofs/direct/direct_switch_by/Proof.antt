@@ -48,16 +48,4 @@ pub direct-switch-by-spec : {M : Type 1} → statement M
 direct-switch-by-spec =
     tie.close
     (tie.spec
-    load-requires
-    word-requires
-    update-runnable-requires
-    enum-known-u
-    direct-switch-requires
-    enum-told
-    enum-told-2
-    same-length
-    returns
-    same-length-2
-    returns-2
-    same-length-3
-    returns-3)
+    load-requires word-requires update-runnable-requires enum-known-u direct-switch-requires enum-told enum-told-2 same-length returns same-length-2 returns-2 same-length-3 returns-3)

@@ -30,10 +30,4 @@ pub try-direct-switch-back-spec : {M : Type 1} → statement M
 try-direct-switch-back-spec =
     tie.close
     (tie.spec
-    load-block-requires
-    same-length
-    returns
-    index-requires
-    direct-switch-by-requires
-    same-length-2
-    returns-2)
+    load-block-requires same-length returns index-requires direct-switch-by-requires same-length-2 returns-2)

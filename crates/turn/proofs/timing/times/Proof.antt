@@ -2,11 +2,12 @@
 use native.Mathlib.Omega.{arith}
 use borrow.Author.Needs.{needs}
 use Rattle.machine.specs.Machine.{cpu-at}
-use Rattle.decision.specs.Charging.{times}
+use Rattle.model.specs.Turn.{times}
 use Rattle.turn.proofs.Counted.{timed-as, timed-fits, turn-as}
 use Rattle.stages.proofs.Reading.{block-fits, counters-below, stored-with}
 use Rattle.turn.proofs.timing.times.Statement.{statement}
 use Rattle.turn.proofs.timing.times.Tie as tie
+use Rattle.numbers.specs.Limits.{half-range}
 
 load-block-requires : tie.Need-load-block-requires
 load-block-requires c κs = search needs
@@ -15,7 +16,7 @@ saturating-sub-requires : tie.Need-saturating-sub-requires
 saturating-sub-requires c κs = search needs
 
 timed-requires : tie.Need-timed-requires
-timed-requires c κs = (counters-below (c .before .before .before .before .args .k) 9223372036854775808 (omega arith) (c .before .before .before .before .pre .1 .1) (c .before .before .before .before .pre .1 .0 .0) (c .before .load-block .ensures), omega (arith, c .saturating-sub .ensures, c .before .before .before .before .pre .1 .0 .1))
+timed-requires c κs = (counters-below (c .before .before .before .before .args .k) half-range (omega arith) (c .before .before .before .before .pre .1 .1) (c .before .before .before .before .pre .1 .0 .0) (c .before .load-block .ensures), omega (arith, c .saturating-sub .ensures, c .before .before .before .before .pre .1 .0 .1))
 
 store-block-requires : tie.Need-store-block-requires
 store-block-requires c κs = (c .before .before .before .before .before .before .pre .0, (c .before .before .before .before .before .before .pre .1 .0 .0, timed-fits _ _ _ _ (c .before .timed .ensures) (block-fits (c .before .before .before .before .before .before .pre .0) _ (c .before .before .before .before .before .before .pre .1 .0 .0) (c .before .before .before .load-block .ensures))))
@@ -33,10 +34,4 @@ pub times-spec : {M : Type 1} → statement M
 times-spec =
     tie.close
     (tie.spec
-    load-block-requires
-    saturating-sub-requires
-    timed-requires
-    store-block-requires
-    is-idle-requires
-    same-length
-    returns)
+    load-block-requires saturating-sub-requires timed-requires store-block-requires is-idle-requires same-length returns)

@@ -1,6 +1,5 @@
 use Rattle.wakeup.proofs.Entering.{may-join, entering-fits, entered-staged}
 use mathlib.Core.Path.{refl}
-use native.Mathlib.Omega.{arith}
 use borrow.Author.Needs.{needs}
 use Rattle.wakeup.proofs.enter.enter_queue.Statement.{statement}
 use Rattle.wakeup.proofs.enter.enter_queue.Tie as tie
@@ -18,7 +17,7 @@ remove-old-key-requires : tie.Need-remove-old-key-requires
 remove-old-key-requires c κs = (c .before .before .before .activate .ensures .image refl, c .before .before .before .before .before .before .before .before .before .pre .1 .0 .0)
 
 join-requires : tie.Need-join-requires
-join-requires c κs = (c .before .before .before .remove-old-key .ensures .image refl, ((c .before .before .before .before .before .before .before .before .before .before .before .before .before .pre .1 .0 .0, c .before .before .before .before .before .before .before .before .before .before .before .before .before .pre .1 .0 .1, omega (arith, c .before .before .before .before .before .before .before .before .before .before .before .before .before .pre .1 .0 .2 .fits .prio)), entering-fits _ (c .before .before .before .before .before .before .before .before .before .before .before .before .before .args .q) _ (c .before .before .before .before .before .before .before .before .before .before .before .before .before .pre .1 .0 .2) (c .before .before .before .before .before .before .before .before .before .enter-record .ensures)))
+join-requires c κs = (c .before .before .before .remove-old-key .ensures .image refl, ((c .before .before .before .before .before .before .before .before .before .before .before .before .before .pre .1 .0 .0, c .before .before .before .before .before .before .before .before .before .before .before .before .before .pre .1 .0 .1), entering-fits _ (c .before .before .before .before .before .before .before .before .before .before .before .before .before .args .q) _ (c .before .before .before .before .before .before .before .before .before .before .before .before .before .pre .1 .0 .2) (c .before .before .before .before .before .before .before .before .before .enter-record .ensures)))
 
 same-length : tie.Need-same-length
 same-length c = search needs
@@ -30,10 +29,4 @@ pub enter-queue-spec : {M : Type 1} → statement M
 enter-queue-spec =
     tie.close
     (tie.spec
-    load-block-requires
-    enter-record-requires
-    activate-requires
-    remove-old-key-requires
-    join-requires
-    same-length
-    returns)
+    load-block-requires enter-record-requires activate-requires remove-old-key-requires join-requires same-length returns)

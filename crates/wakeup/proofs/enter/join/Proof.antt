@@ -13,26 +13,20 @@ weight-of-requires c κs = search needs
 word-requires : tie.Need-word-requires
 word-requires c κs = search needs
 
-make-entry-requires : tie.Need-make-entry-requires
-make-entry-requires c κs = search needs
+entry-requires : tie.Need-entry-requires
+entry-requires c κs = search needs
 
 insert-entry-requires : tie.Need-insert-entry-requires
-insert-entry-requires c κs = (c .before .before .before .before .before .before .store-context .ensures .image refl, (c .before .before .before .before .before .before .before .before .before .pre .1 .0 .0, entry-fits _ _ _ _ (c .before .before .before .before .before .before .before .before .before .args .e) _ (c .before .before .word .ensures) (c .before .before .before .weight-of .ensures) (c .before .make-entry .ensures) (c .before .before .before .before .before .before .before .before .before .pre .1 .0 .1)))
+insert-entry-requires c κs = (c .before .before .before .before .before .before .store-context .ensures .image refl, (c .before .before .before .before .before .before .before .before .before .pre .1 .0 .0, entry-fits _ _ _ (c .before .before .before .before .before .before .before .before .before .args .e) _ (c .before .before .word .ensures) (c .before .before .before .weight-of .ensures) (c .before .entry .ensures) (c .before .before .before .before .before .before .before .before .before .pre .1 .0 .1)))
 
 same-length : tie.Need-same-length
 same-length c = search needs
 
 returns : tie.Need-returns
-returns c = joined _ _ _ _ (c .before .before .before .before .before .before .before .before .before .before .before .before .args .e) _ (c .before .before .before .before .before .word .ensures) (c .before .before .before .before .before .before .weight-of .ensures) (c .before .before .before .before .make-entry .ensures) (c .before .before .before .before .before .before .before .before .before .before .before .before .pre .1 .0 .0) (c .before .before .before .before .before .before .before .before .before .store-context .ensures) (c .before .before .insert-entry .ensures)
+returns c = joined _ _ _ (c .before .before .before .before .before .before .before .before .before .before .before .before .args .e) _ (c .before .before .before .before .before .word .ensures) (c .before .before .before .before .before .before .weight-of .ensures) (c .before .before .before .before .entry .ensures) (c .before .before .before .before .before .before .before .before .before .before .before .before .pre .1 .0 .0) (c .before .before .before .before .before .before .before .before .before .store-context .ensures) (c .before .before .insert-entry .ensures)
 
 pub join-spec : {M : Type 1} → statement M
 join-spec =
     tie.close
     (tie.spec
-    store-context-requires
-    weight-of-requires
-    word-requires
-    make-entry-requires
-    insert-entry-requires
-    same-length
-    returns)
+    store-context-requires weight-of-requires word-requires entry-requires insert-entry-requires same-length returns)

@@ -45,15 +45,4 @@ pub put-wakeup-spec : {M : Type 1} → statement M
 put-wakeup-spec =
     tie.close
     (tie.spec
-    mul-at
-    cast-d
-    mul-d
-    slice-write-d
-    add-d
-    mul-d-2
-    slice-write-d-2
-    add-d-2
-    mul-d-3
-    slice-write-d-3
-    same-length
-    returns)
+    mul-at cast-d mul-d slice-write-d add-d mul-d-2 slice-write-d-2 add-d-2 mul-d-3 slice-write-d-3 same-length returns)

@@ -1,2 +1,0 @@
-pub mod Strayed
-pub mod Worked

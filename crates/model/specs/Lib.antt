@@ -1,0 +1,13 @@
+pub mod State
+pub mod Wakeup
+pub mod Turn
+pub mod Scan
+pub mod Choice
+pub mod Steal
+pub mod Handover
+pub mod SwitchTo
+pub mod Schedule
+pub mod Opened
+pub mod Tidy
+pub mod Accepted
+pub mod Demand3

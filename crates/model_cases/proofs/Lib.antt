@@ -1,0 +1,3 @@
+pub mod Strayed
+pub mod Worked
+pub mod Doubled

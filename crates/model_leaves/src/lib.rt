@@ -1,0 +1,1 @@
+// What an accepted call leaves: lemmas over the definitions, in proofs/.

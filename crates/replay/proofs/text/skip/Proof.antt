@@ -1,0 +1,50 @@
+use lib.ListN.{length}
+use Prim.Native.Nat.{_-_}
+use borrow.Author.Needs.{needs}
+use Rattle.replay.proofs.text.skip.Statement.{statement}
+use Rattle.replay.proofs.text.skip.Tie as tie
+
+abbrev Inv-loop : tie.InvT-loop
+Inv-loop s from i₀ i = Unit {0}
+
+abbrev μ-loop : tie.MeasureT-loop
+μ-loop s from i₀ i = length s - i
+
+loop-holds : tie.Need-loop-holds Inv-loop μ-loop
+loop-holds c = tt
+
+shared-slice-read-is-mark : tie.Need-shared-slice-read-is-mark Inv-loop μ-loop
+shared-slice-read-is-mark c = search needs
+
+is-mark-requires : tie.Need-is-mark-requires Inv-loop μ-loop
+is-mark-requires c κs = search needs
+
+returns : tie.Need-returns Inv-loop μ-loop
+returns c = search needs
+
+add-i : tie.Need-add-i Inv-loop μ-loop
+add-i c = search needs
+
+loop-less : tie.Need-loop-less Inv-loop μ-loop
+loop-less c = search needs
+
+loop-again : tie.Need-loop-again Inv-loop μ-loop
+loop-again c = tt
+
+returns-2 : tie.Need-returns-2 Inv-loop μ-loop
+returns-2 c = search needs
+
+pub skip-spec : {M : Type 1} → statement M
+skip-spec =
+    tie.close
+    (tie.spec
+    Inv-loop
+    μ-loop
+    loop-holds
+    shared-slice-read-is-mark
+    is-mark-requires
+    returns
+    add-i
+    loop-less
+    loop-again
+    returns-2)

@@ -1,0 +1,167 @@
+/* The scheduling decisions of the Redox kernel over a machine image: docs/IMAGE.md says what each word is.
+   Written by tools/places.py. */
+#ifndef RONTHUYAL_H
+#define RONTHUYAL_H
+
+#define RONTHUYAL_VERSION "0.1.0"
+
+#include <stddef.h>
+#include <stdint.h>
+
+#ifdef __cplusplus
+extern "C" {
+#endif
+
+/* What a call answers. refusal 0: the call was made, and the words hold the next image. Else every word is kept, and
+   result and interrupt are 0. interrupt is 1 if a wake-up went to another CPU. */
+struct ronthuyal_answer {
+    uint64_t refusal;
+    uint64_t result;
+    uint64_t interrupt;
+};
+
+/* image points to length words that nobody else uses during the call. Any words, operation, CPU, time and context are
+   answered. */
+struct ronthuyal_answer ronthuyal_call(uint64_t *image, size_t length, uint64_t operation, uint64_t cpu,
+                                       uint64_t time, uint64_t context);
+struct ronthuyal_answer ronthuyal_tick(uint64_t *image, size_t length, uint64_t cpu, uint64_t time);
+struct ronthuyal_answer ronthuyal_switch(uint64_t *image, size_t length, uint64_t cpu, uint64_t time);
+struct ronthuyal_answer ronthuyal_direct_switch_to(uint64_t *image, size_t length, uint64_t cpu, uint64_t time,
+                                                   uint64_t context);
+struct ronthuyal_answer ronthuyal_unblock_context(uint64_t *image, size_t length, uint64_t cpu, uint64_t time,
+                                                  uint64_t context);
+struct ronthuyal_answer ronthuyal_drain_ipi_context_wakeups(uint64_t *image, size_t length, uint64_t cpu,
+                                                            uint64_t time);
+struct ronthuyal_answer ronthuyal_block(uint64_t *image, size_t length, uint64_t cpu, uint64_t time, uint64_t context);
+struct ronthuyal_answer ronthuyal_hard_block(uint64_t *image, size_t length, uint64_t cpu, uint64_t time,
+                                             uint64_t context);
+
+/* Operations. */
+enum {
+    RONTHUYAL_OP_TICK = 1,
+    RONTHUYAL_OP_SWITCH = 2,
+    RONTHUYAL_OP_DIRECT_SWITCH_TO = 3,
+    RONTHUYAL_OP_UNBLOCK_CONTEXT = 4,
+    RONTHUYAL_OP_DRAIN_IPI_CONTEXT_WAKEUPS = 5,
+    RONTHUYAL_OP_BLOCK = 6,
+    RONTHUYAL_OP_HARD_BLOCK = 7
+};
+
+/* Results of tick, switch and direct_switch_to. */
+enum {
+    RONTHUYAL_RESULT_NOT_DUE = 0,
+    RONTHUYAL_RESULT_SWITCHED = 1,
+    RONTHUYAL_RESULT_ALL_CONTEXTS_IDLE = 2
+};
+
+/* Statuses of a context. */
+enum {
+    RONTHUYAL_STATUS_RUNNABLE = 0,
+    RONTHUYAL_STATUS_BLOCKED = 1,
+    RONTHUYAL_STATUS_STOPPED = 2,
+    RONTHUYAL_STATUS_AWAITING_MMAP = 3,
+    RONTHUYAL_STATUS_NOT_YET_STARTED = 4,
+    RONTHUYAL_STATUS_DEAD = 5
+};
+
+/* States of a CPU. */
+enum {
+    RONTHUYAL_STATE_IDLE = 0,
+    RONTHUYAL_STATE_KERNEL = 1,
+    RONTHUYAL_STATE_USER = 2
+};
+
+/* Limits. */
+#define RONTHUYAL_CPUS UINT64_C(4)
+#define RONTHUYAL_CONTEXTS UINT64_C(64)
+#define RONTHUYAL_ROOM UINT64_C(64)
+#define RONTHUYAL_NUMBER_MAX UINT64_C(4611686018427387903)
+#define RONTHUYAL_ID_MAX UINT64_C(4294967295)
+#define RONTHUYAL_SLICE_MAX UINT64_C(9663676416)
+#define RONTHUYAL_TURN_MAX UINT64_C(4503599627370495)
+#define RONTHUYAL_PRIO_MAX UINT64_C(39)
+#define RONTHUYAL_WEIGHT_MIN UINT64_C(15)
+#define RONTHUYAL_WEIGHT_MAX UINT64_C(88761)
+
+/* Sizes: an image of c CPUs and n contexts has so many words, context x's record begins at so many, CPU k's block at
+   so many. */
+#define RONTHUYAL_RECORD_WORDS 26
+#define RONTHUYAL_BLOCK_WORDS 665
+#define RONTHUYAL_LENGTH(c, n) ((size_t)2 + (size_t)26 * (n) + (size_t)665 * (c))
+#define RONTHUYAL_RECORD(x) ((size_t)2 + (size_t)26 * (x))
+#define RONTHUYAL_BLOCK(n, k) ((size_t)2 + (size_t)26 * (n) + (size_t)665 * (k))
+
+/* Words of a record, from its beginning. */
+enum {
+    RONTHUYAL_CONTEXT_GONE = 0,
+    RONTHUYAL_CONTEXT_DEBUG_ID = 1,
+    RONTHUYAL_CONTEXT_STATUS = 2,
+    RONTHUYAL_CONTEXT_RUNNING = 3,
+    RONTHUYAL_CONTEXT_CURRENTLY_SCHEDULED = 4,
+    RONTHUYAL_CONTEXT_CPU_ID = 5,
+    RONTHUYAL_CONTEXT_SCHEDULE_TIME = 6,
+    RONTHUYAL_CONTEXT_SWITCH_TIME = 7,
+    RONTHUYAL_CONTEXT_ACTIVE_CPU_TIME = 8,
+    RONTHUYAL_CONTEXT_SCHED_CPU_TIME = 9,
+    RONTHUYAL_CONTEXT_SCHED_AFFINITY = 10,
+    RONTHUYAL_CONTEXT_INSIDE_SYSCALL = 11,
+    RONTHUYAL_CONTEXT_HAS_WAKE = 12,
+    RONTHUYAL_CONTEXT_WAKE = 13,
+    RONTHUYAL_CONTEXT_USERSPACE = 14,
+    RONTHUYAL_CONTEXT_BEING_SIGKILLED = 15,
+    RONTHUYAL_CONTEXT_PRIO = 16,
+    RONTHUYAL_CONTEXT_VTIME = 17,
+    RONTHUYAL_CONTEXT_VD = 18,
+    RONTHUYAL_CONTEXT_REM_SLICE = 19,
+    RONTHUYAL_CONTEXT_IS_ACTIVE = 20,
+    RONTHUYAL_CONTEXT_HAS_QUEUE_KEY = 21,
+    RONTHUYAL_CONTEXT_QUEUE_KEY_VD = 22,
+    RONTHUYAL_CONTEXT_QUEUE_KEY_REM_SLICE = 23,
+    RONTHUYAL_CONTEXT_LOCK = 24,
+    RONTHUYAL_CONTEXT_ADDR_SPACE = 25
+};
+
+/* Words of a block, from its beginning; slot i of an array is i words behind its place. */
+enum {
+    RONTHUYAL_BLOCK_PRESENT = 0,
+    RONTHUYAL_BLOCK_CURRENT_CTXT = 1,
+    RONTHUYAL_BLOCK_SCHED_CTXT = 2,
+    RONTHUYAL_BLOCK_IDLE_CTXT = 3,
+    RONTHUYAL_BLOCK_SCHEDULE_TIME = 4,
+    RONTHUYAL_BLOCK_PIT_TICKS = 5,
+    RONTHUYAL_BLOCK_BEING_SIGKILLED = 6,
+    RONTHUYAL_BLOCK_INSIDE_SYSCALL = 7,
+    RONTHUYAL_BLOCK_STEALABLE = 8,
+    RONTHUYAL_BLOCK_QUEUE_LEN = 9,
+    RONTHUYAL_BLOCK_PUBLISHED_WEIGHT = 10,
+    RONTHUYAL_BLOCK_STEAL_COUNTER = 11,
+    RONTHUYAL_BLOCK_STATE = 12,
+    RONTHUYAL_BLOCK_USER = 13,
+    RONTHUYAL_BLOCK_KERNEL = 14,
+    RONTHUYAL_BLOCK_IDLE = 15,
+    RONTHUYAL_BLOCK_CONTEXT_SWITCHES = 16,
+    RONTHUYAL_BLOCK_SYSCALL_SWITCHES = 17,
+    RONTHUYAL_BLOCK_QUEUE_LOCKED = 18,
+    RONTHUYAL_BLOCK_V = 19,
+    RONTHUYAL_BLOCK_TOTAL_WEIGHT = 20,
+    RONTHUYAL_BLOCK_QUEUE_COUNT = 21,
+    RONTHUYAL_BLOCK_TIMERS_COUNT = 22,
+    RONTHUYAL_BLOCK_LOCAL_COUNT = 23,
+    RONTHUYAL_BLOCK_IPI_COUNT = 24,
+    RONTHUYAL_BLOCK_KEY_VD = 25,
+    RONTHUYAL_BLOCK_KEY_REM_SLICE = 89,
+    RONTHUYAL_BLOCK_KEY_CTXT_ID = 153,
+    RONTHUYAL_BLOCK_ENTRY_VTIME = 217,
+    RONTHUYAL_BLOCK_ENTRY_WEIGHT = 281,
+    RONTHUYAL_BLOCK_ENTRY_CONTEXT_REF = 345,
+    RONTHUYAL_BLOCK_TIMER_WAKE = 409,
+    RONTHUYAL_BLOCK_TIMER_CONTEXT_REF = 473,
+    RONTHUYAL_BLOCK_LOCAL_WAKEUP_LIST = 537,
+    RONTHUYAL_BLOCK_IPI_CONTEXT_WAKEUP_LIST = 601
+};
+
+#ifdef __cplusplus
+}
+#endif
+
+#endif

@@ -1,0 +1,177 @@
+#!/usr/bin/env python3
+"""Writes what follows from the lists of tools/layout.py outside of the crates: harness/image/src/places.rs,
+include/ronthuyal.h, and the tables of docs/IMAGE.md between their marks.
+
+Run it from the root of the repository after a list changes."""
+import os
+import re
+
+from layout import (ANY, ARRAYS, BLOCK_WORDS, CONTEXTS, CPUS, ID_MAX, NUMBER_MAX, OPERATIONS, PRIO_MAX, RECORD,
+                    RECORD_WORDS, REFUSALS, ROOM, SINGLE, SIZES, SLICE_MAX, STATE, STATUS, TURN_MAX, WEIGHT_MAX,
+                    WEIGHT_MIN, array_place)
+
+BY = "Written by tools/places.py"
+LIMITS = [("CPUS", CPUS), ("CONTEXTS", CONTEXTS), ("ROOM", ROOM), ("NUMBER_MAX", NUMBER_MAX), ("ID_MAX", ID_MAX),
+          ("SLICE_MAX", SLICE_MAX), ("TURN_MAX", TURN_MAX), ("PRIO_MAX", PRIO_MAX), ("WEIGHT_MIN", WEIGHT_MIN),
+          ("WEIGHT_MAX", WEIGHT_MAX)]
+
+
+def constant(name):
+    """AwaitingMmap and has_wake as constants are named."""
+    return re.sub("(?<=[a-z])(?=[A-Z])", "_", name).upper()
+
+
+def rust():
+    out = ["//! Places and names of an image's words. %s." % BY, ""]
+
+    def consts(kind, pairs):
+        return ["    pub const %s: %s = %d;" % (constant(name), kind, number) for name, number in pairs]
+
+    def names(title, kind, items):
+        head = "    pub const %s: [%s; %d] = [" % (title, kind, len(items))
+        return [head] + ["        %s," % item for item in items] + ["    ];"]
+
+    out += ["/// Words of a context's record.", "pub mod context {"]
+    out += consts("usize", [(word.name, place) for place, word in enumerate(RECORD)] + [("words", RECORD_WORDS)]) + [""]
+    out += consts("u64", [(status, number) for number, status in enumerate(STATUS)]) + [""]
+    out += names("NAMES", "&str", ['"%s"' % word.name for word in RECORD]) + ["}", ""]
+    out += ["/// Words of a CPU's block: single ones, then columns of 64.", "pub mod block {"]
+    out += consts("usize", [(word.name, place) for place, word in enumerate(SINGLE)] + [("single", len(SINGLE))]) + [""]
+    out += consts("usize", [(array.name, array_place(array)) for array in ARRAYS] + [("words", BLOCK_WORDS)]) + [""]
+    counts = list(dict.fromkeys(array.count for array in ARRAYS))
+    out += ["    /// The columns that each count word speaks for.",
+            "    pub const COLUMNS: [(usize, &[usize]); %d] = [" % len(counts)]
+    for count in counts:
+        columns = [constant(array.name) for array in ARRAYS if array.count == count]
+        line = "        (%s, &[%s])," % (constant(count), ", ".join(columns))
+        if len(columns) < 3 and len(line) < 88:
+            out.append(line)
+        else:
+            out += ["        (", "            %s," % constant(count), "            &["]
+            out += ["                %s," % column for column in columns] + ["            ],", "        ),"]
+    out += ["    ];", ""] + names("NAMES", "&str", ['"%s"' % word.name for word in SINGLE]) + [""]
+    out += ["    /// Names of the columns: before and after the slot in brackets."]
+    out += names("COLUMN_NAMES", "(&str, &str)", ['("%s", "%s")' % tuple(array.item.split("[%d]")) for array in ARRAYS])
+    return "\n".join(out + ["}"]) + "\n"
+
+
+HEADER = """/* The scheduling decisions of the Redox kernel over a machine image: docs/IMAGE.md says what each word is.
+   %s. */
+#ifndef RONTHUYAL_H
+#define RONTHUYAL_H
+
+#define RONTHUYAL_VERSION "%s"
+
+#include <stddef.h>
+#include <stdint.h>
+
+#ifdef __cplusplus
+extern "C" {
+#endif
+
+/* What a call answers. refusal 0: the call was made, and the words hold the next image. Else every word is kept, and
+   result and interrupt are 0. interrupt is 1 if a wake-up went to another CPU. */
+struct ronthuyal_answer {
+    uint64_t refusal;
+    uint64_t result;
+    uint64_t interrupt;
+};
+
+/* image points to length words that nobody else uses during the call. Any words, operation, CPU, time and context are
+   answered. */
+struct ronthuyal_answer ronthuyal_call(uint64_t *image, size_t length, uint64_t operation, uint64_t cpu,
+                                       uint64_t time, uint64_t context);
+"""
+
+
+def c_call(operation):
+    start = "struct ronthuyal_answer ronthuyal_%s(" % operation.name
+    words = "uint64_t *image, size_t length, uint64_t cpu, uint64_t time" + (", uint64_t context" if operation.takes else "")
+    line = start + words + ");"
+    if len(line) <= 120:
+        return line
+    first, last = words.rsplit(", ", 1)
+    return start + first + ",\n" + " " * len(start) + last + ");"
+
+
+def header():
+    out = [HEADER % (BY, open("VERSION").read().strip()) + "\n".join(c_call(operation) for operation in OPERATIONS), ""]
+
+    def enum(title, pairs):
+        rows = ["    RONTHUYAL_%s = %d" % (constant(name), number) for name, number in pairs]
+        return ["/* %s */" % title, "enum {", ",\n".join(rows), "};", ""]
+
+    def prefixed(prefix, items, start=0):
+        return [(prefix + "_" + constant(item), start + at) for at, item in enumerate(items)]
+
+    out += enum("Operations.", prefixed("OP", [operation.name for operation in OPERATIONS], 1))
+    out += enum("Results of tick, switch and direct_switch_to.",
+                [("RESULT_NOT_DUE", 0), ("RESULT_SWITCHED", 1), ("RESULT_ALL_CONTEXTS_IDLE", 2)])
+    out += enum("Statuses of a context.", prefixed("STATUS", STATUS))
+    out += enum("States of a CPU.", prefixed("STATE", STATE))
+    out += ["/* Limits. */"] + ["#define RONTHUYAL_%s UINT64_C(%d)" % pair for pair in LIMITS] + [""]
+    out += ["/* Sizes: an image of c CPUs and n contexts has so many words, context x's record begins at so many, CPU k's block at",
+            "   so many. */"]
+    sizes, words, block = len(SIZES), RECORD_WORDS, BLOCK_WORDS
+    out += ["#define RONTHUYAL_RECORD_WORDS %d" % words, "#define RONTHUYAL_BLOCK_WORDS %d" % block,
+            "#define RONTHUYAL_LENGTH(c, n) ((size_t)%d + (size_t)%d * (n) + (size_t)%d * (c))" % (sizes, words, block),
+            "#define RONTHUYAL_RECORD(x) ((size_t)%d + (size_t)%d * (x))" % (sizes, words),
+            "#define RONTHUYAL_BLOCK(n, k) ((size_t)%d + (size_t)%d * (n) + (size_t)%d * (k))" % (sizes, words, block),
+            ""]
+    out += enum("Words of a record, from its beginning.", prefixed("CONTEXT", [word.name for word in RECORD]))
+    out += enum("Words of a block, from its beginning; slot i of an array is i words behind its place.",
+                prefixed("BLOCK", [word.name for word in SINGLE])
+                + [("BLOCK_" + constant(array.name), array_place(array)) for array in ARRAYS])
+    return "\n".join(out + ["#ifdef __cplusplus", "}", "#endif", "", "#endif"]) + "\n"
+
+
+def table(head, rows):
+    return "\n".join("| %s |" % " | ".join(row) for row in [head, ["---"] * len(head)] + rows)
+
+
+def rule(range, also):
+    """The refusals that a broken word gives; a word without a range breaks nothing by itself."""
+    return "none" if range == ANY else "3; 4: " + also if also else "3"
+
+
+def tables():
+    def rows(words):
+        return [["%d" % at, "`%s`" % word.name, word.says, word.unit, word.range, word.default,
+                 rule(word.range, word.also)]
+                for at, word in enumerate(words)]
+
+    head = ["word", "name", "says", "unit", "range", "default", "broken: refusal"]
+    arrays = [["%d" % array_place(array), "`%s`" % array.item.replace("%d", "i"), array.says, array.unit, array.range,
+               "`%s`" % array.count, rule(array.range, array.also)] for array in ARRAYS]
+    operations = [["%d" % number, "`%s`" % o.name, "yes" if o.takes else "", o.says, o.result]
+                  for number, o in enumerate(OPERATIONS, 1)]
+    refusals = [["%d" % number, says] for number, says in enumerate(REFUSALS, 1)]
+    return {"record": table(head, rows(RECORD)), "block": table(head, rows(SINGLE)),
+            "arrays": table(["from word", "name", "says", "unit", "range", "used slots", "broken: refusal"], arrays),
+            "operations": table(["operation", "the kernel's function", "takes a context", "does", "result"],
+                                operations),
+            "refusals": table(["refusal", "given exactly when"], refusals)}
+
+
+def with_tables(text):
+    for name, rows in tables().items():
+        begin, end = "<!-- %s: %s -->" % (name, BY.lower()), "<!-- end -->"
+        text, count = re.subn(re.escape(begin) + ".*?" + re.escape(end), lambda _: begin + "\n" + rows + "\n" + end,
+                              text, flags=re.S)
+        assert count == 1, (name, count)
+    return text
+
+
+def main():
+    os.makedirs("include", exist_ok=True)
+    with open("harness/image/src/places.rs", "w") as out:
+        out.write(rust())
+    with open("include/ronthuyal.h", "w") as out:
+        out.write(header())
+    page = "docs/IMAGE.md"
+    text = open(page).read()
+    with open(page, "w") as out:
+        out.write(with_tables(text))
+
+
+main()
