@@ -3,7 +3,7 @@
 #ifndef RONTHUYAL_H
 #define RONTHUYAL_H
 
-#define RONTHUYAL_VERSION "0.1.0"
+#define RONTHUYAL_VERSION "0.2.0"
 
 #include <stddef.h>
 #include <stdint.h>
@@ -35,6 +35,11 @@ struct ronthuyal_answer ronthuyal_drain_ipi_context_wakeups(uint64_t *image, siz
 struct ronthuyal_answer ronthuyal_block(uint64_t *image, size_t length, uint64_t cpu, uint64_t time, uint64_t context);
 struct ronthuyal_answer ronthuyal_hard_block(uint64_t *image, size_t length, uint64_t cpu, uint64_t time,
                                              uint64_t context);
+
+/* No operation: unblocks every context x whose bit x is set in mask, by rising number, or, refused, none. result is
+   how many of them were soft-blocked, interrupt is 1 if a wake-up of any of them went to another CPU. */
+struct ronthuyal_answer ronthuyal_unblock_group(uint64_t *image, size_t length, uint64_t cpu, uint64_t time,
+                                                uint64_t mask);
 
 /* Operations. */
 enum {

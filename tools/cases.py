@@ -6,9 +6,10 @@ RONTHUYAL_COMPARE names another build of its program."""
 import os
 import subprocess
 
-import switch_cases
+import group_cases
 import image_cases
 import refused_cases
+import switch_cases
 from case import Case
 
 KERNEL = [os.environ.get("RONTHUYAL_COMPARE", "harness/target/release/compare"), "answers"]
@@ -45,7 +46,7 @@ def check(case, line):
 
 
 def main():
-    items = image_cases.CASES + switch_cases.CASES + refused_cases.CASES
+    items = image_cases.CASES + switch_cases.CASES + refused_cases.CASES + group_cases.CASES
     calls = list_of(items)
     answers = subprocess.run(KERNEL, input=calls, capture_output=True, text=True, check=True).stdout
     lines = [line for line in answers.splitlines() if not line.startswith("#")]

@@ -176,6 +176,13 @@ class Operation(NamedTuple):
     says: str
 
 
+class Call(NamedTuple):
+    name: str
+    takes: str  # its last argument
+    result: str
+    says: str
+
+
 OPERATIONS = [
     Operation("tick", False, "0 no switch is due, else as 2", "the timer's tick: counts it, and switches on the third"),
     Operation("switch", False, "1 Switched, 2 AllContextsIdle", "who is in charge is decided anew"),
@@ -187,12 +194,19 @@ OPERATIONS = [
     Operation("hard_block", True, "as 6", "the named context becomes Stopped"),
 ]
 
+# Calls that have no operation number and are no function of the kernel.
+CALLS = [
+    Call("unblock_group", "mask", "how many of them were soft-blocked",
+         "operation 4 for every context x whose bit x is set in the mask, by rising number; refused, for none"),
+]
+
 REFUSALS = [
     "fewer than two words, or a size out of bounds",
     "the length is not the one that the sizes give",
     "a word, or the call's time, outside its range",
     "the structure is broken",
-    "no such operation; CPU absent or not below C; for operations 3, 4, 6 and 7 a context gone or not below N",
+    "no such operation; CPU absent or not below C; for operations 3, 4, 6 and 7 and for groups a context gone or not "
+    "below N",
     "a lock is not free",
     "operation 3 while the idle context is current, to another context",
     "operations 1 to 3: the time is over 2^52 - 1 ns past the CPU's `schedule_time`",

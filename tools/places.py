@@ -6,7 +6,7 @@ Run it from the root of the repository after a list changes."""
 import os
 import re
 
-from layout import (ANY, ARRAYS, BLOCK_WORDS, CONTEXTS, CPUS, ID_MAX, NUMBER_MAX, OPERATIONS, PRIO_MAX, RECORD,
+from layout import (ANY, ARRAYS, BLOCK_WORDS, CALLS, CONTEXTS, CPUS, ID_MAX, NUMBER_MAX, OPERATIONS, PRIO_MAX, RECORD,
                     RECORD_WORDS, REFUSALS, ROOM, SINGLE, SIZES, SLICE_MAX, STATE, STATUS, TURN_MAX, WEIGHT_MAX,
                     WEIGHT_MIN, array_place)
 
@@ -84,9 +84,14 @@ struct ronthuyal_answer ronthuyal_call(uint64_t *image, size_t length, uint64_t 
 """
 
 
-def c_call(operation):
-    start = "struct ronthuyal_answer ronthuyal_%s(" % operation.name
-    words = "uint64_t *image, size_t length, uint64_t cpu, uint64_t time" + (", uint64_t context" if operation.takes else "")
+GROUP = """
+/* No operation: unblocks every context x whose bit x is set in mask, by rising number, or, refused, none. result is
+   how many of them were soft-blocked, interrupt is 1 if a wake-up of any of them went to another CPU. */"""
+
+
+def c_call(name, last):
+    start = "struct ronthuyal_answer ronthuyal_%s(" % name
+    words = "uint64_t *image, size_t length, uint64_t cpu, uint64_t time" + (", uint64_t " + last if last else "")
     line = start + words + ");"
     if len(line) <= 120:
         return line
@@ -95,7 +100,9 @@ def c_call(operation):
 
 
 def header():
-    out = [HEADER % (BY, open("VERSION").read().strip()) + "\n".join(c_call(operation) for operation in OPERATIONS), ""]
+    calls = [c_call(operation.name, "context" if operation.takes else "") for operation in OPERATIONS]
+    calls += [GROUP] + [c_call(call.name, call.takes) for call in CALLS]
+    out = [HEADER % (BY, open("VERSION").read().strip()) + "\n".join(calls), ""]
 
     def enum(title, pairs):
         rows = ["    RONTHUYAL_%s = %d" % (constant(name), number) for name, number in pairs]
@@ -145,11 +152,13 @@ def tables():
                "`%s`" % array.count, rule(array.range, array.also)] for array in ARRAYS]
     operations = [["%d" % number, "`%s`" % o.name, "yes" if o.takes else "", o.says, o.result]
                   for number, o in enumerate(OPERATIONS, 1)]
+    calls = [["`ronthuyal_%s(image, cpu, time, %s)`" % (call.name, call.takes), call.says, call.result] for call in CALLS]
     refusals = [["%d" % number, says] for number, says in enumerate(REFUSALS, 1)]
     return {"record": table(head, rows(RECORD)), "block": table(head, rows(SINGLE)),
             "arrays": table(["from word", "name", "says", "unit", "range", "used slots", "broken: refusal"], arrays),
             "operations": table(["operation", "the kernel's function", "takes a context", "does", "result"],
                                 operations),
+            "calls": table(["call", "does", "result"], calls),
             "refusals": table(["refusal", "given exactly when"], refusals)}
 
 

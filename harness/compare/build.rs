@@ -4,7 +4,7 @@
 use std::{env, fs, path::PathBuf};
 
 /// The archive's index holds the names of its global symbols, ended by zeros.
-const EXPORT: &[u8] = b"ronthuyal_call\0";
+const EXPORTS: [&str; 2] = ["ronthuyal_call\0", "ronthuyal_unblock_group\0"];
 
 fn main() {
     let here = PathBuf::from(env::var("CARGO_MANIFEST_DIR").unwrap());
@@ -18,12 +18,17 @@ fn main() {
         return;
     };
     // Without it nothing would be compared, and nothing would be found to differ.
-    let exported = bytes.windows(EXPORT.len()).any(|window| window == EXPORT);
-    assert!(
-        exported,
-        "{} does not export ronthuyal_call",
-        archive.display()
-    );
+    for export in EXPORTS {
+        let exported = bytes
+            .windows(export.len())
+            .any(|window| window == export.as_bytes());
+        assert!(
+            exported,
+            "{} does not export {}",
+            archive.display(),
+            export.trim_end_matches('\0')
+        );
+    }
     println!("cargo::rustc-cfg=port");
     println!("cargo::rustc-link-arg={}", archive.display());
 }

@@ -47,7 +47,7 @@ fn wakeup_context(
     wake::wake_ipi(m, c, n, k, t, x, q, result)
 }
 
-fn unblock(m: &mut [u64], c: usize, n: usize, k: usize, x: usize) -> Answer
+pub fn unblock(m: &mut [u64], c: usize, n: usize, k: usize, x: usize) -> Answer
     requires { ⌜ Image c n (now m) ⌝ }
     requires { ⌜ (k < c) × (x < n) ⌝ }
     ensures { λ r. ⌜ ((M : Machine) → now (m .entry) ≡ encode M → Fits c n M → reply r (now (m .exit)) ≡ replied (now (m .entry)) (unblock-context k x M)) ⌝ }

@@ -1,6 +1,7 @@
 // Replays calls that a text lists: a case is the numbers operation, CPU, time, context, the image's length, how many of its
-// words are not 0, and these as pairs of place and value. Printed are refusal, result and interrupt mark, how many
-// words the call changed, and these as pairs of place and new value. A line that begins with # is printed as it is.
+// words are not 0, and these as pairs of place and value. A line that begins with g wakes a group: CPU, time, mask, then
+// the image as before. Printed are refusal, result and interrupt mark, how many words the call changed, and these as pairs
+// of place and new value. A line that begins with # is printed as it is.
 mod text;
 
 use answer::Answer;
@@ -90,10 +91,10 @@ fn answer(a: Answer, m: &[u64], old: &[u64]) {
 }
 
 struct Head {
-    operation: u64,
     cpu: u64,
     time: u64,
-    context: u64,
+    // a context, or the mask of a group
+    named: u64,
     length: u64,
     words: u64,
     // where the words begin in the text
@@ -101,17 +102,15 @@ struct Head {
 }
 
 fn read_head(s: &[u8], from: usize) -> Head {
-    let operation = text::next(s, from);
-    let cpu = text::next(s, operation.end);
+    let cpu = text::next(s, from);
     let time = text::next(s, cpu.end);
-    let context = text::next(s, time.end);
-    let length = text::next(s, context.end);
+    let named = text::next(s, time.end);
+    let length = text::next(s, named.end);
     let words = text::next(s, length.end);
     Head {
-        operation: operation.value,
         cpu: cpu.value,
         time: time.value,
-        context: context.value,
+        named: named.value,
         length: length.value,
         words: words.value,
         end: words.end,
@@ -124,19 +123,37 @@ fn prepare(s: &[u8], h: Head, m: &mut [u64], old: &mut [u64]) -> usize {
     words(s, h.end, h.words, m, old)
 }
 
-fn play(m: &mut [u64], h: Head) -> Answer {
+fn play(m: &mut [u64], operation: u64, h: Head) -> Answer {
     let n = numbers::index(h.length);
     if n <= m.len() {
-        return ronthuyal::ronthuyal_call(&mut m[0..n], h.operation, h.cpu, h.time, h.context);
+        return ronthuyal::ronthuyal_call(&mut m[0..n], operation, h.cpu, h.time, h.named);
     }
-    ronthuyal::ronthuyal_call(m, h.operation, h.cpu, h.time, h.context)
+    ronthuyal::ronthuyal_call(m, operation, h.cpu, h.time, h.named)
+}
+
+fn play_group(m: &mut [u64], h: Head) -> Answer {
+    let n = numbers::index(h.length);
+    if n <= m.len() {
+        return ronthuyal::ronthuyal_unblock_group(&mut m[0..n], h.cpu, h.time, h.named);
+    }
+    ronthuyal::ronthuyal_unblock_group(m, h.cpu, h.time, h.named)
 }
 
 // One case, and where the text goes on.
 fn case(s: &[u8], from: usize, m: &mut [u64], old: &mut [u64]) -> usize {
+    let operation = text::next(s, from);
+    let h = read_head(s, operation.end);
+    let end = prepare(s, h, m, old);
+    let a = play(m, operation.value, h);
+    answer(a, m, old);
+    end
+}
+
+// A case that wakes a group, from behind its g, and where the text goes on.
+fn group(s: &[u8], from: usize, m: &mut [u64], old: &mut [u64]) -> usize {
     let h = read_head(s, from);
     let end = prepare(s, h, m, old);
-    let a = play(m, h);
+    let a = play_group(m, h);
     answer(a, m, old);
     end
 }
@@ -156,6 +173,10 @@ fn comment(s: &[u8], from: usize) -> usize {
 fn item(s: &[u8], from: usize, m: &mut [u64], old: &mut [u64]) -> usize {
     if text::is_comment(s, from) {
         return comment(s, from);
+    }
+    let behind = text::after_group(s, from);
+    if from < behind {
+        return group(s, behind, m, old);
     }
     case(s, from, m, old)
 }

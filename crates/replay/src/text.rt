@@ -22,6 +22,9 @@ fn is_mark(b: u8) -> bool {
     if b == b'#' {
         return true;
     }
+    if b == b'g' {
+        return true;
+    }
     is_digit(b)
 }
 
@@ -49,7 +52,7 @@ fn digit(b: u8) -> u64 {
     0
 }
 
-// The first place from `from` on that is a digit or #, or the length.
+// The first place from `from` on that is a digit, # or g, or the length.
 pub fn skip(s: &[u8], from: usize) -> usize {
     let mut i = from;
     while i < s.len() {
@@ -66,6 +69,16 @@ pub fn is_comment(s: &[u8], at: usize) -> bool {
         return s[at] == b'#';
     }
     false
+}
+
+// Behind a g that stands at `at`; where there is none, `at`.
+pub fn after_group(s: &[u8], at: usize) -> usize {
+    if at < s.len() {
+        if s[at] == b'g' {
+            return at + 1;
+        }
+    }
+    at
 }
 
 pub fn line_end(s: &[u8], from: usize) -> usize {

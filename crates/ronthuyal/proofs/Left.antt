@@ -116,7 +116,7 @@ leaves {a} {m'} m operation cpu time context e words =
           left-by max-word f (words-raised (size-c m) (size-n m) (f .M) (f .holds) max-word (subst (RaisedAtMost max-word) (f .is) (small-words m' words)));
     }
 
-unraised-left : {m m' : List ℕ} → Unraised (size-c m) (size-n m) m' → Left max-number m m'
+pub unraised-left : {m m' : List ℕ} → Unraised (size-c m) (size-n m) m' → Left max-number m m'
 unraised-left f = left-by max-number (unraised-formed f) (f .holds .raised)
 
 -- what operations 4 to 7 promise, from the first promise

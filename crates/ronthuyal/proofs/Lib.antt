@@ -5,3 +5,9 @@ pub mod Dispatched
 pub mod Leaving
 pub mod Left
 pub mod Passing
+pub mod SameNames
+pub mod Reached
+pub mod OneByOne
+pub mod Grouped
+pub mod OneBit
+pub mod Least

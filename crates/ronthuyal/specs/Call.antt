@@ -15,6 +15,7 @@ use Rattle.switch_ops.specs.Reply.{decide, direct-switch}
 use Rattle.context_ops.specs.Named.{named}
 use Rattle.context_ops.specs.Operations.{unblock-context, drain-ipi-context-wakeups, block, hard-block}
 use Rattle.context_ops.specs.Reply.{Reply, refuse, reply-to, reply-on}
+use Rattle.group_ops.specs.Group.{unblock-group}
 
 -- refusals 1 to 4, or the counts of CPUs and contexts
 unfoldable pub check : List ℕ → ℕ → Checked
@@ -51,6 +52,10 @@ block-call m cpu time context = checked m time (λ (M : Machine). reply-to m (λ
 abbrev pub hard-block-call : List ℕ → (cpu time context : ℕ) → Reply
 hard-block-call m cpu time context =
     checked m time (λ (M : Machine). reply-to m (λ (k x : ℕ). hard-block x M) (named M cpu context))
+
+-- operation 4 for every context that the mask names, or for none
+abbrev pub unblock-group-call : List ℕ → (cpu time mask : ℕ) → Reply
+unblock-group-call m cpu time mask = checked m time (λ (M : Machine). unblock-group m M cpu mask)
 
 -- no such operation
 abbrev pub no-operation-call : List ℕ → (time : ℕ) → Reply

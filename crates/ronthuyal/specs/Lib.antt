@@ -1,3 +1,4 @@
 pub mod Call
 pub mod Demand
 pub mod Leaves
+pub mod Singles

@@ -11,6 +11,7 @@ ghost use Rattle.ronthuyal.specs.Call.{
   drain-ipi-context-wakeups-call,
   block-call,
   hard-block-call,
+  unblock-group-call,
   no-operation-call,
   call,
 };
@@ -179,5 +180,23 @@ pub extern "C" fn ronthuyal_call(
         6 => ronthuyal_block(image, cpu, time, context),
         7 => ronthuyal_hard_block(image, cpu, time, context),
         _ => no_operation(image, time),
+    }
+}
+
+// Operation 4 for every context of the mask, by rising number, or for none. The result is how many were soft-blocked.
+#[no_mangle]
+pub extern "C" fn ronthuyal_unblock_group(
+    image: &mut [u64],
+    cpu: u64,
+    time: u64,
+    mask: u64,
+) -> Answer
+    ensures { λ r. ⌜ reply r (now (image .exit)) ≡ unblock-group-call (now (image .entry)) cpu time mask ⌝ }
+    ensures { λ r. ⌜ Leaves max-number (now (image .entry)) (now (image .exit)) (r .refusal) ⌝ }
+{
+    let checked = check(image, time);
+    match checked {
+        Checked::Refused(number) => answer::refused(number),
+        Checked::Passed(c, n) => group_ops::unblock_group(image, c, n, cpu, mask),
     }
 }

@@ -1,7 +1,5 @@
 // Operations 1 to 3 on an image that was checked: `tick`, `switch` and `direct_switch_to`.
 // In every function m is the image of a machine of c CPUs and n contexts.
-mod copy;
-
 use answer::Answer;
 use machine::CpuLookup;
 use machine::Lookup;
@@ -113,10 +111,10 @@ fn with_copy(m: &mut [u64], c: usize, n: usize, k: usize, time: u64, d: Decision
 {
     let mut saved = [0u64; machine::MAX_IMAGE_SIZE];
     let len = m.len();
-    copy::copy(m, &mut saved, len);
+    words::copy(m, &mut saved, len);
     let r = follow(m, c, n, k, time, d);
     if r.full {
-        copy::copy(&saved, m, len);
+        words::copy(&saved, m, len);
         return answer::refused(9);
     }
     accepted(r.result)

@@ -1,7 +1,8 @@
 //! What a call must answer: rows 1 to 8 by the own reading of the table, the rest by
 //! the kernel's run.
 
-use image::{Answer, Call, check};
+use crate::ask::Ask;
+use image::Answer;
 
 pub enum Expected {
     /// Answer and image after.
@@ -14,8 +15,8 @@ pub enum Expected {
 /// A case in which the table and the kernel cannot both be right.
 pub struct Contradiction(pub String);
 
-pub fn expected(image: &[u64], call: &Call) -> Result<Expected, Contradiction> {
-    let refusal = check::refusal(image, call);
+pub fn expected(image: &[u64], call: &impl Ask) -> Result<Expected, Contradiction> {
+    let refusal = call.refusal(image);
     if refusal == 7 {
         must_assert(image, call)?;
     }
@@ -26,9 +27,9 @@ pub fn expected(image: &[u64], call: &Call) -> Result<Expected, Contradiction> {
 }
 
 #[cfg(feature = "oracle")]
-fn run(image: &[u64], call: &Call) -> Result<Expected, Contradiction> {
+fn run(image: &[u64], call: &impl Ask) -> Result<Expected, Contradiction> {
     let mut after = image.to_vec();
-    match kernel::oracle::call(&mut after, call) {
+    match call.kernel(&mut after) {
         Ok(answer) => Ok(Expected::Known(answer, after)),
         Err(fault) => Err(Contradiction(format!(
             "the table lets the call pass, the kernel has no answer: {fault:?}"
@@ -37,14 +38,14 @@ fn run(image: &[u64], call: &Call) -> Result<Expected, Contradiction> {
 }
 
 #[cfg(not(feature = "oracle"))]
-fn run(_image: &[u64], _call: &Call) -> Result<Expected, Contradiction> {
+fn run(_image: &[u64], _call: &impl Ask) -> Result<Expected, Contradiction> {
     Ok(Expected::Passes)
 }
 
 /// Row 7 is there because the source asserts: it must.
 #[cfg(feature = "oracle")]
-fn must_assert(image: &[u64], call: &Call) -> Result<(), Contradiction> {
-    match kernel::oracle::call(&mut image.to_vec(), call) {
+fn must_assert(image: &[u64], call: &impl Ask) -> Result<(), Contradiction> {
+    match call.kernel(&mut image.to_vec()) {
         Err(kernel::oracle::Fault::Panics(_)) => Ok(()),
         other => Err(Contradiction(format!(
             "the table says 7, the kernel does not assert: {other:?}"
@@ -53,6 +54,6 @@ fn must_assert(image: &[u64], call: &Call) -> Result<(), Contradiction> {
 }
 
 #[cfg(not(feature = "oracle"))]
-fn must_assert(_image: &[u64], _call: &Call) -> Result<(), Contradiction> {
+fn must_assert(_image: &[u64], _call: &impl Ask) -> Result<(), Contradiction> {
     Ok(())
 }

@@ -1,15 +1,17 @@
 //! The lists that the programs of `crates/replay` read and print, answered by the table
 //! and the kernel. A case is a line: operation, CPU, time, context, the image's length,
-//! how many of its words are not 0, and these as pairs of place and value. Its answer is
-//! a line: refusal, result, interrupt mark, how many words the call changed, and these as
+//! how many of its words are not 0, and these as pairs of place and value. A line that
+//! begins with g wakes a group: CPU, time, mask, then the image as before. The answer is a
+//! line: refusal, result, interrupt mark, how many words the call changed, and these as
 //! pairs of place and new value. A line that begins with # is copied.
 
 use crate::{
+    ask::Ask,
     expected::{Expected, expected},
-    generate::Stream,
+    generate::{Groups, Stream},
     replay,
 };
-use image::{Answer, Call, MAX_CONTEXTS, MAX_CPUS, OPERATIONS, length};
+use image::{Answer, Call, Group, MAX_CONTEXTS, MAX_CPUS, OPERATIONS, length};
 use std::io::{Read, stdin};
 
 /// How many words of a generated image may be other than 0: the list stays short.
@@ -20,12 +22,26 @@ fn fits(image: &[u64]) -> bool {
     image.len() <= length(MAX_CPUS as usize, MAX_CONTEXTS as usize) + 1
 }
 
+fn short(image: &[u64]) -> bool {
+    fits(image) && nonzero(image).len() <= WORDS
+}
+
 /// The numbers of a case.
 pub fn case(call: &Call, image: &[u64]) -> Vec<u64> {
     let mut numbers = vec![call.operation, call.cpu, call.time, call.context];
-    numbers.push(image.len() as u64);
-    put_pairs(&mut numbers, &nonzero(image));
+    put_image(&mut numbers, image);
     numbers
+}
+
+fn group_case(group: &Group, image: &[u64]) -> Vec<u64> {
+    let mut numbers = vec![group.cpu, group.time, group.mask];
+    put_image(&mut numbers, image);
+    numbers
+}
+
+fn put_image(numbers: &mut Vec<u64>, image: &[u64]) {
+    numbers.push(image.len() as u64);
+    put_pairs(numbers, &nonzero(image));
 }
 
 /// The numbers of an answer.
@@ -62,9 +78,22 @@ pub fn read_case(next: &mut impl FnMut() -> u64) -> (Call, Vec<u64>) {
         time: next(),
         context: next(),
     };
+    (call, read_image(next))
+}
+
+fn read_group(next: &mut impl FnMut() -> u64) -> (Group, Vec<u64>) {
+    let group = Group {
+        cpu: next(),
+        time: next(),
+        mask: next(),
+    };
+    (group, read_image(next))
+}
+
+fn read_image(next: &mut impl FnMut() -> u64) -> Vec<u64> {
     let mut image = vec![0; next() as usize];
     read_pairs(next, &mut image);
-    (call, image)
+    image
 }
 
 pub fn read_pairs(next: &mut impl FnMut() -> u64, image: &mut [u64]) {
@@ -79,16 +108,17 @@ fn line(numbers: Vec<u64>) -> String {
     words.join(" ")
 }
 
-/// Prints the calls of a recorded list, and `each` generated ones of every operation.
+/// Prints the calls of a recorded list, and `each` generated ones of every operation and of
+/// groups.
 pub fn calls(recorded: &str, seed: u64, each: u64) -> bool {
     let mut number = 0;
-    let mut print = |call: &Call, image: &[u64]| {
+    let mut print = |text: String| {
         number += 1;
-        println!("# case {number}\n{}", line(case(call, image)));
+        println!("# case {number}\n{text}");
     };
     for recorded in replay::words(recorded) {
         if fits(&recorded.image) {
-            print(&recorded.call, &recorded.image);
+            print(line(case(&recorded.call, &recorded.image)));
         }
     }
     let mut stream = Stream::new(seed);
@@ -99,11 +129,22 @@ pub fn calls(recorded: &str, seed: u64, each: u64) -> bool {
         if let Ok(Expected::Known(_, after)) = expected(image, call) {
             stream.answered(&after);
         }
-        let short = fits(image) && nonzero(image).len() <= WORDS;
         let wanted = left.get_mut(call.operation.wrapping_sub(1) as usize);
-        if let Some(left) = wanted.filter(|left| short && **left > 0) {
+        if let Some(left) = wanted.filter(|left| short(image) && **left > 0) {
             *left -= 1;
-            print(call, image);
+            print(line(case(call, image)));
+        }
+    }
+    let mut groups = Groups::new(seed);
+    let mut left = each;
+    while left > 0 {
+        let next = groups.next();
+        if let Ok(Expected::Known(_, after)) = expected(&next.image, &next.call) {
+            groups.answered(&after);
+        }
+        if short(&next.image) {
+            left -= 1;
+            print(format!("g {}", line(group_case(&next.call, &next.image))));
         }
     }
     true
@@ -123,14 +164,24 @@ pub fn answers() -> bool {
 }
 
 fn answered(text: &str) -> String {
+    let group = text.starts_with('g');
     let mut numbers = text
         .split_whitespace()
+        .skip(group.into())
         .map(|word| word.parse::<u64>().expect("a number"));
     let mut next = || numbers.next().expect("the line is cut off");
+    if group {
+        let (group, image) = read_group(&mut next);
+        return answer_line(&group, &image);
+    }
     let (call, image) = read_case(&mut next);
-    match expected(&image, &call) {
-        Ok(Expected::Known(got, after)) => line(answer(&got, &image, &after)),
+    answer_line(&call, &image)
+}
+
+fn answer_line(call: &impl Ask, image: &[u64]) -> String {
+    match expected(image, call) {
+        Ok(Expected::Known(got, after)) => line(answer(&got, image, &after)),
         Ok(Expected::Passes) => "passes".into(),
-        Err(contradiction) => panic!("{}: {text}", contradiction.0),
+        Err(contradiction) => panic!("{}: {}", contradiction.0, call.text()),
     }
 }

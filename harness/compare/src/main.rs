@@ -1,6 +1,7 @@
 //! The commands behind the scripts `run`, `lists`, `branches`, `power`, `power-table`, and
 //! `bench/switch`.
 
+mod ask;
 #[cfg(feature = "branches")]
 mod branches;
 #[cfg(feature = "branches")]
@@ -18,6 +19,7 @@ mod record;
 mod replay;
 mod report;
 mod run;
+mod tally;
 #[cfg(feature = "oracle")]
 mod times;
 
@@ -32,6 +34,7 @@ fn main() -> ExitCode {
     let good = match words[..] {
         ["run", seed, count] => run::run(number(seed), number(count)),
         ["chain", seed, calls] => run::chain(number(seed), number(calls)),
+        ["groups", seed, count] => run::groups(number(seed), number(count)),
         ["replay", list] => replay::replay(list),
         ["calls", recorded, seed, each] => list::calls(recorded, number(seed), number(each)),
         ["answers"] => list::answers(),

@@ -1,40 +1,32 @@
 //! Prints a case with the names of its words.
 
-use crate::generate::Case;
-use image::{Answer, OPERATIONS, name};
+use crate::{ask::Ask, generate::Case};
+use image::{Answer, name};
 
-pub fn case(case: &Case) {
-    let call = &case.call;
-    let operation = match call.operation {
-        1..=7 => OPERATIONS[call.operation as usize - 1],
-        _ => "none",
-    };
+pub fn case(case: &Case<impl Ask>) {
     println!(
-        "{:?} case: operation {} ({operation}), cpu {}, time {}, context {}, {} words",
+        "{:?} case: {}, {} words",
         case.kind,
-        call.operation,
-        call.cpu,
-        call.time,
-        call.context,
+        case.call.text(),
         case.image.len()
     );
     println!("words of the image that are not 0:");
     for (index, value) in case.image.iter().enumerate() {
         if *value != 0 {
-            println!("  {index:5} {} = {value}", word(case, index));
+            println!("  {index:5} {} = {value}", word(&case.image, index));
         }
     }
 }
 
-fn word(case: &Case, index: usize) -> String {
-    match case.image.as_slice() {
+fn word(image: &[u64], index: usize) -> String {
+    match image {
         [cpus, contexts, ..] => name::of(*cpus, *contexts, index),
         _ => format!("word {index}"),
     }
 }
 
 /// Prints each difference; false if there is none.
-pub fn differences(case: &Case, want: (&Answer, &[u64]), got: (&Answer, &[u64])) -> bool {
+pub fn differences(case: &Case<impl Ask>, want: (&Answer, &[u64]), got: (&Answer, &[u64])) -> bool {
     if want == got {
         return false;
     }
@@ -50,7 +42,7 @@ pub fn differences(case: &Case, want: (&Answer, &[u64]), got: (&Answer, &[u64]))
     row("interrupt mark", want.0.interrupt, got.0.interrupt);
     for (index, (want, got)) in want.1.iter().zip(got.1).enumerate() {
         if want != got {
-            row(&word(case, index), *want, *got);
+            row(&word(&case.image, index), *want, *got);
         }
     }
     true

@@ -1,7 +1,7 @@
 //! The table of refused calls, rows 1 to 8, read from document 01. Row 9 needs the
 //! run of the call and is not here.
 
-use crate::{Call, MAX_CONTEXTS, MAX_CPUS, NUMBER_MAX, View, block, context, length};
+use crate::{Call, Group, MAX_CONTEXTS, MAX_CPUS, NUMBER_MAX, View, block, context, length};
 use crate::{ranges, structure};
 
 /// The most that a turn may last.
@@ -9,6 +9,32 @@ const TURN_MAX: u64 = (1 << 52) - 1;
 
 /// The first row that the call meets, or 0.
 pub fn refusal(image: &[u64], call: &Call) -> u64 {
+    match image_refusal(image, call.time) {
+        0 => call_refusal(View(image), call),
+        refusal => refusal,
+    }
+}
+
+/// The first row that any single call of the group meets, or 0. Of an empty group the image,
+/// the time and the CPU are judged, as of operation 5.
+pub fn group_refusal(image: &[u64], group: &Group) -> u64 {
+    let image_only = image_refusal(image, group.time);
+    if image_only != 0 {
+        return image_only;
+    }
+    let nobody = Call {
+        operation: 5,
+        cpu: group.cpu,
+        time: group.time,
+        context: 0,
+    };
+    let calls = std::iter::once(nobody).chain(group.singles());
+    let met = calls.map(|call| call_refusal(View(image), &call));
+    met.filter(|refusal| *refusal != 0).min().unwrap_or(0)
+}
+
+/// Rows 1 to 4.
+pub fn image_refusal(image: &[u64], time: u64) -> u64 {
     if !sized(image) {
         return 1;
     }
@@ -16,12 +42,17 @@ pub fn refusal(image: &[u64], call: &Call) -> u64 {
         return 2;
     }
     let image = View(image);
-    if !ranges::hold(image) || call.time > NUMBER_MAX {
+    if !ranges::hold(image) || time > NUMBER_MAX {
         return 3;
     }
     if !structure::holds(image) {
         return 4;
     }
+    0
+}
+
+/// Rows 5 to 8, of an image that the others let pass.
+fn call_refusal(image: View, call: &Call) -> u64 {
     if !named(image, call) {
         return 5;
     }

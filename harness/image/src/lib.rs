@@ -27,6 +27,27 @@ pub struct Call {
     pub context: u64,
 }
 
+/// Wakes the contexts whose bits are set in the mask.
+#[derive(Clone, Copy, Debug, PartialEq, Eq, Default)]
+pub struct Group {
+    pub cpu: u64,
+    pub time: u64,
+    pub mask: u64,
+}
+
+impl Group {
+    /// The single calls that it stands for, by rising number of the context.
+    pub fn singles(self) -> impl Iterator<Item = Call> {
+        let named = (0..64).filter(move |context| self.mask >> context & 1 == 1);
+        named.map(move |context| Call {
+            operation: 4,
+            cpu: self.cpu,
+            time: self.time,
+            context,
+        })
+    }
+}
+
 #[repr(C)]
 #[derive(Clone, Copy, Debug, PartialEq, Eq, Default)]
 pub struct Answer {

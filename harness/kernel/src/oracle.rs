@@ -21,7 +21,7 @@ use core::{
     ptr,
     sync::atomic::{AtomicBool, Ordering},
 };
-use image::{Answer, Call, MAX_CPUS, ROOM, View};
+use image::{Answer, Call, Group, MAX_CPUS, ROOM, View};
 use std::panic::{AssertUnwindSafe, catch_unwind};
 
 static IN_KERNEL: AtomicBool = AtomicBool::new(false);
@@ -70,10 +70,33 @@ pub fn call(image: &mut [u64], call: &Call) -> Result<Answer, Fault> {
 const DUE: u64 = u64::MAX;
 
 fn run(image: &mut [u64], call: &Call) -> Result<Answer, Fault> {
+    run_each(image, call, std::iter::once(*call))
+}
+
+/// The calls of `unblock_context` one by one on one machine; `image` becomes the image after
+/// them. True returns are counted, and an interrupt of any call is noted.
+pub fn unblock_group(image: &mut [u64], group: &Group) -> Result<Answer, Fault> {
+    let here = Call {
+        operation: 4,
+        cpu: group.cpu,
+        time: group.time,
+        context: 0,
+    };
+    run_each(image, &here, group.singles())
+}
+
+/// Runs the calls, on the CPU and at the time of `here`; the result is the sum of theirs.
+fn run_each(
+    image: &mut [u64],
+    here: &Call,
+    calls: impl Iterator<Item = Call>,
+) -> Result<Answer, Fault> {
     let mut built = Built::new(image);
-    built.connect(call);
+    built.connect(here);
     IN_KERNEL.store(true, Ordering::Relaxed);
-    let outcome = catch_unwind(AssertUnwindSafe(|| built.call(call)));
+    let outcome = catch_unwind(AssertUnwindSafe(|| {
+        calls.map(|call| built.call(&call)).sum()
+    }));
     IN_KERNEL.store(false, Ordering::Relaxed);
     let result = outcome.map_err(|payload| {
         if payload.is::<spin::WouldWait>() {

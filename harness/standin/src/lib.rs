@@ -2,7 +2,9 @@
 //! comparison is tried on it, and edits of the table show whether it would see a port
 //! that reads the table otherwise.
 
-use image::{Answer, Call, check};
+mod group;
+
+use image::{Answer, Call, Group, check};
 use kernel::oracle;
 
 /// # Safety
@@ -29,4 +31,18 @@ pub unsafe extern "C" fn ronthuyal_call(
     }
     // No row has this number: an edited table let a call pass that has no answer.
     oracle::call(words, &call).unwrap_or(Answer::refused(u64::MAX))
+}
+
+/// # Safety
+/// `image` points to `len` words.
+#[unsafe(no_mangle)]
+pub unsafe extern "C" fn ronthuyal_unblock_group(
+    image: *mut u64,
+    len: usize,
+    cpu: u64,
+    time: u64,
+    mask: u64,
+) -> Answer {
+    let words = unsafe { std::slice::from_raw_parts_mut(image, len) };
+    group::unblock_group(words, &Group { cpu, time, mask })
 }

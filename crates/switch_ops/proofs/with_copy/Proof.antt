@@ -1,5 +1,5 @@
 use Rattle.machine.proofs.Steps.{sized}
-use Rattle.switch_ops.proofs.Copied.{put-back}
+use Rattle.words.proofs.Copied.{put-back}
 use Rattle.switch_ops.proofs.Answered.{room, no-room}
 use native.Mathlib.Omega.{arith}
 use borrow.Author.Needs.{needs}

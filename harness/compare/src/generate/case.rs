@@ -23,10 +23,11 @@ pub const KINDS: [(Kind, &str); 5] = [
 ];
 
 #[derive(Clone)]
-pub struct Case {
+pub struct Case<A = Call> {
     pub kind: Kind,
     pub image: Vec<u64>,
-    pub call: Call,
+    /// An operation, or a group.
+    pub call: A,
     /// Whether the image is the one that the call before left.
     pub chained: bool,
 }

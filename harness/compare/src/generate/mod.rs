@@ -5,6 +5,7 @@ mod breakage;
 mod case;
 mod damage;
 mod full;
+mod group;
 pub mod machine;
 pub mod rng;
 mod seats;
@@ -17,6 +18,7 @@ mod values;
 #[cfg(feature = "branches")]
 pub use case::KINDS;
 pub use case::{Case, Kind};
+pub use group::Groups;
 
 use case::Choice;
 use image::{Call, NUMBER_MAX, View, block as b, check};

@@ -1,12 +1,12 @@
-use Rattle.switch_ops.proofs.Copied.{up-to}
+use Rattle.words.proofs.Copied.{up-to}
 use lib.ListN.{length, take}
 use mathlib.Core.Path.{_≡_}
 use Prim.Native.Nat.{_-_, _≤_}
-use Rattle.switch_ops.proofs.Copied.{one-more}
+use Rattle.words.proofs.Copied.{one-more}
 use borrow.Author.Needs.{needs}
 use native.Mathlib.Omega.{arith}
-use Rattle.switch_ops.proofs.copy.copy.Statement.{statement}
-use Rattle.switch_ops.proofs.copy.copy.Tie as tie
+use Rattle.words.proofs.copy.Statement.{statement}
+use Rattle.words.proofs.copy.Tie as tie
 
 abbrev Inv-loop : tie.InvT-loop
 Inv-loop from to₀ len i₀ to i = (i ≤ len) × (length to ≡ length to₀) × (take i to ≡ take i from)

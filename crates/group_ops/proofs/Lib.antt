@@ -1,0 +1,4 @@
+pub mod Naming
+pub mod Unblocking
+pub mod Reaching
+pub mod Roomy

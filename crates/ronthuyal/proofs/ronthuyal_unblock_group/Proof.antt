@@ -1,0 +1,46 @@
+use Rattle.ronthuyal.proofs.Grouped.{group-promises}
+use Rattle.ronthuyal.proofs.Called.{call-refused, call-image, call-done}
+use borrow.Author.Needs.{needs}
+use Rattle.ronthuyal.proofs.ronthuyal_unblock_group.Statement.{statement}
+use Rattle.ronthuyal.proofs.ronthuyal_unblock_group.Tie as tie
+
+check-requires : tie.Need-check-requires
+check-requires c κs = search needs
+
+enum-known-checked : tie.Need-enum-known-checked
+enum-known-checked c = search needs
+
+refused-requires : tie.Need-refused-requires
+refused-requires c κs = search needs
+
+enum-known-checked-2 : tie.Need-enum-known-checked-2
+enum-known-checked-2 c = search needs
+
+unblock-group-requires : tie.Need-unblock-group-requires
+unblock-group-requires c κs = call-image _ _ _ (c .before .before .before .before .check .ensures) _ _ (c .before .before .checked2 .given .1)
+
+same-length : tie.Need-same-length
+same-length c = search needs
+
+returns : tie.Need-returns
+returns c = group-promises _ _ _ _ (call-refused _ _ _ (c .before .before .before .before .check .ensures) _ _ (c .before .before .checked .given .1) (c .refused .ensures))
+
+same-length-2 : tie.Need-same-length-2
+same-length-2 c = search needs
+
+returns-2 : tie.Need-returns-2
+returns-2 c = group-promises _ _ _ _ (call-done _ _ _ (c .before .before .before .before .before .before .before .check .ensures) _ _ _ (c .before .before .before .before .before .checked2 .given .1) (c .before .before .unblock-group .ensures))
+
+pub ronthuyal-unblock-group-spec : {M : Type 1} → statement M
+ronthuyal-unblock-group-spec =
+    tie.close
+    (tie.spec
+    check-requires
+    enum-known-checked
+    refused-requires
+    enum-known-checked-2
+    unblock-group-requires
+    same-length
+    returns
+    same-length-2
+    returns-2)

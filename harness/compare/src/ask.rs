@@ -1,0 +1,60 @@
+//! What is asked of table, kernel and port: an operation, or the waking of a group.
+
+use crate::port;
+use image::{Answer, Call, Group, OPERATIONS, check};
+#[cfg(feature = "oracle")]
+use kernel::oracle::{self, Fault};
+
+pub trait Ask {
+    /// The first of rows 1 to 8 that it meets, or 0.
+    fn refusal(&self, image: &[u64]) -> u64;
+    /// Runs the kernel's own functions; `image` becomes the image after.
+    #[cfg(feature = "oracle")]
+    fn kernel(&self, image: &mut [u64]) -> Result<Answer, Fault>;
+    /// The port's answer, or nothing where there is no port.
+    fn port(&self, image: &mut [u64]) -> Option<Answer>;
+    fn text(&self) -> String;
+}
+
+impl Ask for Call {
+    fn refusal(&self, image: &[u64]) -> u64 {
+        check::refusal(image, self)
+    }
+    #[cfg(feature = "oracle")]
+    fn kernel(&self, image: &mut [u64]) -> Result<Answer, Fault> {
+        oracle::call(image, self)
+    }
+    fn port(&self, image: &mut [u64]) -> Option<Answer> {
+        port::call(image, self)
+    }
+    fn text(&self) -> String {
+        let name = match self.operation {
+            1..=7 => OPERATIONS[self.operation as usize - 1],
+            _ => "none",
+        };
+        let Call {
+            operation,
+            cpu,
+            time,
+            context,
+        } = self;
+        format!("operation {operation} ({name}), cpu {cpu}, time {time}, context {context}")
+    }
+}
+
+impl Ask for Group {
+    fn refusal(&self, image: &[u64]) -> u64 {
+        check::group_refusal(image, self)
+    }
+    #[cfg(feature = "oracle")]
+    fn kernel(&self, image: &mut [u64]) -> Result<Answer, Fault> {
+        oracle::unblock_group(image, self)
+    }
+    fn port(&self, image: &mut [u64]) -> Option<Answer> {
+        port::unblock_group(image, self)
+    }
+    fn text(&self) -> String {
+        let Group { cpu, time, mask } = self;
+        format!("unblock_group, cpu {cpu}, time {time}, mask {mask:#x}")
+    }
+}
