@@ -1,8 +1,8 @@
 #!/usr/bin/env python3
 """Writes crates/cases/stdin and stdout. Where a case has not all of its changed words worked out by hand, they are
-those of the kernel's run; what document 01 says of them stands beside the case and is held to that run, and so is what
-is worked out by hand. Run it from the root of the repository, after harness/run has built the harness;
-RONTHUYAL_COMPARE names another build of its program."""
+those of the kernel's run (its changed build where a due timer is unreadable); what document 01 says of them stands
+beside the case and is held to that run, and so is what is worked out by hand. Run it from the root of the repository,
+after harness/run has built the harness; RONTHUYAL_COMPARE names another build of its program."""
 import os
 import subprocess
 
@@ -10,6 +10,7 @@ import group_cases
 import image_cases
 import refused_cases
 import switch_cases
+import timer_cases
 from case import Case
 
 KERNEL = [os.environ.get("RONTHUYAL_COMPARE", "harness/target/release/compare"), "answers"]
@@ -46,7 +47,8 @@ def check(case, line):
 
 
 def main():
-    items = image_cases.CASES + switch_cases.CASES + refused_cases.CASES + group_cases.CASES
+    items = (image_cases.CASES + switch_cases.CASES + refused_cases.CASES + group_cases.CASES
+             + timer_cases.CASES)
     calls = list_of(items)
     answers = subprocess.run(KERNEL, input=calls, capture_output=True, text=True, check=True).stdout
     lines = [line for line in answers.splitlines() if not line.startswith("#")]

@@ -8,6 +8,7 @@ use lib.Dec.{leb, ltb}
 use lib.ListN.{length, getD, length-append}
 use borrow.Author.Tests.{lt-leb, ltb-true, ltb-false}
 use Rattle.columns.specs.Common.{fold, keep, tabulate}
+use Rattle.columns.proofs.Keep.{length-keep}
 use Rattle.columns.proofs.Tests.{by-test}
 use Rattle.columns.proofs.Tabulate.{getD-past}
 use Rattle.cpu_set.specs.Set.{contains}
@@ -71,10 +72,6 @@ unfolding unblock-each
 roomy k count xs M e h = each-goes k xs _ refl (rw e at h)
 
 -- a set has at most 64 members
-length-keep : (p : ℕ → Bool) (l : List ℕ) → length (keep p l) ≤ length l
-length-keep p [] = omega arith
-length-keep p (x ∷ xs) = let h = length-keep p xs in by-test (p x) (λ t. rw t (omega arith)) (λ t. rw t (omega arith))
-
 pub count-small : (mask : ℕ) → length (members mask) ≤ 64
 unfolding members tabulate
 count-small mask = length-keep (contains mask) (tabulate 64 (λ (i : ℕ). i))

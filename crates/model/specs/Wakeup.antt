@@ -45,10 +45,18 @@ unfoldable pub wakeups : ℕ → State → List Wakeup
 wakeups time s =
     map timer-wakeup (keep (is-live-timer s) (keep (is-due time) (s .cpu .timers))) ++ map local-wakeup (s .cpu .«local_wakeup_list»)
 
--- the due timers and the local list are taken out
+-- a live context that cannot be read
+abbrev pub is-unreadable : State → ℕ → Bool
+is-unreadable s x = not ((at s x) .gone) && (eqb ((at s x) .lock) 2 || eqb x (s .cpu .block .«sched_ctxt»))
+
+-- a timer is left in the set until it is due and its context can be read or is gone
+abbrev pub stays : ℕ → State → Timer → Bool
+stays time s t = not (is-due time t) || is-unreadable s (t .«context_ref»)
+
+-- the other timers and the local list are taken out
 abbrev pub drained : ℕ → State → State
 drained time s =
-    on-cpu (λ p. cpu-timers (keep (λ t. not (is-due time t)) (p .timers)) (cpu-local-wakeup-list [] p)) s
+    on-cpu (λ p. cpu-timers (keep (stays time s) (p .timers)) (cpu-local-wakeup-list [] p)) s
 
 -- a context that is locked is tried again at the next decision
 abbrev pub put-back : Option ℕ → ℕ → State → State

@@ -15,7 +15,8 @@ use Rattle.machine.specs.Machine.{context-at, no-cpu}
 use Rattle.model.proofs.Cases.{never}
 use Rattle.model.proofs.Lists.{all-map}
 use Rattle.model.proofs.Sorted.{all-insert, insert-sorted}
-use Rattle.wakeup_read.proofs.Draining.{all-keep, sorted-keep}
+use Rattle.columns.proofs.Keep.{all-keep}
+use Rattle.entries.proofs.Ordered.{sorted-keep}
 use Rattle.model_leaves.proofs.WellFormed.{Fixed, fixed, LiveName, EntryFormed, TimerFormed, TimersFormed, NamesFormed, View, view, CpuFormed, Room, Stands, absent, present}
 use Rattle.entries.proofs.Ordered.{timers-ordered}
 

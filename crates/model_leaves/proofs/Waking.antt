@@ -1,7 +1,7 @@
 -- Wake-ups keep a machine well-formed. Assumes nothing.
 use mathlib.Core.Path.{_≡_, refl, sym, ap, _∙_, subst}
 use mathlib.Core.Logic.{_⊎_, inl, inr}
-use mathlib.Core.Bool.{true, not}
+use mathlib.Core.Bool.{true}
 use mathlib.Core.List.{List, map}
 use mathlib.Core.Option.{Option, none, some}
 use Prim.Native.Nat.{ℕ, _<_, _≤_}
@@ -18,12 +18,13 @@ use Rattle.entries.specs.Queue.{keyed}
 use Rattle.percpu.specs.With.{cpu-queue}
 use Rattle.machine.specs.Machine.{context-at}
 use Rattle.model.specs.State.{State, at, put-context, on-cpu}
-use Rattle.model.specs.Wakeup.{Wakeup, is-live-timer, waits-for, timer-wakeup, local-wakeup, wakeups, drained, put-back, woken-by, activated, without-old-key, entering, enter, wake-as, serve-wakeup, serve-wakeups}
+use Rattle.model.specs.Wakeup.{Wakeup, is-live-timer, waits-for, timer-wakeup, local-wakeup, wakeups, stays, drained, put-back, woken-by, activated, without-old-key, entering, enter, wake-as, serve-wakeup, serve-wakeups}
 use Rattle.model.proofs.Cases.{pick, never}
 use Rattle.model.proofs.Lists.{all-at, fold-keeps-in, in-append, in-map, in-keep}
 use Rattle.model.proofs.Ordered.{old-key-ordered}
 use Rattle.model.proofs.WakeupCases.{asked, woke, wakeup-cases}
-use Rattle.model_room.proofs.Lengths.{length-keep, length-remove}
+use Rattle.columns.proofs.Keep.{length-keep}
+use Rattle.model_room.proofs.Lengths.{length-remove}
 use Rattle.model_leaves.proofs.WellFormed.{Fixed, fixed, changing, FixedFormed, ChangingFormed, LiveName, EntryFormed, TimerFormed, TimersFormed, NamesFormed}
 use Rattle.model_leaves.proofs.Lists.{timers-left}
 use Rattle.model_leaves.proofs.Kept.{KeptState, put-kept, same-fixed, live-name, insert-kept, timer-kept, name-kept, queue-kept}
@@ -145,13 +146,13 @@ module _ (c n : ℕ) (cs₀ : List Context) (live : (x : ℕ) → LiveName n cs�
         context = o .context;
         cpu = record {
           scalars = o .cpu .scalars;
-          lists = record { queue = k .queue; timers = timers-left (λ t. not (is-due time t)) (s .cpu .timers) (k .timers); local = tt; ipi = k .ipi };
+          lists = record { queue = k .queue; timers = timers-left (stays time s) (s .cpu .timers) (k .timers); local = tt; ipi = k .ipi };
         };
         room = λ z.
             let r = o .room z in
             record {
               queue = r .queue;
-              timers = omega (arith, r .timers, length-keep (λ t. not (is-due time t)) (s .cpu .timers));
+              timers = omega (arith, r .timers, length-keep (stays time s) (s .cpu .timers));
               local = omega arith;
               ipi = r .ipi;
               queue-len = r .queue-len;

@@ -1,6 +1,6 @@
 -- How long a list is after an insertion, a removal, or the items that pass a test. Assumes nothing.
 use mathlib.Core.Path.{_≡_}
-use mathlib.Core.Bool.{Bool, not}
+use mathlib.Core.Bool.{Bool, true, false}
 use mathlib.Core.List.{List, [], _∷_}
 use Prim.Native.Nat.{_+_, _≤_}
 use native.Mathlib.Omega.{arith}
@@ -28,19 +28,17 @@ module _ {A : Type 0} (lt : A → A → Bool) (a : A) where
       let h : length (remove lt a xs) ≤ length xs = length-remove xs
       in by-test (lt a x) (λ e. rw e (omega arith)) (λ e. rw e (by-test (lt x a) (λ f. rw f (omega arith)) (λ f. rw f (omega arith))))
 
-module _ {A : Type 0} (p : A → Bool) where
-  pub length-keep : (l : List A) → length (keep p l) ≤ length l
-  length-keep [] = omega arith
-  length-keep (x ∷ xs) =
-      let h : length (keep p xs) ≤ length xs = length-keep xs
-      in by-test (p x) (λ e. rw e (omega arith)) (λ e. rw e (omega arith))
-
-  -- an item passes a test or its opposite
-  pub length-parts : (l : List A) → length (keep p l) + length (keep (λ (x : A). not (p x)) l) ≡ length l
-  length-parts [] = omega arith
-  length-parts (x ∷ xs) =
-      let h : length (keep p xs) + length (keep (λ (y : A). not (p y)) xs) ≡ length xs = length-parts xs
-      in by-test (p x) (λ e. rw e (omega arith)) (λ e. rw e (omega arith))
+-- no item passes p, and q and r
+module _ {A : Type 0} (p q r : A → Bool) (apart : (x : A) → r x ≡ true → q x ≡ true → p x ≡ false) where
+  pub length-apart : (l : List A) → length (keep p l) + length (keep q (keep r l)) ≤ length l
+  length-apart [] = omega arith
+  length-apart (x ∷ xs) =
+      let h : length (keep p xs) + length (keep q (keep r xs)) ≤ length xs = length-apart xs in
+      let either : length (keep p (x ∷ xs)) ≤ length (keep p xs) + 1 = by-test (p x) (λ e. rw e (omega arith)) (λ e. rw e (omega arith)) in
+      by-test (r x)
+      (λ e.
+      by-test (q x) (λ f. let z : p x ≡ false = apart x e f in rw (e, f, z) (omega arith)) (λ f. rw (e, f) (omega arith)))
+      (λ e. rw e (omega arith))
 
 pub length-without : (ks : List Key) (q : List Entry) → length (without-keys q ks) ≤ length q
 length-without [] q = omega arith

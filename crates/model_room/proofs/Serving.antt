@@ -1,24 +1,28 @@
 -- Wake-ups and charging: each wake-up lengthens a list by at most one item, and so does charging. Assumes nothing.
-use mathlib.Core.Bool.{not}
+use mathlib.Core.Path.{_≡_, refl, sym}
+use mathlib.Core.Bool.{Bool, true, false, not, _&&_, _||_}
 use mathlib.Core.List.{List, [], _∷_}
 use mathlib.Core.Option.{Option, none, some}
 use Prim.Native.Nat.{ℕ, _+_, _<_, _≤_}
 use native.Mathlib.Omega.{arith}
 use lib.ListN.{length, length-append, length-map}
+use lib.Dec.{eqb}
 use Rattle.columns.specs.Common.{fold, keep}
+use Rattle.columns.proofs.Tests.{and-both}
 use Rattle.context.specs.declared.Context.{Context}
 use Rattle.context.specs.Status.{is-runnable}
 use Rattle.weights.specs.Weights.{weight}
 use Rattle.entries.specs.declared.Entry.{Entry}
+use Rattle.entries.specs.declared.Timer.{Timer}
 use Rattle.entries.specs.Order.{entry-before, is-due}
 use Rattle.entries.specs.Queue.{keyed}
 use Rattle.percpu.specs.With.{cpu-queue}
-use Rattle.model.specs.State.{State, on-cpu, put-context, holder, is-idle}
-use Rattle.model.specs.Wakeup.{Wakeup, is-live-timer, timer-wakeup, local-wakeup, wakeups, drained, put-back, without-old-key, activated, entering, enter, wake-as, serve-wakeup, serve-wakeups}
+use Rattle.model.specs.State.{State, at, on-cpu, put-context, holder, is-idle}
+use Rattle.model.specs.Wakeup.{Wakeup, can-read, waits-for, is-live-timer, timer-wakeup, local-wakeup, wakeups, is-unreadable, stays, drained, put-back, without-old-key, activated, entering, enter, wake-as, serve-wakeup, serve-wakeups}
 use Rattle.model.specs.Turn.{count-switch, times, holder-stopped, charge-holder, before-selection, inactive}
 use Rattle.model.proofs.Cases.{pick}
 use Rattle.model.proofs.WakeupCases.{wakeup-cases}
-use Rattle.model_room.proofs.Lengths.{length-remove, length-keep, length-parts}
+use Rattle.model_room.proofs.Lengths.{length-remove, length-apart}
 use Rattle.model_room.proofs.Within.{Within, weaker, entry-inserted, timer-inserted, name-pushed}
 use Rattle.context.specs.Key.{queue-key, entry-of}
 
@@ -53,11 +57,25 @@ served-within s (w ∷ ws) h a b d =
     weaker (omega arith) (omega arith) (omega arith)
     (served-within (serve-wakeup s w) ws (serve-within s h (omega arith) (omega arith) (omega arith) w) (omega arith) (omega arith) (omega arith))
 
--- a wake-up for each due timer and each name at most
-wakeups-few : (time : ℕ) (s : State) → length (wakeups time s) ≤ length (keep (is-due time) (s .cpu .timers)) + length (s .cpu .«local_wakeup_list»)
+-- a context that can be read is not one that cannot
+read-or-not : (g l h : Bool) → (not g && not l && not h) ≡ true → (not g && (l || h)) ≡ false
+read-or-not true l h e = refl
+read-or-not false true h e = sym e
+read-or-not false false true e = sym e
+read-or-not false false false e = refl
+
+live-leaves : (time : ℕ) (s : State) (t : Timer) → is-due time t ≡ true → is-live-timer s t ≡ true → stays time s t ≡ false
+live-leaves time s t d e =
+    let q = at s (t .«context_ref») in
+    let u : is-unreadable s (t .«context_ref») ≡ false
+    = read-or-not (q .gone) (eqb (q .lock) 2) (eqb (t .«context_ref») (s .cpu .block .«sched_ctxt»)) (and-both (can-read s (t .«context_ref»)) (waits-for (t .wake) q) e .0)
+    in rw (d, u)
+
+-- a wake-up for each due timer that does not stay, and each name, at most
+wakeups-few : (time : ℕ) (s : State) → length (keep (stays time s) (s .cpu .timers)) + length (wakeups time s) ≤ length (s .cpu .timers) + length (s .cpu .«local_wakeup_list»)
 unfolding wakeups
 wakeups-few time s =
-    let n = length-keep (is-live-timer s) (keep (is-due time) (s .cpu .timers))
+    let n = length-apart (stays time s) (is-live-timer s) (is-due time) (live-leaves time s) (s .cpu .timers)
     in rw (length-append, length-map (keep (is-live-timer s) (keep (is-due time) (s .cpu .timers))) timer-wakeup, length-map (s .cpu .«local_wakeup_list») local-wakeup) (omega arith)
 
 -- q entries, t timers and l names: after the wake-ups no list is longer than q + t + l
@@ -65,9 +83,8 @@ pub serve-wakeups-within : {q t l : ℕ} (time : ℕ) (s : State) → Within q t
 unfolding serve-wakeups
 serve-wakeups-within {q} {t} {l} time s h r =
     let n = wakeups-few time s in
-    let p = length-parts (is-due time) (s .cpu .timers) in
     weaker (omega (arith, h .timers, h .local)) (omega (arith, h .timers, h .local)) (omega (arith, h .timers, h .local))
-    (served-within {q = q} {t = length (keep (λ x. not (is-due time x)) (s .cpu .timers))} {l = 0} (drained time s) (wakeups time s)
+    (served-within {q = q} {t = length (keep (stays time s) (s .cpu .timers))} {l = 0} (drained time s) (wakeups time s)
     (record { room = h .room; queue = h .queue; timers = omega arith; local = omega arith }) (omega (arith, h .timers, h .local)) (omega (arith, h .timers, h .local)) (omega (arith, h .timers, h .local)))
 
 pub charge-within : {q t l : ℕ} (n : ℕ) (s : State) → Within q t l s → t < 64 → Within q (t + 1) l (charge-holder n s)

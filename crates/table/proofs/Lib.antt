@@ -5,4 +5,3 @@ pub mod Places
 pub mod Rising
 pub mod InBlock
 pub mod Sorted
-pub mod Dropping

@@ -2,13 +2,14 @@
 use mathlib.Core.Path.{subst, _≡_, refl, ap, _∙_}
 use mathlib.Core.Bool.{Bool, _&&_, not}
 use mathlib.Core.List.{List, [], _∷_}
-use Prim.Native.Nat.{ℕ, _+_, _≤_}
+use Prim.Native.Nat.{ℕ, _+_, _-_, _<_, _≤_}
 use native.Mathlib.Omega.{arith}
 use native.Mathlib.Nat.{zero-add}
-use lib.ListN.{length, getD, take, drop}
+use lib.ListN.{length, getD, set, take, drop}
 use lib.Dec.{eqb, ltb}
 use borrow.Author.Tests.{eqb-true, le-ltb, le-leb, leb-true}
 use Rattle.columns.specs.Common.{keep}
+use Rattle.columns.specs.Columns.{remove-at}
 use Rattle.entries.specs.declared.Key.{Key}
 use Rattle.entries.specs.declared.Timer.{Timer}
 use Rattle.entries.specs.Order.{before, sooner, is-due}
@@ -26,7 +27,8 @@ use Rattle.table.specs.First.{Falls, first-not, lead}
 use Rattle.table.proofs.Tables.{fields}
 use Rattle.table.proofs.Search.{first-is}
 use Rattle.table.proofs.Rising.{lead-keeps}
-use Rattle.table.proofs.InBlock.{Table, Lies, entry-fields, count-is}
+use Rattle.table.specs.Rows.{each-column, word-removed}
+use Rattle.table.proofs.InBlock.{Table, Lies, entry-fields, zeros, count-is, block-remove}
 use Rattle.timers.specs.Put.{timer-key}
 use Rattle.percpu.specs.Places.{timer-wake-column, timer-context-ref-column}
 
@@ -88,3 +90,11 @@ module _ (b : List ℕ) (t : Timer) (k : Key) (e : k ≡ timer-key t) (n p : ℕ
   unfolding key-at timer-at
   has-timer r h =
       h ∙ ap (λ (x : Bool). ltb p n && not x) (ap (λ (x : Key). before x (timer-key (timer-at b p))) e ∙ same-order t (timer-at b p))
+
+-- a timer taken out and the count lowered
+pub timer-out : (b b′ : List ℕ) (i : ℕ) → i < getD b 22 0 → b′ ≡ each-column (word-removed (getD b 22 0) i) b timer-wake-column (zeros timer-table) → (c : Cpu) → b ≡ cpu-words c → length (c .timers) ≤ 64 → set b′ 22 (getD b 22 0 - 1) ≡ cpu-words (cpu-timers (remove-at i (c .timers)) c)
+timer-out b b′ i h e c hb g =
+    let n : getD b 22 0 ≡ length (c .timers) = ap (λ (l : List ℕ). getD l 22 0) hb ∙ count-is timer-table timer-lies c
+    in ap (λ (l : List ℕ). set l 22 (getD b 22 0 - 1)) e
+    ∙ (λ j. set (each-column (word-removed (n j) i) (hb j) timer-wake-column (zeros timer-table)) 22 (n j - 1))
+    ∙ block-remove timer-table timer-lies c i (omega arith) g

@@ -1,7 +1,8 @@
 // The timers in a CPU's block: two columns, sorted by wake and context (a `BTreeSet` in context/mod.rs).
 ghost use mathlib.Core.Path.{_≡_};
 ghost use Prim.Native.Nat.{ℕ, _+_, _<_, _≤_};
-ghost use lib.ListN.{length, getD, drop};
+ghost use lib.ListN.{length, getD};
+ghost use Rattle.columns.specs.Columns.{remove-at};
 ghost use Rattle.entries.specs.Order.{sooner, is-due};
 ghost use Rattle.entries.specs.Sorted.{Sorted};
 ghost use Rattle.percpu.specs.Cpu.{Cpu};
@@ -70,16 +71,12 @@ pub fn due(b: &[u64], time: u64) -> usize
     i
 }
 
-// The first d timers taken out; the words that they free are 0.
-pub fn drop_first(b: &mut [u64], d: usize)
-    requires { ⌜ (length (now b) ≡ block-size) × (getD (now b) timers-count 0 ≤ 64) × (d ≤ getD (now b) timers-count 0) ⌝ }
-    ensures { λ r. ⌜ ((c : Cpu) → now (b .entry) ≡ cpu-words c → length (c .timers) ≤ 64 → now (b .exit) ≡ cpu-words (cpu-timers (drop d (c .timers)) c)) ⌝ }
+// Timer i taken out; the words that it frees are 0.
+pub fn remove(b: &mut [u64], i: usize)
+    requires { ⌜ (length (now b) ≡ block-size) × (getD (now b) timers-count 0 ≤ 64) × (i < getD (now b) timers-count 0) ⌝ }
+    ensures { λ r. ⌜ ((c : Cpu) → now (b .entry) ≡ cpu-words c → length (c .timers) ≤ 64 → now (b .exit) ≡ cpu-words (cpu-timers (remove-at i (c .timers)) c)) ⌝ }
 {
     let n = b[TIMERS_COUNT] as usize;
-    let mut i = 0;
-    while i < d {
-        table::remove_row(b, TIMER_WAKE, 2, n - i, 0);
-        i += 1;
-    }
-    b[TIMERS_COUNT] = (n - d) as u64;
+    table::remove_row(b, TIMER_WAKE, 2, n, i);
+    b[TIMERS_COUNT] = (n - 1) as u64;
 }

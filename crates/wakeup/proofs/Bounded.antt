@@ -1,5 +1,5 @@
 -- What the wake-up stage adds: virtual times and the total weight grow by at most 2^30, and no time changes. Assumes nothing.
-use mathlib.Core.Bool.{false, not}
+use mathlib.Core.Bool.{false}
 use mathlib.Core.List.{List, [], _∷_}
 use Prim.Native.Nat.{ℕ, _<_, _+_, _*_, _≤_}
 use native.Mathlib.Omega.{arith}
@@ -10,10 +10,10 @@ use Rattle.entries.specs.declared.Timer.{Timer}
 use Rattle.percpu.specs.Layout.{no-timer}
 use Rattle.machine.specs.Shape.{CpuFits}
 use Rattle.model.specs.State.{State, state-of}
-use Rattle.model.specs.Wakeup.{Wakeup, serve-wakeup, drained, wakeups, serve-wakeups}
+use Rattle.model.specs.Wakeup.{Wakeup, serve-wakeup, stays, drained, wakeups, serve-wakeups}
 use Rattle.stages.specs.Stage.{Staged, Ranged, StateBelow}
 use Rattle.stages.proofs.Fitting.{of-all}
-use Rattle.wakeup_read.proofs.Draining.{all-keep}
+use Rattle.columns.proofs.Keep.{all-keep}
 use Rattle.wakeup.specs.Paced.{Slow, Named}
 use Rattle.wakeup.proofs.Pacing.{slow-serve}
 use Rattle.wakeup.proofs.Listed.{WakeBelow, wakeups-named, wakeups-below, wakeups-few}
@@ -21,7 +21,6 @@ use Rattle.stages.proofs.Kept.{state-more, ranged-stage}
 use Rattle.wakeup.proofs.BoundedOnce.{wakes-of, serve-below}
 use Rattle.wakeup_read.specs.Read.{max-wakeups}
 use Rattle.stages.specs.Bounds.{slice-bound}
-use Rattle.entries.specs.Order.{is-due}
 
 -- all of them
 served-below : {n t b u : ℕ} (w : ℕ) (l : List Wakeup) (s : State) → Named n l → All (λ (k : Wakeup). WakeBelow t (k .wake)) l → w + max-weight * length l ≤ u → b + max-whole-slice ≤ u
@@ -46,8 +45,8 @@ drained-below {t = t} time s f =
         total-weight = f .cpu .total-weight;
         entry-vtime = f .cpu .entry-vtime;
         entry-vd = f .cpu .entry-vd;
-        timer-wake = of-all (λ (x : Timer). x .wake ≤ t) no-timer (keep (λ y. not (is-due time y)) (s .cpu .timers))
-            (all-keep (λ y. not (is-due time y)) (λ (x : Timer). x .wake ≤ t) (s .cpu .timers) (wakes-of (s .cpu) (f .cpu)));
+        timer-wake = of-all (λ (x : Timer). x .wake ≤ t) no-timer (keep (stays time s) (s .cpu .timers))
+            (all-keep (stays time s) (λ (x : Timer). x .wake ≤ t) (s .cpu .timers) (wakes-of (s .cpu) (f .cpu)));
       };
     }
 

@@ -11,7 +11,7 @@ use Rattle.machine.specs.Shape.{CpuFits}
 use Rattle.model.specs.State.{State}
 use Rattle.model.specs.Wakeup.{Wakeup, is-live-timer, timer-wakeup, local-wakeup, wakeups}
 use Rattle.stages.proofs.Fitting.{all-of}
-use Rattle.wakeup_read.proofs.Draining.{all-keep, length-keep}
+use Rattle.columns.proofs.Keep.{all-keep, length-keep}
 use Rattle.wakeup.specs.Paced.{Named}
 use Rattle.wakeup_read.specs.Read.{max-wakeups}
 use Rattle.entries.specs.Order.{is-due}

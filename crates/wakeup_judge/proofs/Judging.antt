@@ -16,7 +16,7 @@ use Rattle.model.specs.Wakeup.{waits-for, may-enter, woken-by, wakeup-result, a
 use Rattle.wakeup_judge.specs.declared.Wakeup.{Wakeup}
 use Rattle.wakeup_judge.specs.declared.WakeupResult.{WakeupResult}
 use Rattle.wakeup_judge.specs.declared.WakeupResult.the-variants.{Dropped, Locked, WokenOnly, Entered}
-use Rattle.wakeup_judge.specs.Judge.{live-at, wake-of, wakeup-of, result-of, may-enter-at, judged, activated-block}
+use Rattle.wakeup_judge.specs.Judge.{live-at, unreadable-at, wake-of, wakeup-of, result-of, may-enter-at, judged, activated-block}
 
 pub not-true : (b : Bool) → not b ≡ true → b ≡ false
 not-true false e = refl
@@ -40,6 +40,17 @@ module _ (sched : ℕ) (t : Timer) (c : Context) where
 
       pub live-waits : {r : Bool} → (t .«context_ref» ≡ sched → ⊥) → r ≡ waits-for (t .wake) c → r ≡ live-at sched t c
       live-waits d h = rw (g, ne-eqb (c .lock) 2 l, ne-eqb (t .«context_ref») sched d) h
+
+module _ (sched : ℕ) (t : Timer) (c : Context) where
+  pub readable-gone : c .gone ≡ true → false ≡ unreadable-at sched t c
+  readable-gone g = rw g
+
+  module _ (g : c .gone ≡ false) where
+    pub unreadable-written : c .lock ≡ 2 → true ≡ unreadable-at sched t c
+    unreadable-written l = rw (g, eq-eqb (c .lock) 2 l)
+
+    pub unreadable-sched : (c .lock ≡ 2 → ⊥) → eqb (t .«context_ref») sched ≡ unreadable-at sched t c
+    unreadable-sched l = rw (g, ne-eqb (c .lock) 2 l)
 
 abbrev entered-if : Bool → Context → WakeupResult
 entered-if b q = if b then Entered q else WokenOnly q

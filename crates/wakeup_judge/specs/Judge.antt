@@ -34,6 +34,10 @@ abbrev pub live-at : ℕ → Timer → Context → Bool
 live-at sched t c =
     (not (c .gone) && not (eqb (c .lock) 2) && not (eqb (t .«context_ref») sched)) && definition.waits-for (t .wake) c
 
+-- `is-unreadable`, of the holder's name and of the context's record
+abbrev pub unreadable-at : ℕ → Timer → Context → Bool
+unreadable-at sched t c = not (c .gone) && (eqb (c .lock) 2 || eqb (t .«context_ref») sched)
+
 -- `may-enter`, of the two names that it reads
 abbrev pub may-enter-at : (current sched x : ℕ) → Context → Bool
 may-enter-at current sched x c =

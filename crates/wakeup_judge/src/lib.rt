@@ -4,7 +4,7 @@ ghost use mathlib.Core.Bool.{false};
 ghost use mathlib.Core.Logic.{_≢_};
 ghost use Prim.Native.Nat.{_<_};
 ghost use Rattle.model.specs.Wakeup.{waits-for, woken-by, entering};
-ghost use Rattle.wakeup_judge.specs.Judge.{live-at, wake-of, may-enter-at, judged, activated-block, Enterable};
+ghost use Rattle.wakeup_judge.specs.Judge.{live-at, unreadable-at, wake-of, may-enter-at, judged, activated-block, Enterable};
 ghost use Rattle.numbers.specs.Limits.{half-range};
 use context::Context;
 use entries::Timer;
@@ -51,6 +51,17 @@ pub fn is_live(sched: u64, t: Timer, c: Context) -> bool
         return false;
     }
     waits_for(c, t.wake)
+}
+
+// A due timer stays: c, the record of its context, which is alive, cannot be read.
+pub fn is_unreadable(sched: u64, t: Timer, c: Context) -> bool
+    requires { ⌜ c .gone ≡ false ⌝ }
+    ensures { λ r. ⌜ r ≡ unreadable-at sched t c ⌝ }
+{
+    if c.lock == 2 {
+        return true;
+    }
+    t.context_ref == sched
 }
 
 fn woken_by(w: Wakeup, c: Context) -> Context

@@ -1,4 +1,5 @@
 pub mod Scratched
 pub mod Items
 pub mod Reading
+pub mod Thinned
 pub mod Draining

@@ -1,6 +1,7 @@
-// The wake-ups of a decision read into a scratch, and the due timers and the local list taken out.
+// The wake-ups of a decision read into a scratch, and taken out of the timers and the local list.
 // In every function m is the image of a machine of c CPUs and n contexts, and k is the CPU; d is the scratch, three words a wake-up.
 mod scratch;
+mod take_out;
 
 use entries::Timer;
 use machine::Lookup;
@@ -8,28 +9,23 @@ use percpu::places;
 pub use scratch::WAKEUP_WORDS;
 pub use scratch::put_wakeup;
 pub use scratch::wakeup_in;
+pub use take_out::drain;
 use wakeup_judge::Wakeup;
 ghost use mathlib.Core.Path.{_≡_};
-ghost use mathlib.Core.Bool.{false, not};
 ghost use mathlib.Core.List.{[], _∷_, _++_, map};
 ghost use Prim.Native.Nat.{_+_, _<_, _≤_};
 ghost use lib.ListN.{length, getD};
 ghost use Rattle.columns.specs.Common.{keep};
-ghost use Rattle.entries.specs.Order.{sooner, is-due};
-ghost use Rattle.entries.specs.Sorted.{Sorted};
-ghost use Rattle.percpu.specs.Cpu.{Cpu};
-ghost use Rattle.percpu.specs.With.{cpu-timers, cpu-local-wakeup-list};
-ghost use Rattle.percpu.specs.Layout.{cpu-words};
+ghost use Rattle.entries.specs.Order.{is-due};
 ghost use Rattle.table.specs.First.{lead};
 ghost use Rattle.machine.specs.Machine.{Machine, cpu-at};
 ghost use Rattle.machine.specs.Encode.{encode, cpu-place};
 ghost use Rattle.machine.specs.Shape.{Image, Fits};
-ghost use Rattle.model.specs.State.{State, state-of};
-ghost use Rattle.model.specs.Wakeup.{local-wakeup, wakeups, drained};
-ghost use Rattle.stages.specs.Stage.{Staged};
+ghost use Rattle.model.specs.State.{state-of};
+ghost use Rattle.model.specs.Wakeup.{local-wakeup, wakeups};
 ghost use Rattle.wakeup_read.specs.Read.{wakeups-in, live-wakeups, TimerRead, NameRead, max-wakeups, wakeup-words};
 ghost use Rattle.numbers.specs.Limits.{max-number};
-ghost use Rattle.percpu.specs.Places.{timers-count, local-count, block-size};
+ghost use Rattle.percpu.specs.Places.{timers-count, local-count};
 
 // How many timers at the front are due.
 fn due(m: &[u64], c: usize, n: usize, k: usize, time: u64) -> usize
@@ -149,24 +145,4 @@ pub fn read_wakeups(m: &[u64], d: &mut [u64], c: usize, n: usize, k: usize, time
 {
     let len = read_timers(m, d, c, n, k, time);
     read_local(m, d, c, n, k, len)
-}
-
-fn drain_block(b: &mut [u64], time: u64)
-    requires { ⌜ (length (now b) ≡ block-size) × (getD (now b) timers-count 0 ≤ 64) × (time ≤ max-number) ⌝ }
-    ensures { λ r. ⌜ ((p : Cpu) → now (b .entry) ≡ cpu-words p → length (p .timers) ≤ 64 → Sorted sooner (p .timers) → now (b .exit) ≡ cpu-words (cpu-timers (keep (λ t. not (is-due time t)) (p .timers)) (cpu-local-wakeup-list [] p))) ⌝ }
-{
-    let count = timers::due(b, time);
-    timers::drop_first(b, count);
-    wakeup_lists::clear_local(b);
-}
-
-// The due timers and the local list taken out.
-pub fn drain(m: &mut [u64], c: usize, n: usize, k: usize, time: u64)
-    requires { ⌜ Image c n (now m) ⌝ }
-    requires { ⌜ (k < c) × (time ≤ max-number) ⌝ }
-    ensures { λ r. ⌜ Staged c n k (now (m .entry)) (now (m .exit)) false (λ (s : State). drained time s) ⌝ }
-{
-    let at = machine::cpu_place(n, k);
-    let end = at + places::BLOCK_SIZE;
-    drain_block(&mut m[at..end], time);
 }

@@ -3,7 +3,7 @@
 use crate::port;
 use image::{Answer, Call, Group, OPERATIONS, check};
 #[cfg(feature = "oracle")]
-use kernel::oracle::{self, Fault};
+use {image::Fault, kernel::oracle};
 
 pub trait Ask {
     /// The first of rows 1 to 8 that it meets, or 0.
@@ -11,6 +11,9 @@ pub trait Ask {
     /// Runs the kernel's own functions; `image` becomes the image after.
     #[cfg(feature = "oracle")]
     fn kernel(&self, image: &mut [u64]) -> Result<Answer, Fault>;
+    /// The call, if it may make a decision: only those run text that was changed.
+    #[cfg(feature = "oracle")]
+    fn decision(&self) -> Option<&Call>;
     /// The port's answer, or nothing where there is no port.
     fn port(&self, image: &mut [u64]) -> Option<Answer>;
     fn text(&self) -> String;
@@ -23,6 +26,10 @@ impl Ask for Call {
     #[cfg(feature = "oracle")]
     fn kernel(&self, image: &mut [u64]) -> Result<Answer, Fault> {
         oracle::call(image, self)
+    }
+    #[cfg(feature = "oracle")]
+    fn decision(&self) -> Option<&Call> {
+        check::decides(self).then_some(self)
     }
     fn port(&self, image: &mut [u64]) -> Option<Answer> {
         port::call(image, self)
@@ -49,6 +56,10 @@ impl Ask for Group {
     #[cfg(feature = "oracle")]
     fn kernel(&self, image: &mut [u64]) -> Result<Answer, Fault> {
         oracle::unblock_group(image, self)
+    }
+    #[cfg(feature = "oracle")]
+    fn decision(&self) -> Option<&Call> {
+        None
     }
     fn port(&self, image: &mut [u64]) -> Option<Answer> {
         port::unblock_group(image, self)

@@ -20,7 +20,7 @@ pub struct Seen {
 pub fn next(stream: &mut Stream) -> Seen {
     let case = stream.next();
     kernel::branches::take();
-    kernel::branches::take_no_room();
+    take_no_room();
     let Ok(Expected::Known(answer, after)) = expected(&case.image, &case.call) else {
         panic!("table and kernel disagree: use run");
     };
@@ -31,8 +31,14 @@ pub fn next(stream: &mut Stream) -> Seen {
         answer,
         after,
         reached,
-        full: kernel::branches::take_no_room(),
+        full: take_no_room(),
     }
+}
+
+/// What had no room in either build: in the changed one it may be a timer that was kept.
+fn take_no_room() -> Option<usize> {
+    let changed = changed::branches::take_no_room();
+    kernel::branches::take_no_room().or(changed)
 }
 
 /// The `if`s without an `else`: the place before one, and its block. Where the first

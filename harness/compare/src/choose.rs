@@ -4,8 +4,8 @@
 use crate::{
     branches::{self, Seen},
     generate::Stream,
+    recorded::Recorded,
 };
-use image::{Answer, Call};
 
 pub struct Limits {
     /// The most CPUs and contexts; without it also images whose length does not follow
@@ -20,17 +20,14 @@ pub struct Limits {
     pub cases: usize,
 }
 
-pub struct Chosen {
-    pub call: Call,
-    pub image: Vec<u64>,
-    pub answer: Answer,
-    pub after: Vec<u64>,
+struct Chosen {
+    case: Recorded,
     features: Vec<usize>,
     cost: usize,
 }
 
 /// Takes from `tries` cases, each time the one with most that is new for its size.
-pub fn choose(mut stream: Stream, tries: u64, limits: &Limits) -> Vec<Chosen> {
+pub fn choose(mut stream: Stream, tries: u64, limits: &Limits) -> Vec<Recorded> {
     let mut from = Vec::new();
     let mut seen_of = Vec::new();
     for _ in 0..tries {
@@ -75,17 +72,19 @@ fn features(seen: Seen, words: usize) -> Chosen {
         through.chain([answered]).collect()
     };
     Chosen {
-        call,
-        image: seen.case.image,
-        answer,
-        after: seen.after,
+        case: Recorded {
+            call,
+            image: seen.case.image,
+            answer,
+            after: seen.after,
+        },
         features,
         cost: 40 + words,
     }
 }
 
-fn greedy(mut from: Vec<Chosen>, features: usize, limits: &Limits) -> Vec<Chosen> {
-    let mut taken: Vec<Chosen> = Vec::new();
+fn greedy(mut from: Vec<Chosen>, features: usize, limits: &Limits) -> Vec<Recorded> {
+    let mut taken: Vec<Recorded> = Vec::new();
     let mut covered = vec![0_u32; features];
     let mut times = 1;
     while taken.len() < limits.cases && !from.is_empty() {
@@ -116,7 +115,7 @@ fn greedy(mut from: Vec<Chosen>, features: usize, limits: &Limits) -> Vec<Chosen
         for feature in &case.features {
             covered[*feature] += 1;
         }
-        taken.push(case);
+        taken.push(case.case);
     }
     taken.sort_by_key(|case| (case.answer.refusal, case.call.operation, case.answer.result));
     taken

@@ -1,8 +1,11 @@
 //! What a call must answer: rows 1 to 8 by the own reading of the table, the rest by
-//! the kernel's run.
+//! the kernel's run: by the changed build where a due timer is unreadable, else by the
+//! unchanged one.
 
 use crate::ask::Ask;
 use image::Answer;
+#[cfg(feature = "oracle")]
+use image::{Call, Fault, View, block, decision};
 
 pub enum Expected {
     /// Answer and image after.
@@ -12,7 +15,7 @@ pub enum Expected {
     Passes,
 }
 
-/// A case in which the table and the kernel cannot both be right.
+/// A case in which the table, the kernel and its changed build cannot all be right.
 pub struct Contradiction(pub String);
 
 pub fn expected(image: &[u64], call: &impl Ask) -> Result<Expected, Contradiction> {
@@ -26,15 +29,56 @@ pub fn expected(image: &[u64], call: &impl Ask) -> Result<Expected, Contradictio
     run(image, call)
 }
 
+/// Both builds of the kernel are run on what may be a decision. The changed one must leave
+/// what the unchanged one leaves, but for the unreadable timers.
 #[cfg(feature = "oracle")]
-fn run(image: &[u64], call: &impl Ask) -> Result<Expected, Contradiction> {
+fn run(image: &[u64], ask: &impl Ask) -> Result<Expected, Contradiction> {
     let mut after = image.to_vec();
-    match call.kernel(&mut after) {
-        Ok(answer) => Ok(Expected::Known(answer, after)),
-        Err(fault) => Err(Contradiction(format!(
-            "the table lets the call pass, the kernel has no answer: {fault:?}"
-        ))),
+    let answer = known(ask.kernel(&mut after))?;
+    let Some(call) = ask.decision() else {
+        return Ok(Expected::Known(answer, after));
+    };
+    counted(image, call, &answer, &after)?;
+    let want = match decision::with_unreadable(View(image), call, &after) {
+        _ if answer.refusal != 0 => (answer, after),
+        Some(after) => (answer, after),
+        None => (Answer::refused(9), image.to_vec()),
+    };
+    let mut after = image.to_vec();
+    let answer = known(changed::oracle::call(&mut after, call))?;
+    if (answer, &after) != (want.0, &want.1) {
+        return Err(Contradiction(
+            "the changed build departs from the kernel in more than the unreadable timers".into(),
+        ));
     }
+    Ok(Expected::Known(answer, after))
+}
+
+#[cfg(feature = "oracle")]
+fn known(answer: Result<Answer, Fault>) -> Result<Answer, Contradiction> {
+    answer.map_err(|fault| {
+        Contradiction(format!(
+            "the table lets the call pass, the kernel has no answer: {fault:?}"
+        ))
+    })
+}
+
+/// Whether a call makes a decision is read from the image; an accepted one counts it.
+#[cfg(feature = "oracle")]
+fn counted(
+    image: &[u64],
+    call: &Call,
+    answer: &Answer,
+    after: &[u64],
+) -> Result<(), Contradiction> {
+    let decisions = |image| View(image).block(call.cpu as usize, block::CONTEXT_SWITCHES);
+    let made = decisions(after) != decisions(image);
+    if answer.refusal == 0 && made != decision::is_made(View(image), call) {
+        return Err(Contradiction(format!(
+            "it is a decision: {made}, and is read otherwise"
+        )));
+    }
+    Ok(())
 }
 
 #[cfg(not(feature = "oracle"))]
@@ -46,7 +90,7 @@ fn run(_image: &[u64], _call: &impl Ask) -> Result<Expected, Contradiction> {
 #[cfg(feature = "oracle")]
 fn must_assert(image: &[u64], call: &impl Ask) -> Result<(), Contradiction> {
     match call.kernel(&mut image.to_vec()) {
-        Err(kernel::oracle::Fault::Panics(_)) => Ok(()),
+        Err(Fault::Panics(_)) => Ok(()),
         other => Err(Contradiction(format!(
             "the table says 7, the kernel does not assert: {other:?}"
         ))),

@@ -8,23 +8,9 @@
 use crate::{
     ask::Ask,
     expected::{Expected, expected},
-    generate::{Groups, Stream},
-    replay,
 };
-use image::{Answer, Call, Group, MAX_CONTEXTS, MAX_CPUS, OPERATIONS, length};
+use image::{Answer, Call, Group};
 use std::io::{Read, stdin};
-
-/// How many words of a generated image may be other than 0: the list stays short.
-const WORDS: usize = 160;
-
-/// A program's buffer holds the longest image, and one word more.
-fn fits(image: &[u64]) -> bool {
-    image.len() <= length(MAX_CPUS as usize, MAX_CONTEXTS as usize) + 1
-}
-
-fn short(image: &[u64]) -> bool {
-    fits(image) && nonzero(image).len() <= WORDS
-}
 
 /// The numbers of a case.
 pub fn case(call: &Call, image: &[u64]) -> Vec<u64> {
@@ -33,7 +19,7 @@ pub fn case(call: &Call, image: &[u64]) -> Vec<u64> {
     numbers
 }
 
-fn group_case(group: &Group, image: &[u64]) -> Vec<u64> {
+pub fn group_case(group: &Group, image: &[u64]) -> Vec<u64> {
     let mut numbers = vec![group.cpu, group.time, group.mask];
     put_image(&mut numbers, image);
     numbers
@@ -103,51 +89,9 @@ pub fn read_pairs(next: &mut impl FnMut() -> u64, image: &mut [u64]) {
     }
 }
 
-fn line(numbers: Vec<u64>) -> String {
+pub fn line(numbers: Vec<u64>) -> String {
     let words: Vec<String> = numbers.iter().map(u64::to_string).collect();
     words.join(" ")
-}
-
-/// Prints the calls of a recorded list, and `each` generated ones of every operation and of
-/// groups.
-pub fn calls(recorded: &str, seed: u64, each: u64) -> bool {
-    let mut number = 0;
-    let mut print = |text: String| {
-        number += 1;
-        println!("# case {number}\n{text}");
-    };
-    for recorded in replay::words(recorded) {
-        if fits(&recorded.image) {
-            print(line(case(&recorded.call, &recorded.image)));
-        }
-    }
-    let mut stream = Stream::new(seed);
-    let mut left = [each; OPERATIONS.len()];
-    while left.iter().any(|left| *left > 0) {
-        let next = stream.next();
-        let (call, image) = (&next.call, &next.image);
-        if let Ok(Expected::Known(_, after)) = expected(image, call) {
-            stream.answered(&after);
-        }
-        let wanted = left.get_mut(call.operation.wrapping_sub(1) as usize);
-        if let Some(left) = wanted.filter(|left| short(image) && **left > 0) {
-            *left -= 1;
-            print(line(case(call, image)));
-        }
-    }
-    let mut groups = Groups::new(seed);
-    let mut left = each;
-    while left > 0 {
-        let next = groups.next();
-        if let Ok(Expected::Known(_, after)) = expected(&next.image, &next.call) {
-            groups.answered(&after);
-        }
-        if short(&next.image) {
-            left -= 1;
-            print(format!("g {}", line(group_case(&next.call, &next.image))));
-        }
-    }
-    true
 }
 
 /// Answers the list on standard input.

@@ -4,8 +4,10 @@
 mod ask;
 #[cfg(feature = "branches")]
 mod branches;
+mod calls;
 #[cfg(feature = "branches")]
 mod choose;
+mod due;
 #[path = "../../kernel/build/edits.rs"]
 mod edits;
 mod expected;
@@ -16,6 +18,7 @@ mod port;
 mod power;
 #[cfg(feature = "branches")]
 mod record;
+mod recorded;
 mod replay;
 mod report;
 mod run;
@@ -29,15 +32,20 @@ fn main() -> ExitCode {
     let args: Vec<String> = std::env::args().skip(1).collect();
     let words: Vec<&str> = args.iter().map(String::as_str).collect();
     #[cfg(feature = "oracle")]
-    kernel::oracle::quiet();
+    {
+        kernel::oracle::quiet();
+        changed::oracle::quiet();
+    }
     let number = |text: &str| text.parse::<u64>().expect("a number");
     let good = match words[..] {
         ["run", seed, count] => run::run(number(seed), number(count)),
         ["chain", seed, calls] => run::chain(number(seed), number(calls)),
+        ["timers", seed, count] => run::timers(number(seed), number(count)),
         ["groups", seed, count] => run::groups(number(seed), number(count)),
         ["replay", list] => replay::replay(list),
-        ["calls", recorded, seed, each] => list::calls(recorded, number(seed), number(each)),
+        ["calls", recorded, seed, each] => calls::calls(recorded, number(seed), number(each)),
         ["answers"] => list::answers(),
+        ["renew", list] => replay::renew(list),
         ["edit", list, root] => edit(list, root),
         #[cfg(feature = "oracle")]
         ["times"] => times::times(),

@@ -19,9 +19,19 @@ pub fn chain(seed: u64, calls: u64) -> bool {
     all(Stream::chains(seed), seed, calls)
 }
 
-fn all(mut stream: Stream, seed: u64, count: u64) -> bool {
+/// Machines with due timers that cannot be read.
+pub fn timers(seed: u64, count: u64) -> bool {
+    all(Stream::timers(seed), seed, count)
+}
+
+/// An edited kernel is no oracle.
+fn unedited() {
     #[cfg(feature = "oracle")]
-    assert_eq!(kernel::EDITED, "", "an edited kernel is no oracle");
+    assert_eq!((kernel::EDITED, changed::EDITED), ("", ""));
+}
+
+fn all(mut stream: Stream, seed: u64, count: u64) -> bool {
+    unedited();
     let mut tally = Tally::default();
     for number in 0..count {
         let case = stream.next();
@@ -39,8 +49,7 @@ fn all(mut stream: Stream, seed: u64, count: u64) -> bool {
 
 /// Groups, on images of every kind and in short chains.
 pub fn groups(seed: u64, count: u64) -> bool {
-    #[cfg(feature = "oracle")]
-    assert_eq!(kernel::EDITED, "", "an edited kernel is no oracle");
+    unedited();
     let mut groups = Groups::new(seed);
     let mut tally = Tally::default();
     for number in 0..count {

@@ -1,7 +1,7 @@
 //! How many cases of each sort were compared.
 
-use crate::{generate::Case, port};
-use image::{Answer, Group, OPERATIONS};
+use crate::{due::Sorts, generate::Case, port};
+use image::{Answer, Group, OPERATIONS, View};
 
 /// Of some of the cases: all, refused ones, those compared with the port.
 #[derive(Default)]
@@ -36,6 +36,7 @@ pub struct Tally {
     /// Calls on the image that the call before left.
     chained: Counts,
     refusals: [u64; 10],
+    due: Sorts,
 }
 
 impl Tally {
@@ -45,6 +46,9 @@ impl Tally {
             _ => 0,
         };
         self.operations[operation].add(answer.refusal != 0);
+        if matches!(answer.refusal, 0 | 9) {
+            self.due.add(View(&case.image), &case.call);
+        }
         self.any(case.chained, answer);
     }
     pub fn group(&mut self, case: &Case<Group>, answer: &Answer) {
@@ -72,6 +76,7 @@ impl Tally {
                 .map_or("none such", |n| OPERATIONS[n]);
             counts.print(&format!("{operation} {name}"));
         }
+        self.due.print();
         self.print_rest();
     }
     pub fn print_groups(&self) {

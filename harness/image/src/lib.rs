@@ -2,6 +2,7 @@
 //! reading of the table of refused calls.
 
 pub mod check;
+pub mod decision;
 pub mod name;
 mod places;
 pub mod ranges;
@@ -63,6 +64,15 @@ impl Answer {
             ..Self::default()
         }
     }
+}
+
+/// Of a call to which the kernel has no answer.
+#[derive(Debug, PartialEq, Eq)]
+pub enum Fault {
+    /// The kernel would wait for a lock.
+    Waits,
+    /// The kernel asserts, or its arithmetic overflows.
+    Panics(String),
 }
 
 pub const OPERATIONS: [&str; 7] = [

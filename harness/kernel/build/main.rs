@@ -1,15 +1,18 @@
 //! Copies the kernel's six files into the build folder, beside shims for their
 //! neighbours, and appends one line to three of them that opens their private
-//! fields to a child module. The text itself is not changed, but for the two
-//! uses that ask for it: counters of branches, and the edits of the power table.
+//! fields to a child module. The text itself is not changed, but for the three
+//! uses that ask for it: the package `changed`, counters of branches, and the
+//! edits of the power table.
 
 mod branches;
 mod edits;
+mod text;
 
 use std::{
     env, fs,
     path::{Path, PathBuf},
 };
+use text::Edits;
 
 const FILES: [&str; 6] = [
     "context/switch.rs",
@@ -23,32 +26,34 @@ const OPENED: [&str; 3] = ["context/switch.rs", "context/mod.rs", "cpu_stats.rs"
 const BESIDE: [&str; 5] = ["arch/x86_64", "file", "memory", "signal", "timeout"];
 
 fn main() {
-    let here = PathBuf::from(env::var("CARGO_MANIFEST_DIR").unwrap());
+    // The package is `kernel` or `changed`; all that is read is in the folder of the first.
+    let package = PathBuf::from(env::var("CARGO_MANIFEST_DIR").unwrap());
+    let harness = package.parent().unwrap();
+    let here = harness.join("kernel");
     let tree = PathBuf::from(env::var("OUT_DIR").unwrap()).join("tree");
     println!("cargo::rerun-if-env-changed=RONTHUYAL_KERNEL_SRC");
     println!("cargo::rerun-if-env-changed=RONTHUYAL_EDIT");
-    println!("cargo::rerun-if-changed={}", here.display());
-    println!(
-        "cargo::rerun-if-changed={}",
-        here.join("../power.txt").display()
-    );
+    for read in [
+        &here,
+        &harness.join("power.txt"),
+        &harness.join("changes.txt"),
+    ] {
+        println!("cargo::rerun-if-changed={}", read.display());
+    }
 
     let source = env::var("RONTHUYAL_KERNEL_SRC")
         .map(PathBuf::from)
-        .unwrap_or_else(|_| here.join("../../../shared/docs/src/src"));
-    let edit = edits::chosen(&here.join("../power.txt"));
+        .unwrap_or_else(|_| harness.join("../../shared/docs/src/src"));
+    let edits = Edits::new(harness, package.ends_with("changed"));
 
     fs::create_dir_all(tree.join("context/arch")).unwrap();
     let (mut blocks, mut edited) = (String::new(), String::new());
     for file in FILES {
         let from = source.join(file);
         println!("cargo::rerun-if-changed={}", from.display());
-        let mut text = fs::read_to_string(&from)
+        let text = fs::read_to_string(&from)
             .unwrap_or_else(|error| panic!("no kernel source {}: {error}", from.display()));
-        if let Some(edit) = edit.as_ref().filter(|edit| edit.file == file) {
-            edited = edit.whereabouts(&text);
-            text = edit.applied(&text);
-        }
+        let mut text = edits.of(file, text, &mut edited);
         if env::var_os("CARGO_FEATURE_BRANCHES").is_some() && file == "context/switch.rs" {
             text = branches::counted(&text, &mut blocks);
         }

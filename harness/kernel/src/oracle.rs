@@ -21,7 +21,7 @@ use core::{
     ptr,
     sync::atomic::{AtomicBool, Ordering},
 };
-use image::{Answer, Call, Group, MAX_CPUS, ROOM, View};
+use image::{Answer, Call, Fault, Group, MAX_CPUS, ROOM, View};
 use std::panic::{AssertUnwindSafe, catch_unwind};
 
 static IN_KERNEL: AtomicBool = AtomicBool::new(false);
@@ -34,15 +34,6 @@ pub fn quiet() {
             print(info);
         }
     }));
-}
-
-/// A call that has no answer.
-#[derive(Debug, PartialEq, Eq)]
-pub enum Fault {
-    /// The kernel would wait for a lock.
-    Waits,
-    /// The kernel asserts, or its arithmetic overflows.
-    Panics(String),
 }
 
 /// Runs the call; `image` becomes the image after it.

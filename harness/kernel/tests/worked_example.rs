@@ -1,6 +1,6 @@
 //! The worked example of document 01 and single calls by hand.
 
-use image::{Answer, Call, block as b, check, context as c, length};
+use image::{Answer, Call, Fault, block as b, check, context as c, length};
 use kernel::oracle;
 
 const SLICE: u64 = 9 << 30;
@@ -55,7 +55,7 @@ fn call(operation: u64, time: u64, context: u64) -> Call {
     }
 }
 
-fn answer(result: u64) -> Result<Answer, oracle::Fault> {
+fn answer(result: u64) -> Result<Answer, Fault> {
     Ok(Answer {
         result,
         ..Answer::default()
@@ -97,12 +97,12 @@ fn without_answer() {
     assert_eq!(check::refusal(&image, &direct), 7);
     assert!(matches!(
         oracle::call(&mut image, &direct),
-        Err(oracle::Fault::Panics(_))
+        Err(Fault::Panics(_))
     ));
     image[OTHER + c::LOCK] = 1;
     let block = call(6, 0, 1);
     assert_eq!(check::refusal(&image, &block), 6);
-    assert_eq!(oracle::call(&mut image, &block), Err(oracle::Fault::Waits));
+    assert_eq!(oracle::call(&mut image, &block), Err(Fault::Waits));
 }
 
 /// The kernel's CPUs are global: one test at a time.

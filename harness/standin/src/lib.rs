@@ -1,11 +1,10 @@
-//! Stands in for the port: the table and the kernel behind the port's interface. The
-//! comparison is tried on it, and edits of the table show whether it would see a port
-//! that reads the table otherwise.
+//! Stands in for the port: the table, the kernel and, where a due timer is unreadable, its
+//! changed build behind the port's interface. The comparison is tried on it, and edits of
+//! the table show whether it would see a port that reads the table otherwise.
 
 mod group;
 
-use image::{Answer, Call, Group, check};
-use kernel::oracle;
+use image::{Answer, Call, Group, View, check, decision};
 
 /// # Safety
 /// `image` points to `len` words.
@@ -29,8 +28,12 @@ pub unsafe extern "C" fn ronthuyal_call(
     if refusal != 0 {
         return Answer::refused(refusal);
     }
+    let answer = match decision::unreadable_due(View(words), &call) {
+        true => changed::oracle::call(words, &call),
+        false => kernel::oracle::call(words, &call),
+    };
     // No row has this number: an edited table let a call pass that has no answer.
-    oracle::call(words, &call).unwrap_or(Answer::refused(u64::MAX))
+    answer.unwrap_or(Answer::refused(u64::MAX))
 }
 
 /// # Safety

@@ -41,4 +41,6 @@ pub enum Choice {
     Small,
     /// Only chains, and long ones.
     Chains,
+    /// Machines with due timers that cannot be read.
+    Timers,
 }

@@ -133,7 +133,7 @@ fn queue(rng: &mut Rng, scale: &Scale, machine: &mut Machine, at: usize, to: usi
     machine.cpu[at].word[b::STEALABLE] = 1;
 }
 
-fn timers(rng: &mut Rng, scale: &Scale, machine: &mut Machine, at: usize, to: usize) {
+pub fn timers(rng: &mut Rng, scale: &Scale, machine: &mut Machine, at: usize, to: usize) {
     let far = !rng.once_in(4);
     let mut wake = if far {
         scale.time + 2
@@ -157,7 +157,7 @@ fn timers(rng: &mut Rng, scale: &Scale, machine: &mut Machine, at: usize, to: us
 }
 
 /// A holder that has just stopped with a wake, whose timer must go in.
-fn departing(rng: &mut Rng, scale: &Scale, machine: &mut Machine, at: usize) {
+pub fn departing(rng: &mut Rng, scale: &Scale, machine: &mut Machine, at: usize) {
     let sched = machine.cpu[at].sched();
     let record = &mut machine.record[sched];
     record[c::STATUS] = rng.pick(&[c::BLOCKED, c::BLOCKED, c::STOPPED, c::DEAD]);

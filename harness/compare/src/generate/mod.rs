@@ -2,6 +2,7 @@
 
 mod aim;
 mod breakage;
+mod call;
 mod case;
 mod damage;
 mod full;
@@ -12,6 +13,7 @@ mod seats;
 #[cfg(test)]
 mod tests;
 mod tidy;
+mod timers;
 mod untidy;
 mod values;
 
@@ -44,6 +46,9 @@ impl Stream {
     pub fn chains(seed: u64) -> Self {
         Self::of(seed, Choice::Chains)
     }
+    pub fn timers(seed: u64) -> Self {
+        Self::of(seed, Choice::Timers)
+    }
     fn of(seed: u64, choice: Choice) -> Self {
         Self {
             rng: Rng::new(seed),
@@ -72,6 +77,7 @@ impl Stream {
             0..=4 => Kind::Tidy,
             5..=10 => Kind::Untidy,
             11..=13 => Kind::Full,
+            14..=18 if self.choice == Choice::Timers => Kind::Full,
             14..=18 => Kind::Damaged,
             _ => Kind::Chain,
         };
@@ -92,6 +98,9 @@ impl Stream {
                 .rng
                 .pick(&[0, 1, 400_000, 2_250_000, 3_375_000, 6_750_000, 25_000_000]);
             scale.time = (scale.time + step).min(NUMBER_MAX);
+            if self.choice == Choice::Timers {
+                timers::relock(&mut self.rng, image);
+            }
         }
     }
 
@@ -108,7 +117,10 @@ impl Stream {
             Kind::Untidy => true,
             _ => rng.once_in(2),
         };
-        let aimed = rng.below(machine.cpu.len());
+        let mut aimed = rng.below(machine.cpu.len());
+        if self.choice == Choice::Timers {
+            aimed = timers::aimed(rng, &machine);
+        }
         if rng.once_in(2) {
             aim::at_holder(rng, &mut machine, aimed, scale.time, !spoiled);
         }
@@ -122,12 +134,17 @@ impl Stream {
             Kind::Full => full::fill(rng, &scale, &mut machine, aimed),
             _ => None,
         };
+        if self.choice == Choice::Timers {
+            timers::put(rng, &scale, &mut machine, aimed);
+        }
         let mut image = machine.image();
         let mut call = self.call(&image, scale.time);
         if !self.rng.once_in(4) && machine.cpu[aimed].present() {
             call.cpu = aimed as u64;
         }
-        if let Some(filled) = filled {
+        if self.choice == Choice::Timers {
+            timers::call(&mut self.rng, &mut call, aimed);
+        } else if let Some(filled) = filled {
             // Only a wake-up from another CPU puts a name there.
             call.operation = 4;
             call.cpu = (filled as u64 + 1) % machine.cpu.len() as u64;
@@ -154,42 +171,6 @@ impl Stream {
             image,
             call,
             chained: false,
-        }
-    }
-
-    fn call(&mut self, image: &[u64], time: u64) -> Call {
-        let rng = &mut self.rng;
-        let view = View(image);
-        let mut cpu = rng.below(view.cpus());
-        if !view.present(cpu) && !rng.once_in(12) {
-            cpu = (0..view.cpus()).find(|cpu| view.present(*cpu)).unwrap();
-        }
-        let mut operation = match rng.below(24) {
-            0..=4 => 1,
-            5..=12 => 2,
-            13..=17 => 3,
-            18 | 19 => 4,
-            20 | 21 => 5,
-            22 => 6,
-            _ => 7,
-        };
-        if self.choice == Choice::Chains && operation == 7 && !rng.once_in(4) {
-            // Nothing ends a stop: a long chain would come to stand still.
-            operation = 4;
-        }
-        let mut context = rng.below(view.contexts());
-        let current = view.block(cpu, b::CURRENT_CTXT);
-        if operation == 3 && rng.once_in(6) {
-            context = current as usize;
-        } else if operation == 3 && current == view.block(cpu, b::IDLE_CTXT) && !rng.once_in(8) {
-            // Refused, as the source asserts: a few are enough.
-            operation = 2;
-        }
-        Call {
-            operation,
-            cpu: cpu as u64,
-            time,
-            context: context as u64,
         }
     }
 }

@@ -51,6 +51,11 @@ impl<T: Ord> BTreeSet<T> {
         self.peak = self.peak.max(self.items.len());
         new
     }
+    pub fn extend<I: IntoIterator<Item = T>>(&mut self, items: I) {
+        for item in items {
+            self.insert(item);
+        }
+    }
 }
 
 impl<T> Deref for BTreeSet<T> {

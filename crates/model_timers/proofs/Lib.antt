@@ -1,0 +1,4 @@
+pub mod Source
+pub mod AsBefore
+pub mod Timers
+pub mod Unreadable

@@ -1,0 +1,67 @@
+-- The calls that decide as the source has them: every due timer is taken out. Assumes nothing.
+use mathlib.Core.Bool.{not, false}
+use mathlib.Core.List.{List, []}
+use mathlib.Core.Option.{Option, none, some}
+use Prim.Native.Nat.{ℕ}
+use lib.Dec.{ltb, eqb}
+use Rattle.columns.specs.Common.{if_then_else_, fold, keep}
+use Rattle.ticks.specs.Ticks.{tick-interval}
+use Rattle.answer.specs.declared.SwitchResult.the-variants.{Switched}
+use Rattle.answer.specs.Number.{result-number}
+use Rattle.entries.specs.Order.{is-due}
+use Rattle.runnable.specs.Runnable.{update-runnable}
+use Rattle.percpu.specs.Cpu.{Cpu}
+use Rattle.percpu.specs.With.{cpu-timers, cpu-local-wakeup-list}
+use Rattle.machine.specs.Machine.{Machine}
+use Rattle.model.specs.State.{State, at, on-cpu, state-of}
+use Rattle.model.specs.Wakeup.{wakeups, serve-wakeup}
+use Rattle.model.specs.Turn.{count-switch, times, elapsed, was-idle}
+use Rattle.model.specs.SwitchTo.{direct-switch-by, try-direct-switch-back}
+use Rattle.model.specs.Schedule.{Outcome, Scheduled, finish, ticked, select-next-context, picked-as, after-schedule}
+use Rattle.model.specs.Accepted.{Call, by-tick, by-switch, by-direct-switch}
+
+-- `drained`, the one place in which they differ
+abbrev pub source-drained : ℕ → State → State
+source-drained time s =
+    on-cpu (λ p. cpu-timers (keep (λ t. not (is-due time t)) (p .timers)) (cpu-local-wakeup-list [] p)) s
+
+unfoldable pub source-serve-wakeups : ℕ → State → State
+source-serve-wakeups time s = fold serve-wakeup (source-drained time s) (wakeups time s)
+
+-- from here on as in model/specs/Turn and Schedule
+unfoldable pub source-before-selection : ℕ → State → State
+source-before-selection time s = on-cpu (times time) (source-serve-wakeups time (on-cpu count-switch s))
+
+module _ (k time : ℕ) where
+  unfoldable pub source-schedule : List Cpu → State → Scheduled
+  source-schedule cpus s =
+      let d = select-next-context k time (elapsed time (s .cpu)) cpus (source-before-selection time s) in
+      picked-as time (was-idle (s .cpu)) (d .cpus) (d .next) (d .state)
+
+  unfoldable pub source-switch-inner-by : List Cpu → State → Option State → Outcome
+  source-switch-inner-by cpus s (some s′) = finish k cpus (result-number Switched) s′
+  source-switch-inner-by cpus s none = after-schedule k time (source-schedule cpus s)
+
+  unfoldable pub source-switch-inner : List Cpu → State → Outcome
+  source-switch-inner cpus s = source-switch-inner-by cpus s (try-direct-switch-back k time s)
+
+  unfoldable pub source-tick : Machine → Outcome
+  source-tick M =
+      let s = ticked (state-of k M) in
+      if ltb (s .cpu .block .«pit_ticks») tick-interval then finish k (M .cpus) 0 s else source-switch-inner (M .cpus) s
+
+  unfoldable pub source-direct-switch-or : List Cpu → State → Option State → Outcome
+  source-direct-switch-or cpus s (some s′) = finish k cpus (result-number Switched) s′
+  source-direct-switch-or cpus s none = source-switch-inner cpus s
+
+  unfoldable pub source-direct-switch-to : ℕ → Machine → Outcome
+  source-direct-switch-to x M =
+      let s = state-of k M in
+      if eqb (s .cpu .block .«current_ctxt») x then finish k (M .cpus) (result-number Switched) s else
+      source-direct-switch-or (M .cpus) s
+      (direct-switch-by k time x s (update-runnable k time (eqb (s .cpu .block .«sched_ctxt») x) false (at s x)))
+
+  abbrev pub source-outcome : Call → Machine → Outcome
+  source-outcome by-tick M = source-tick M
+  source-outcome by-switch M = source-switch-inner (M .cpus) (state-of k M)
+  source-outcome (by-direct-switch x) M = source-direct-switch-to x M

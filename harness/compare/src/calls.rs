@@ -1,0 +1,81 @@
+//! The calls of `crates/recorded`: recorded and generated ones.
+
+use crate::{
+    expected::{Expected, expected},
+    generate::{Case, Groups, Stream},
+    list::{case, group_case, line, nonzero},
+    recorded,
+};
+use image::{MAX_CONTEXTS, MAX_CPUS, OPERATIONS, View, check, decision, length};
+
+/// How many words of a generated image may be other than 0: the list stays short.
+const WORDS: usize = 160;
+
+/// A program's buffer holds the longest image, and one word more.
+fn fits(image: &[u64]) -> bool {
+    image.len() <= length(MAX_CPUS as usize, MAX_CONTEXTS as usize) + 1
+}
+
+fn short(image: &[u64]) -> bool {
+    fits(image) && nonzero(image).len() <= WORDS
+}
+
+/// Prints the calls of a recorded list, and `each` generated ones of every operation, of
+/// groups, and of decisions with an unreadable due timer.
+pub fn calls(list: &str, seed: u64, each: u64) -> bool {
+    let mut number = 0;
+    let mut print = |text: String| {
+        number += 1;
+        println!("# case {number}\n{text}");
+    };
+    for recorded in recorded::words(list) {
+        if fits(&recorded.image) {
+            print(line(case(&recorded.call, &recorded.image)));
+        }
+    }
+    let mut left = [each; OPERATIONS.len()];
+    take(Stream::new(seed), |next| {
+        let wanted = left.get_mut(next.call.operation.wrapping_sub(1) as usize);
+        if let Some(left) = wanted.filter(|left| short(&next.image) && **left > 0) {
+            *left -= 1;
+            print(line(case(&next.call, &next.image)));
+        }
+        left.iter().any(|left| *left > 0)
+    });
+    let mut groups = Groups::new(seed);
+    let mut left = each;
+    while left > 0 {
+        let next = groups.next();
+        if let Ok(Expected::Known(_, after)) = expected(&next.image, &next.call) {
+            groups.answered(&after);
+        }
+        if short(&next.image) {
+            left -= 1;
+            print(format!("g {}", line(group_case(&next.call, &next.image))));
+        }
+    }
+    let mut left = each;
+    take(Stream::timers(seed), |next| {
+        let (call, image) = (&next.call, &next.image);
+        let passes = || check::refusal(image, call) == 0;
+        if short(image) && passes() && decision::unreadable_due(View(image), call) {
+            left -= 1;
+            print(line(case(call, image)));
+        }
+        left > 0
+    });
+    true
+}
+
+/// Goes through the cases of a stream for as long as more are wanted.
+fn take(mut stream: Stream, mut wanted: impl FnMut(&Case) -> bool) {
+    loop {
+        let next = stream.next();
+        if let Ok(Expected::Known(_, after)) = expected(&next.image, &next.call) {
+            stream.answered(&after);
+        }
+        if !wanted(&next) {
+            return;
+        }
+    }
+}
