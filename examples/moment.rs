@@ -14,6 +14,7 @@ struct Answer {
     refusal: u64,
     result: u64,
     interrupt: u64,
+    rule: u64,
 }
 
 unsafe extern "C" {
@@ -56,6 +57,7 @@ impl Image {
             unsafe { ronthuyal_call(self.0.as_mut_ptr(), self.0.len(), SWITCH, 0, time, 0) };
         assert_eq!((answer.refusal, answer.interrupt), (0, 0));
         assert!([1, 2].contains(&answer.result));
+        assert!((1..=9).contains(&answer.rule));
     }
 }
 

@@ -27,7 +27,7 @@ int main(void)
     }
     uint64_t *image = words + 4;
     struct ronthuyal_answer answer = ronthuyal_call(image, length - 4, words[0], words[1], words[2], words[3]);
-    printf("refusal %" PRIu64 ", result %" PRIu64 "\n", answer.refusal, answer.result);
+    printf("refusal %" PRIu64 ", result %" PRIu64 ", rule %" PRIu64 "\n", answer.refusal, answer.result, answer.rule);
     if (answer.refusal == 0) {
         const uint64_t *block = image + RONTHUYAL_BLOCK(image[1], words[1]);
         printf("in charge %" PRIu64 ", V %" PRIu64 "\n", block[RONTHUYAL_BLOCK_SCHED_CTXT], block[RONTHUYAL_BLOCK_V]);

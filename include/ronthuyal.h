@@ -3,7 +3,7 @@
 #ifndef RONTHUYAL_H
 #define RONTHUYAL_H
 
-#define RONTHUYAL_VERSION "0.3.0"
+#define RONTHUYAL_VERSION "0.4.0"
 
 #include <stddef.h>
 #include <stdint.h>
@@ -13,11 +13,13 @@ extern "C" {
 #endif
 
 /* What a call answers. refusal 0: the call was made, and the words hold the next image. Else every word is kept, and
-   result and interrupt are 0. interrupt is 1 if a wake-up went to another CPU. */
+   result, interrupt and rule are 0. interrupt is 1 if a wake-up went to another CPU. rule is the number of the rule by
+   which a decision left whom in charge, 0 where nothing was decided. */
 struct ronthuyal_answer {
     uint64_t refusal;
     uint64_t result;
     uint64_t interrupt;
+    uint64_t rule;
 };
 
 /* image points to length words that nobody else uses during the call. Any words, operation, CPU, time and context are
@@ -57,6 +59,20 @@ enum {
     RONTHUYAL_RESULT_NOT_DUE = 0,
     RONTHUYAL_RESULT_SWITCHED = 1,
     RONTHUYAL_RESULT_ALL_CONTEXTS_IDLE = 2
+};
+
+/* Rules of a decision. */
+enum {
+    RONTHUYAL_RULE_NONE = 0,
+    RONTHUYAL_RULE_FIRST_ELIGIBLE = 1,
+    RONTHUYAL_RULE_HOLDER_DEADLINE = 2,
+    RONTHUYAL_RULE_HOLDER_SLICE = 3,
+    RONTHUYAL_RULE_HOLDER_ALONE = 4,
+    RONTHUYAL_RULE_HOLDER_VTIME = 5,
+    RONTHUYAL_RULE_HOLDER_LATE_DEADLINE = 6,
+    RONTHUYAL_RULE_ENTRY_VTIME = 7,
+    RONTHUYAL_RULE_STOLEN = 8,
+    RONTHUYAL_RULE_IDLE = 9
 };
 
 /* Statuses of a context. */

@@ -17,6 +17,7 @@ class Case(NamedTuple):
     answer: tuple  # refusal, result, interrupt mark
     after: dict  # words after the call
     whole: bool  # whether these are all the words that it changes
+    rule: int | None = None  # of a decision, where it is worked out by hand
 
 
 class Machine:

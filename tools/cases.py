@@ -9,6 +9,7 @@ import subprocess
 import group_cases
 import image_cases
 import refused_cases
+import rule_cases
 import switch_cases
 import timer_cases
 from case import Case
@@ -37,10 +38,13 @@ def list_of(items):
 
 def check(case, line):
     """That the kernel's answer has what the case says."""
-    refusal, result, interrupt, count, *changed = map(int, line.split())
+    refusal, result, interrupt, rule, count, *changed = map(int, line.split())
     changed = dict(zip(changed[::2], changed[1::2]))
     after = {**case.words, **changed}
     assert (refusal, result, interrupt) == case.answer, (case.title, line)
+    # Only operations 1 to 3 decide, and a refused call does not.
+    expected = case.rule if case.call[0] in (1, 2, 3) and not refusal else 0
+    assert expected in (None, rule), (case.title, rule, expected)
     for place, word in case.after.items():
         assert after.get(place, 0) == word, (case.title, place, after.get(place, 0), word)
     assert not case.whole or changed == case.after, (case.title, line)
@@ -48,7 +52,7 @@ def check(case, line):
 
 def main():
     items = (image_cases.CASES + switch_cases.CASES + refused_cases.CASES + group_cases.CASES
-             + timer_cases.CASES)
+             + timer_cases.CASES + rule_cases.CASES)
     calls = list_of(items)
     answers = subprocess.run(KERNEL, input=calls, capture_output=True, text=True, check=True).stdout
     lines = [line for line in answers.splitlines() if not line.startswith("#")]

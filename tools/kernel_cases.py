@@ -3,10 +3,10 @@
 
 usage: kernel_cases.py [--every] LIST.. > crates/model_cases/specs/KernelCases.antt
 
-A list is text, a line for each call, `op cpu time ctx | idx:value .. | refusal result interrupt | idx:newvalue ..`,
-or words of 64 bits (name ending in .bin), as harness/recorded describes them. Taken are calls of operations 1 to 3 that
-were accepted or found no room: of a text list all, of a .bin list those without room and some small machines, each of
-another kind than those before. With --every all of them are taken: more than one theorem can compute.
+A list is text, a line for each call, or words of 64 bits (name ending in .bin), as harness/recorded/README.md describes
+them. Taken are calls of operations 1 to 3 that were accepted or found no room: of a text list all, of a .bin list those
+without room and some small machines, each of another kind than those before. With --every all of them are taken: more
+than one theorem can compute.
 """
 import struct
 import sys
@@ -50,7 +50,7 @@ def from_words(name):
         call = tuple(next(words) for _ in range(4))
         size = next(words)
         image = pairs()
-        answer = tuple(next(words) for _ in range(3))
+        answer = tuple(next(words) for _ in range(4))
         yield call, size, image, answer, pairs()
 
 
@@ -82,7 +82,7 @@ def main():
             call, size, before, answer, changed = case
             if call[0] not in (1, 2, 3) or answer[0] not in (0, 9):
                 continue
-            kind = (call[0], answer, before[0], len(changed))
+            kind = (call[0], answer[:3], before[0], len(changed))
             if name.endswith('.bin') and not every:
                 if not answer[0] and (len(before) > 90 or kind in kinds or len(out) >= 72):
                     continue

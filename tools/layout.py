@@ -212,3 +212,28 @@ REFUSALS = [
     "operations 1 to 3: the time is over 2^52 - 1 ns past the CPU's `schedule_time`",
     "a queue, timer set or list would get its 65th item",
 ]
+
+
+class Rule(NamedTuple):
+    name: str  # as in the enum of crates/answer
+    says: str
+    when: str  # after wake-ups and charging
+
+
+# Why a decision left whom in charge, from 1; 0 is that of a call that makes none.
+RULES = [
+    Rule("FirstEligible", "first eligible entry", "some ready entry is eligible, and not 2 or 3"),
+    Rule("HolderDeadline", "holder kept by its deadline",
+         "some ready entry is eligible, the holder is runnable and eligible, and its deadline is before that of the "
+         "first such entry"),
+    Rule("HolderSlice", "holder kept by its slice", "the same with equal deadlines and more slice left"),
+    Rule("HolderAlone", "holder alone eligible", "the holder is runnable and eligible, no ready entry is eligible"),
+    Rule("HolderVtime", "holder with least virtual time",
+         "nobody is eligible, the holder is runnable, and no ready entry has a smaller vtime (also if it waits alone)"),
+    Rule("HolderLateDeadline", "holder kept by deadline with nobody eligible",
+         "nobody is eligible, the holder is runnable, some ready entry has a smaller vtime, and the holder's vd is at "
+         "most that of the first one with the least"),
+    Rule("EntryVtime", "entry with least virtual time", "nobody is eligible, some entry is ready, and not 5 or 6"),
+    Rule("Stolen", "stolen", "nobody waits, and this turn stole somebody"),
+    Rule("Idle", "idle", "nobody waits, and it stole nobody"),
+]

@@ -7,7 +7,7 @@ import os
 import re
 
 from layout import (ANY, ARRAYS, BLOCK_WORDS, CALLS, CONTEXTS, CPUS, ID_MAX, NUMBER_MAX, OPERATIONS, PRIO_MAX, RECORD,
-                    RECORD_WORDS, REFUSALS, ROOM, SINGLE, SIZES, SLICE_MAX, STATE, STATUS, TURN_MAX, WEIGHT_MAX,
+                    RECORD_WORDS, REFUSALS, ROOM, RULES, SINGLE, SIZES, SLICE_MAX, STATE, STATUS, TURN_MAX, WEIGHT_MAX,
                     WEIGHT_MIN, array_place)
 
 BY = "Written by tools/places.py"
@@ -52,7 +52,10 @@ def rust():
     out += ["    ];", ""] + names("NAMES", "&str", ['"%s"' % word.name for word in SINGLE]) + [""]
     out += ["    /// Names of the columns: before and after the slot in brackets."]
     out += names("COLUMN_NAMES", "(&str, &str)", ['("%s", "%s")' % tuple(array.item.split("[%d]")) for array in ARRAYS])
-    return "\n".join(out + ["}"]) + "\n"
+    out += ["}", "", "/// What the numbers of the rules stand for."]
+    out += ["pub const RULES: [&str; %d] = [" % (len(RULES) + 1), '    "no decision",']
+    out += ['    "%s",' % rule.says for rule in RULES]
+    return "\n".join(out + ["];"]) + "\n"
 
 
 HEADER = """/* The scheduling decisions of the Redox kernel over a machine image: docs/IMAGE.md says what each word is.
@@ -70,11 +73,13 @@ extern "C" {
 #endif
 
 /* What a call answers. refusal 0: the call was made, and the words hold the next image. Else every word is kept, and
-   result and interrupt are 0. interrupt is 1 if a wake-up went to another CPU. */
+   result, interrupt and rule are 0. interrupt is 1 if a wake-up went to another CPU. rule is the number of the rule by
+   which a decision left whom in charge, 0 where nothing was decided. */
 struct ronthuyal_answer {
     uint64_t refusal;
     uint64_t result;
     uint64_t interrupt;
+    uint64_t rule;
 };
 
 /* image points to length words that nobody else uses during the call. Any words, operation, CPU, time and context are
@@ -114,6 +119,7 @@ def header():
     out += enum("Operations.", prefixed("OP", [operation.name for operation in OPERATIONS], 1))
     out += enum("Results of tick, switch and direct_switch_to.",
                 [("RESULT_NOT_DUE", 0), ("RESULT_SWITCHED", 1), ("RESULT_ALL_CONTEXTS_IDLE", 2)])
+    out += enum("Rules of a decision.", [("RULE_NONE", 0)] + prefixed("RULE", [rule.name for rule in RULES], 1))
     out += enum("Statuses of a context.", prefixed("STATUS", STATUS))
     out += enum("States of a CPU.", prefixed("STATE", STATE))
     out += ["/* Limits. */"] + ["#define RONTHUYAL_%s UINT64_C(%d)" % pair for pair in LIMITS] + [""]
@@ -136,7 +142,7 @@ def table(head, rows):
     return "\n".join("| %s |" % " | ".join(row) for row in [head, ["---"] * len(head)] + rows)
 
 
-def rule(range, also):
+def broken(range, also):
     """The refusals that a broken word gives; a word without a range breaks nothing by itself."""
     return "none" if range == ANY else "3; 4: " + also if also else "3"
 
@@ -144,21 +150,23 @@ def rule(range, also):
 def tables():
     def rows(words):
         return [["%d" % at, "`%s`" % word.name, word.says, word.unit, word.range, word.default,
-                 rule(word.range, word.also)]
+                 broken(word.range, word.also)]
                 for at, word in enumerate(words)]
 
     head = ["word", "name", "says", "unit", "range", "default", "broken: refusal"]
     arrays = [["%d" % array_place(array), "`%s`" % array.item.replace("%d", "i"), array.says, array.unit, array.range,
-               "`%s`" % array.count, rule(array.range, array.also)] for array in ARRAYS]
+               "`%s`" % array.count, broken(array.range, array.also)] for array in ARRAYS]
     operations = [["%d" % number, "`%s`" % o.name, "yes" if o.takes else "", o.says, o.result]
                   for number, o in enumerate(OPERATIONS, 1)]
     calls = [["`ronthuyal_%s(image, cpu, time, %s)`" % (call.name, call.takes), call.says, call.result] for call in CALLS]
+    rules = [["%d" % number, rule.says, rule.when] for number, rule in enumerate(RULES, 1)]
     refusals = [["%d" % number, says] for number, says in enumerate(REFUSALS, 1)]
     return {"record": table(head, rows(RECORD)), "block": table(head, rows(SINGLE)),
             "arrays": table(["from word", "name", "says", "unit", "range", "used slots", "broken: refusal"], arrays),
             "operations": table(["operation", "the kernel's function", "takes a context", "does", "result"],
                                 operations),
             "calls": table(["call", "does", "result"], calls),
+            "rules": table(["rule", "name", "given exactly when, of an accepted decision"], rules),
             "refusals": table(["refusal", "given exactly when"], refusals)}
 
 

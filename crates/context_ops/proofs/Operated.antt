@@ -87,17 +87,17 @@ module _ (m : List ℕ) (k x : ℕ) (M : Machine) (q : Context) (hq : q ≡ cont
       in g ∙ rw (d, e) (ap (λ (v : Context). replied m (wakeup-context k x 0 (set-context x v M))) hq ∙ ap (λ (N : Machine). replied m (wakeup-context k x 0 N)) (store-same M x))
 
   pub unblock-nothing : u .done ≡ false → is-runnable (q .status) ≡ false → m ≡ encode M
-      → reply (record { refusal = 0; result = 0; interrupt = 0 }) m ≡ replied m (unblock-context k x M)
+      → reply (record { refusal = 0; result = 0; interrupt = 0; rule = 0 }) m ≡ replied m (unblock-context k x M)
   unfolding unblock-context replied
   unblock-nothing t r z =
       let d : unblocked (context-at (M .contexts) x) .done ≡ false = sym (ap (λ (v : Changed). v .done) same) ∙ t
       in let e : is-runnable ((context-at (M .contexts) x) .status) ≡ false = sym (ap (λ (v : Context). is-runnable (v .status)) hq) ∙ r
-      in rw (d, e) (λ i. record { answer = record { refusal = 0; result = 0; interrupt = 0 }; image = z i })
+      in rw (d, e) (λ i. record { answer = record { refusal = 0; result = 0; interrupt = 0; rule = 0 }; image = z i })
 
 -- a changed record stored
-pub stored-reply : {m' : List ℕ} (m : List ℕ) (r : ℕ) (M : Machine) → m' ≡ encode M → reply (record { refusal = 0; result = r; interrupt = 0 }) m' ≡ replied m (finished r M)
+pub stored-reply : {m' : List ℕ} (m : List ℕ) (r : ℕ) (M : Machine) → m' ≡ encode M → reply (record { refusal = 0; result = r; interrupt = 0; rule = 0 }) m' ≡ replied m (finished r M)
 unfolding replied
-stored-reply m r M z = λ i. record { answer = record { refusal = 0; result = r; interrupt = 0 }; image = z i }
+stored-reply m r M z = λ i. record { answer = record { refusal = 0; result = r; interrupt = 0; rule = 0 }; image = z i }
 
 -- 6 and 7
 pub blocked-reply : {a : Answer} {m' : List ℕ} (m : List ℕ) (s : Status) (x : ℕ) (M : Machine) (q : Context) (b : Changed) → q ≡ context-at (M .contexts) x → b ≡ blocked-as s q
@@ -121,18 +121,18 @@ module _ {c n : ℕ} (m : List ℕ) (k : ℕ) (h : k < c) (M : Machine) (e : m �
   length-both : length both ≡ local + ipi
   length-both = length-append (cpu-at M k .«local_wakeup_list») (cpu-at M k .«ipi_context_wakeup_list») ∙ rw (← local-counted m k h M e o, ← ipi-counted m k h M e o, ← p, ← hl, ← hi)
 
-  pub drain-full : {a : Answer} → a ≡ record { refusal = 9; result = 0; interrupt = 0 } → 64 < local + ipi → reply a m ≡ replied m (drain-ipi-context-wakeups k M)
+  pub drain-full : {a : Answer} → a ≡ record { refusal = 9; result = 0; interrupt = 0; rule = 0 } → 64 < local + ipi → reply a m ≡ replied m (drain-ipi-context-wakeups k M)
   unfolding replied drain-ipi-context-wakeups
   drain-full z g = rw (lt-ltb 64 (length both) (rw length-both g)) (ap (λ (b : Answer). reply b m) z)
 
   pub drained : {l : List ℕ} → local + ipi ≤ 64
       → ((p : Cpu) → take (at + block-size - at) (drop at m) ≡ cpu-words p → length (p .«ipi_context_wakeup_list») ≤ 64
       → l ≡ cpu-words (cpu-local-wakeup-list (p .«local_wakeup_list» ++ p .«ipi_context_wakeup_list») (cpu-ipi-context-wakeup-list [] p)))
-      → reply (record { refusal = 0; result = 0; interrupt = 0 }) (putMid at (at + block-size - at) m l) ≡ replied m (drain-ipi-context-wakeups k M)
+      → reply (record { refusal = 0; result = 0; interrupt = 0; rule = 0 }) (putMid at (at + block-size - at) m l) ≡ replied m (drain-ipi-context-wakeups k M)
   unfolding replied drain-ipi-context-wakeups
   drained {l} g f =
       let z = back-is m k p h M e o _ l (f (cpu-at M k) (lent-is m k p h M e o) (o .cpu k h .ipi))
-      in rw (le-ltb 64 (length both) (rw length-both g)) (λ i. record { answer = record { refusal = 0; result = 0; interrupt = 0 }; image = z i })
+      in rw (le-ltb 64 (length both) (rw length-both g)) (λ i. record { answer = record { refusal = 0; result = 0; interrupt = 0; rule = 0 }; image = z i })
 
 -- the counts are small
 pub counts-small : {c n : ℕ} {m : List ℕ} (i : Image c n m) (k : ℕ) {at : ℕ} → at ≡ cpu-place n k → k < c → (getD m (at + local-count) 0 ≤ 64) × (getD m (at + ipi-count) 0 ≤ 64)
@@ -140,7 +140,7 @@ counts-small {m = m} i k p h =
     (rw (p, local-counted m k h (i .M) (i .eq) (i .fits)) (i .fits .cpu k h .local), rw (p, ipi-counted m k h (i .M) (i .eq) (i .fits)) (i .fits .cpu k h .ipi))
 
 -- the reply to a call, by whom it names
-pub refused-call : {a : Answer} (m : List ℕ) (f : ℕ → ℕ → Outcome) (r : ℕ) (w v : Named) → w ≡ v → w ≡ Refused r → a ≡ record { refusal = r; result = 0; interrupt = 0 } → reply a m ≡ reply-to m f v
+pub refused-call : {a : Answer} (m : List ℕ) (f : ℕ → ℕ → Outcome) (r : ℕ) (w v : Named) → w ≡ v → w ≡ Refused r → a ≡ record { refusal = r; result = 0; interrupt = 0; rule = 0 } → reply a m ≡ reply-to m f v
 unfolding reply-to
 refused-call m f r w v e g z = rw (← e, g) (ap (λ (b : Answer). reply b m) z)
 
@@ -148,7 +148,7 @@ pub found-call : {a : Answer} {m' : List ℕ} (m : List ℕ) (f : ℕ → ℕ �
 unfolding reply-to
 found-call m f k x w v e g z = rw (← e, g) z
 
-pub absent-call : {a : Answer} (m : List ℕ) (f : ℕ → Outcome) (w v : CpuLookup) → w ≡ v → w ≡ Absent → a ≡ record { refusal = 5; result = 0; interrupt = 0 } → reply a m ≡ reply-on m f v
+pub absent-call : {a : Answer} (m : List ℕ) (f : ℕ → Outcome) (w v : CpuLookup) → w ≡ v → w ≡ Absent → a ≡ record { refusal = 5; result = 0; interrupt = 0; rule = 0 } → reply a m ≡ reply-on m f v
 unfolding reply-on
 absent-call m f w v e g z = rw (← e, g) (ap (λ (b : Answer). reply b m) z)
 

@@ -94,25 +94,25 @@ module _ {c n : ℕ} (m : List ℕ) (k : ℕ) (h : k < c) (M : Machine) (e : m �
 
   -- a wake-up that finds no room, and one that is made
   module _ (x r : ℕ) (q : Context) {at : ℕ} (p : at ≡ cpu-place n k) where
-    pub local-full : {a : Answer} → a ≡ record { refusal = 9; result = 0; interrupt = 0 } → 64 ≤ getD m (at + local-count) 0
+    pub local-full : {a : Answer} → a ≡ record { refusal = 9; result = 0; interrupt = 0; rule = 0 } → 64 ≤ getD m (at + local-count) 0
         → reply a m ≡ replied m (wakeup-on k x r (set-context x q M) Absent)
     unfolding replied wakeup-on cpu-at
     local-full z g = rw (le-leb 64 (length (cpu-at M k .«local_wakeup_list»)) (rw (p, local-counted) at g)) (ap (λ (b : Answer). reply b m) z)
 
     pub local-woken : {m' : List ℕ} → getD m (at + local-count) 0 < 64 → m' ≡ encode (set-context x q (push-local k x M))
-        → reply (record { refusal = 0; result = r; interrupt = 0 }) m' ≡ replied m (wakeup-on k x r (set-context x q M) Absent)
+        → reply (record { refusal = 0; result = r; interrupt = 0; rule = 0 }) m' ≡ replied m (wakeup-on k x r (set-context x q M) Absent)
     unfolding replied wakeup-on cpu-at push-local
-    local-woken g z = rw (lt-leb 64 (length (cpu-at M k .«local_wakeup_list»)) (rw (p, local-counted) at g)) (λ i. record { answer = record { refusal = 0; result = r; interrupt = 0 }; image = z i })
+    local-woken g z = rw (lt-leb 64 (length (cpu-at M k .«local_wakeup_list»)) (rw (p, local-counted) at g)) (λ i. record { answer = record { refusal = 0; result = r; interrupt = 0; rule = 0 }; image = z i })
 
-    pub ipi-full : {a : Answer} (j : ℕ) → a ≡ record { refusal = 9; result = 0; interrupt = 0 } → 64 ≤ getD m (at + ipi-count) 0
+    pub ipi-full : {a : Answer} (j : ℕ) → a ≡ record { refusal = 9; result = 0; interrupt = 0; rule = 0 } → 64 ≤ getD m (at + ipi-count) 0
         → reply a m ≡ replied m (wakeup-on j x r (set-context x q M) (Present k))
     unfolding replied wakeup-on cpu-at
     ipi-full j z g = rw (le-leb 64 (length (cpu-at M k .«ipi_context_wakeup_list»)) (rw (p, ipi-counted) at g)) (ap (λ (b : Answer). reply b m) z)
 
     pub ipi-woken : {m' : List ℕ} (j : ℕ) → getD m (at + ipi-count) 0 < 64 → m' ≡ encode (set-context x q (push-ipi k x M))
-        → reply (record { refusal = 0; result = r; interrupt = 1 }) m' ≡ replied m (wakeup-on j x r (set-context x q M) (Present k))
+        → reply (record { refusal = 0; result = r; interrupt = 1; rule = 0 }) m' ≡ replied m (wakeup-on j x r (set-context x q M) (Present k))
     unfolding replied wakeup-on cpu-at push-ipi
-    ipi-woken j g z = rw (lt-leb 64 (length (cpu-at M k .«ipi_context_wakeup_list»)) (rw (p, ipi-counted) at g)) (λ i. record { answer = record { refusal = 0; result = r; interrupt = 1 }; image = z i })
+    ipi-woken j g z = rw (lt-leb 64 (length (cpu-at M k .«ipi_context_wakeup_list»)) (rw (p, ipi-counted) at g)) (λ i. record { answer = record { refusal = 0; result = r; interrupt = 1; rule = 0 }; image = z i })
 
 -- the block of CPU k lent, and a name pushed on one of its lists
 module _ {c n : ℕ} {m : List ℕ} (i : Image c n m) (k x name : ℕ) {at : ℕ} (p : at ≡ cpu-place n k) (l : List ℕ) (h : k < c) (b : x < n) (q : name ≡ x) where

@@ -30,6 +30,7 @@ drain-ipi-context-wakeups k M =
       machine = set-cpu k (cpu-local-wakeup-list l (cpu-ipi-context-wakeup-list [] p)) M;
       result = 0;
       interrupt = false;
+      rule = 0;
       no-room = ltb 64 (length l);
     }
 

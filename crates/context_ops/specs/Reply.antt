@@ -21,13 +21,13 @@ reply a m = record { answer = a; image = m }
 
 -- a refused image keeps every word; all else in the answer is 0
 abbrev pub refuse : ℕ → List ℕ → Reply
-refuse r m = record { answer = record { refusal = r; result = 0; interrupt = 0 }; image = m }
+refuse r m = record { answer = record { refusal = r; result = 0; interrupt = 0; rule = 0 }; image = m }
 
 -- an outcome of the image m; without room it is refusal 9
 unfoldable pub replied : List ℕ → Outcome → Reply
 replied m o =
     if o .no-room then refuse 9 m else
-    record { answer = record { refusal = 0; result = o .result; interrupt = mark (o .interrupt) }; image = encode (o .machine) }
+    record { answer = record { refusal = 0; result = o .result; interrupt = mark (o .interrupt); rule = o .rule }; image = encode (o .machine) }
 
 -- a call that names a CPU and a context, and one that names a CPU
 unfoldable pub reply-to : List ℕ → (ℕ → ℕ → Outcome) → Named → Reply

@@ -29,9 +29,9 @@ push-ipi k x M =
 -- on another CPU's list it is a non-local wake-up, with the interrupt
 unfoldable pub wakeup-on : (k x result : ℕ) → Machine → CpuLookup → Outcome
 wakeup-on k x result M (Present t) =
-    record { machine = push-ipi t x M; result = result; interrupt = true; no-room = leb 64 (length (cpu-at M t .«ipi_context_wakeup_list»)) }
+    record { machine = push-ipi t x M; result = result; interrupt = true; rule = 0; no-room = leb 64 (length (cpu-at M t .«ipi_context_wakeup_list»)) }
 wakeup-on k x result M Absent =
-    record { machine = push-local k x M; result = result; interrupt = false; no-room = leb 64 (length (cpu-at M k .«local_wakeup_list»)) }
+    record { machine = push-local k x M; result = result; interrupt = false; rule = 0; no-room = leb 64 (length (cpu-at M k .«local_wakeup_list»)) }
 
 -- context x is woken from CPU k; `result` is what the call gives
 unfoldable pub wakeup-context : (k x result : ℕ) → Machine → Outcome

@@ -66,6 +66,7 @@ pub fn unblock(m: &mut [u64], c: usize, n: usize, k: usize, x: usize) -> Answer
         refusal: 0,
         result: 0,
         interrupt: 0,
+        rule: 0,
     }
 }
 
@@ -81,6 +82,7 @@ fn store_changed(m: &mut [u64], c: usize, n: usize, x: usize, b: Changed) -> Ans
         refusal: 0,
         result: b.done as u64,
         interrupt: 0,
+        rule: 0,
     }
 }
 
@@ -155,6 +157,7 @@ fn drain(m: &mut [u64], c: usize, n: usize, k: usize) -> Answer
         refusal: 0,
         result: 0,
         interrupt: 0,
+        rule: 0,
     }
 }
 

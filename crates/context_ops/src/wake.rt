@@ -77,6 +77,7 @@ pub fn wake_local(
         refusal: 0,
         result,
         interrupt: 0,
+        rule: 0,
     }
 }
 
@@ -106,5 +107,6 @@ pub fn wake_ipi(
         refusal: 0,
         result,
         interrupt: 1,
+        rule: 0,
     }
 }

@@ -6,7 +6,10 @@ use Rattle.columns.specs.Common.{tabulate}
 use Rattle.decide.specs.declared.input.Head.{Head}
 use Rattle.machine.specs.Encode.{max-image-size}
 
--- the greatest number of four bytes
+-- the greatest byte, and the greatest number of four bytes
+abbrev pub max-byte : ℕ
+max-byte = 255
+
 abbrev pub max-half : ℕ
 max-half = 2 ^ 32 - 1
 

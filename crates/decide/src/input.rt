@@ -3,7 +3,7 @@ use libc::STDIN_FILENO;
 ghost use mathlib.Core.Path.{_≡_};
 ghost use Prim.Native.Nat.{_+_, _*_, _≤_};
 ghost use lib.ListN.{length};
-ghost use Rattle.decide.specs.Input.{half-at, word-at, head-of, image-words, max-half};
+ghost use Rattle.decide.specs.Input.{half-at, word-at, head-of, image-words, max-byte, max-half};
 
 pub struct Head {
     pub operation: u64,
@@ -13,7 +13,7 @@ pub struct Head {
 }
 
 fn wide(b: u8) -> u64
-    ensures { λ r. ⌜ (r ≡ b) × (r ≤ 255) ⌝ }
+    ensures { λ r. ⌜ (r ≡ b) × (r ≤ max-byte) ⌝ }
 {
     b as u64
 }

@@ -27,8 +27,8 @@ use Rattle.group_ops.proofs.Unblocking.{full-stays, unblock-fits, resul
 
 -- an answer to a single call, by whether there was room
 pub record Single (m m' : List ℕ) (a : Answer) (p : Outcome) : Type 0 where
-  pub full : p .no-room ≡ true → a ≡ record { refusal = 9; result = 0; interrupt = 0 }
-  pub answer : p .no-room ≡ false → a ≡ record { refusal = 0; result = p .result; interrupt = mark (p .interrupt) }
+  pub full : p .no-room ≡ true → a ≡ record { refusal = 9; result = 0; interrupt = 0; rule = 0 }
+  pub answer : p .no-room ≡ false → a ≡ record { refusal = 0; result = p .result; interrupt = mark (p .interrupt); rule = p .rule }
   pub image : p .no-room ≡ false → m' ≡ encode (p .machine)
 
 pub single : {m m' : List ℕ} {a : Answer} {p : Outcome} → reply a m' ≡ replied m p → Single m m' a p
@@ -56,7 +56,7 @@ pub record Reached (c n k count interrupt : ℕ) (m xs : List ℕ) (o : Outcome)
   pub eq : m ≡ encode N
   pub fits : Fits c n N
   pub marked : interrupt ≡ mark bit
-  pub comes : fold (also-unblock k) (record { machine = N; result = count; interrupt = bit; no-room = false }) xs ≡ o
+  pub comes : fold (also-unblock k) (record { machine = N; result = count; interrupt = bit; rule = 0; no-room = false }) xs ≡ o
 
 pub reached-start : {c n : ℕ} (k : ℕ) (m xs : List ℕ) (M : Machine) → m ≡ encode M → Fits c n M → Reached c n k 0 0 m xs (unblock-each k xs M)
 unfolding unblock-each
@@ -65,7 +65,7 @@ reached-start k m xs M e o = record { N = M; bit = false; eq = e; fits = o; mark
 module _ {c n k count interrupt : ℕ} {m m' : List ℕ} {o : Outcome} {a : Answer} (rest x : ℕ) (here : k < c) (p : 0 < rest) (b : rest ≤ max-word) (hx : x ≡ next-cpu rest)
     (r : Reached c n k count interrupt m (members rest) o) (each : (M : Machine) → m ≡ encode M → Fits c n M → reply a m' ≡ replied m (unblock-context k x M)) where
   abbrev before : Outcome
-  before = record { machine = r .N; result = count; interrupt = r .bit; no-room = false }
+  before = record { machine = r .N; result = count; interrupt = r .bit; rule = 0; no-room = false }
 
   abbrev woken : Outcome
   woken = unblock-context k x (r .N)
@@ -92,7 +92,7 @@ module _ {c n k count interrupt : ℕ} {m m' : List ℕ} {o : Outcome} {a : Answ
         eq = said .image f;
         fits = unblock-fits k x (r .N) (r .fits) here l f;
         marked = hi ∙ rw (r .marked, w) (mark-either (r .bit) (woken .interrupt));
-        comes = rw (hr, v) (sym (ap (λ (y : Bool). fold (also-unblock k) (record { machine = woken .machine; result = count + woken .result; interrupt = r .bit || woken .interrupt; no-room = y }) (members (rest-cpus rest))) f) ∙ steps);
+        comes = rw (hr, v) (sym (ap (λ (y : Bool). fold (also-unblock k) (record { machine = woken .machine; result = count + woken .result; interrupt = r .bit || woken .interrupt; rule = 0; no-room = y }) (members (rest-cpus rest))) f) ∙ steps);
       }
 
   pub reached-full : (a .refusal ≡ 0 → ⊥) → Unblocked m' a o
@@ -103,13 +103,13 @@ module _ {c n k count interrupt : ℕ} {m m' : List ℕ} {o : Outcome} {a : Answ
       record { full = λ t. said .full f; image = λ t. clash g t; answer = λ t. clash g t }
 
 pub reached-end : {c n k count interrupt : ℕ} {m : List ℕ} {o : Outcome} (rest : ℕ) → rest ≡ 0 → Reached c n k count interrupt m (members rest) o
-    → Unblocked m (record { refusal = 0; result = count; interrupt = interrupt }) o
+    → Unblocked m (record { refusal = 0; result = count; interrupt = interrupt; rule = 0 }) o
 reached-end {k = k} {count = count} {o = o} rest z r =
-    let e : record { machine = r .N; result = count; interrupt = r .bit; no-room = false } ≡ o = sym (ap (fold (also-unblock k) _) (ap members z ∙ members-none)) ∙ r .comes in
+    let e : record { machine = r .N; result = count; interrupt = r .bit; rule = 0; no-room = false } ≡ o = sym (ap (fold (also-unblock k) _) (ap members z ∙ members-none)) ∙ r .comes in
     record {
       full = λ t. clash t (sym (ap (λ (y : Outcome). y .no-room) e));
       image = λ t. r .eq ∙ ap (λ (y : Outcome). encode (y .machine)) e;
-      answer = λ t. λ i. record { refusal = 0; result = (ap (λ (y : Outcome). y .result) e) i; interrupt = (r .marked ∙ ap (λ (y : Outcome). mark (y .interrupt)) e) i };
+      answer = λ t. λ i. record { refusal = 0; result = (ap (λ (y : Outcome). y .result) e) i; interrupt = (r .marked ∙ ap (λ (y : Outcome). mark (y .interrupt)) e) i; rule = (ap (λ (y : Outcome). y .rule) e) i };
     }
 
 -- the loop over the mask: `rest` is left of it
@@ -168,7 +168,7 @@ module _ {m' : List ℕ} {a : Answer} {o : Outcome} (m : List ℕ) (u : Unblocke
   pub accepted : a .refusal ≡ 0 → reply a m' ≡ replied m o
   accepted z = with-room (unblocked-room z)
 
-  pub given-up : {b : Answer} {m'' : List ℕ} → (a .refusal ≡ 0 → ⊥) → b ≡ record { refusal = 9; result = 0; interrupt = 0 } → m'' ≡ m → reply b m'' ≡ replied m o
+  pub given-up : {b : Answer} {m'' : List ℕ} → (a .refusal ≡ 0 → ⊥) → b ≡ record { refusal = 9; result = 0; interrupt = 0; rule = 0 } → m'' ≡ m → reply b m'' ≡ replied m o
   unfolding replied
   given-up z e w =
       let f : o .no-room ≡ true = by-test (o .no-room) (λ t. t) (λ t. absurd (z (ap (λ (y : Answer). y .refusal) (u .answer t))))
@@ -176,12 +176,12 @@ module _ {m' : List ℕ} {a : Answer} {o : Outcome} (m : List ℕ) (u : Unblocke
 
 -- the whole call, by what the look-up and the names gave
 module _ (m : List ℕ) (M : Machine) (cpu mask : ℕ) (p : CpuLookup) (hp : p ≡ get-percpu-block M cpu) where
-  pub absent-group : {a : Answer} → p ≡ Absent → a ≡ record { refusal = 5; result = 0; interrupt = 0 } → reply a m ≡ unblock-group m M cpu mask
+  pub absent-group : {a : Answer} → p ≡ Absent → a ≡ record { refusal = 5; result = 0; interrupt = 0; rule = 0 } → reply a m ≡ unblock-group m M cpu mask
   unfolding unblock-group group-on
   absent-group e z = rw (← hp, e) (ap (λ (b : Answer). reply b m) z)
 
   module _ (k : ℕ) (e : p ≡ Present k) (r : ℕ) (hr : r ≡ names-refusal M cpu (members mask)) where
-    pub refused-group : {a : Answer} → (r ≡ 0 → ⊥) → a ≡ record { refusal = r; result = 0; interrupt = 0 } → reply a m ≡ unblock-group m M cpu mask
+    pub refused-group : {a : Answer} → (r ≡ 0 → ⊥) → a ≡ record { refusal = r; result = 0; interrupt = 0; rule = 0 } → reply a m ≡ unblock-group m M cpu mask
     unfolding unblock-group group-on
     refused-group f z = rw (← hp, e, ← hr, ne-eqb r 0 f) (ap (λ (b : Answer). reply b m) z)
 

@@ -38,7 +38,7 @@ module _ (P : Outcome → Type 0) (k x : ℕ) (M : Machine) where
   abbrev q : Context
   q = context-at (M .contexts) x
 
-  pub by-unblock : P (wakeup-context k x 1 (set-context x (unblocked q .context) M)) → P (wakeup-context k x 0 M) → P (record { machine = M; result = 0; interrupt = false; no-room = false })
+  pub by-unblock : P (wakeup-context k x 1 (set-context x (unblocked q .context) M)) → P (wakeup-context k x 0 M) → P (record { machine = M; result = 0; interrupt = false; rule = 0; no-room = false })
       → P (unblock-context k x M)
   unfolding unblock-context
   by-unblock f g h =
@@ -53,6 +53,16 @@ pub result-small : (k x : ℕ) (M : Machine) → (unblock-context k x M) .result
 unfolding wakeup-context
 result-small k x M =
     by-unblock (λ (o : Outcome). o .result ≤ 1) k x M (rw (woken-result k x 1) (omega arith)) (rw (woken-result k x 0) (omega arith)) (omega arith)
+
+woken-rule : (k x r : ℕ) (M : Machine) (p : CpuLookup) → (wakeup-on k x r M p) .rule ≡ 0
+unfolding wakeup-on
+woken-rule k x r M Absent = refl
+woken-rule k x r M (Present t) = refl
+
+-- nothing is decided
+pub unblock-rule : (k x : ℕ) (M : Machine) → (unblock-context k x M) .rule ≡ 0
+unfolding wakeup-context
+unblock-rule k x M = by-unblock (λ (o : Outcome). o .rule ≡ 0) k x M (woken-rule k x 1 _ _) (woken-rule k x 0 _ _) refl
 
 -- the CPU of a record's CPU word is one of the machine's
 other-below : {c n : ℕ} (k w t : ℕ) (M : Machine) → Fits c n M → Present t ≡ other-cpu k w M → t < c

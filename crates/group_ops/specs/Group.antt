@@ -42,6 +42,7 @@ also-unblock k o x =
       machine = p .machine;
       result = o .result + p .result;
       interrupt = o .interrupt || p .interrupt;
+      rule = 0;
       no-room = o .no-room || p .no-room;
     }
 
@@ -59,6 +60,6 @@ unblock-group m M cpu mask = group-on m M cpu (members mask) (get-percpu-block M
 
 -- what the loop gives: the words m' and the answer a of an outcome; without room the words are anything
 pub record Unblocked (m' : List ℕ) (a : Answer) (o : Outcome) : Type 0 where
-  pub full : o .no-room ≡ true → a ≡ record { refusal = 9; result = 0; interrupt = 0 }
+  pub full : o .no-room ≡ true → a ≡ record { refusal = 9; result = 0; interrupt = 0; rule = 0 }
   pub image : o .no-room ≡ false → m' ≡ encode (o .machine)
-  pub answer : o .no-room ≡ false → a ≡ record { refusal = 0; result = o .result; interrupt = mark (o .interrupt) }
+  pub answer : o .no-room ≡ false → a ≡ record { refusal = 0; result = o .result; interrupt = mark (o .interrupt); rule = o .rule }

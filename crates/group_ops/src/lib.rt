@@ -78,6 +78,7 @@ fn unblock_each(m: &mut [u64], c: usize, n: usize, k: usize, mask: u64) -> Answe
         refusal: 0,
         result: count,
         interrupt,
+        rule: 0,
     }
 }
 

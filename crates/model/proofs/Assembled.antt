@@ -7,6 +7,7 @@ use mathlib.Core.Logic.{_≢_}
 use Prim.Native.Nat.{ℕ, _-_, _<_}
 use lib.ListN.{length}
 use borrow.Author.Tests.{eqb-true, eqb-false}
+use Rattle.answer.specs.declared.Rule.{Rule}
 use Rattle.ticks.specs.Ticks.{ticks}
 use Rattle.machine.specs.Machine.{Machine, context-at, cpu-at}
 use Rattle.model.specs.State.{State, at, state-of, is-idle, prev-runnable}
@@ -132,20 +133,20 @@ module _ (turn : Turn) where
       ap (λ (z : Fixed). z .currently-scheduled) (is-settled .inv .same (s .cpu .block .«sched_ctxt»))
       ∙ ap (λ y. (context-at (M .contexts) y) .«currently_scheduled») s-sched ∙ T .scheduled-if k P
 
-  finished : (was b : Bool) (w : Option ℕ) → runs ≡ b → l .winner ≡ w
-      → Finished k time s (successor k M b w) (l .cpus) ((after-schedule k time (picked-as time was (l .cpus) (next-context b w s) s)) .machine)
+  finished : (was : Bool) (rule : Rule) (b : Bool) (w : Option ℕ) → runs ≡ b → l .winner ≡ w
+      → Finished k time s (successor k M b w) (l .cpus) ((after-schedule k time (picked-as time was rule (l .cpus) (next-context b w s) s)) .machine)
   unfolding next-context
-  finished was b (some x) p q =
-      finished-some k time was (l .cpus) x s (rw (is-settled .inv .count, ← kept .inv .count) ((kept .winner x q) .range)) sched-range
-  finished was true none p q =
-      subst (λ y. Finished k time s y (l .cpus) ((after-schedule k time (picked-as time was (l .cpus) none s)) .machine)) s-sched
-      (finished-none k time was (l .cpus) s sched-marked)
-  finished was false none p q =
-      pick (λ o. Finished k time s ((cpu-at M k) .block .«idle_ctxt») (l .cpus) ((after-schedule k time (picked-as time was (l .cpus) o s)) .machine)) (is-idle s)
-      (λ t. subst (λ y. Finished k time s y (l .cpus) ((after-schedule k time (picked-as time was (l .cpus) none s)) .machine)) (eqb-true _ _ t ∙ s-idle)
-      (finished-none k time was (l .cpus) s sched-marked))
-      (λ t. subst (λ y. Finished k time s y (l .cpus) ((after-schedule k time (picked-as time was (l .cpus) (some (s .cpu .block .«idle_ctxt»)) s)) .machine)) s-idle
-      (finished-some k time was (l .cpus) (s .cpu .block .«idle_ctxt») s (rw (is-settled .inv .count, s-idle) (S .idle-is k P)) sched-range))
+  finished was rule b (some x) p q =
+      finished-some k time was rule (l .cpus) x s (rw (is-settled .inv .count, ← kept .inv .count) ((kept .winner x q) .range)) sched-range
+  finished was rule true none p q =
+      subst (λ y. Finished k time s y (l .cpus) ((after-schedule k time (picked-as time was rule (l .cpus) none s)) .machine)) s-sched
+      (finished-none k time was rule (l .cpus) s sched-marked)
+  finished was rule false none p q =
+      pick (λ o. Finished k time s ((cpu-at M k) .block .«idle_ctxt») (l .cpus) ((after-schedule k time (picked-as time was rule (l .cpus) o s)) .machine)) (is-idle s)
+      (λ t. subst (λ y. Finished k time s y (l .cpus) ((after-schedule k time (picked-as time was rule (l .cpus) none s)) .machine)) (eqb-true _ _ t ∙ s-idle)
+      (finished-none k time was rule (l .cpus) s sched-marked))
+      (λ t. subst (λ y. Finished k time s y (l .cpus) ((after-schedule k time (picked-as time was rule (l .cpus) (some (s .cpu .block .«idle_ctxt»)) s)) .machine)) s-idle
+      (finished-some k time was rule (l .cpus) (s .cpu .block .«idle_ctxt») s (rw (is-settled .inv .count, s-idle) (S .idle-is k P)) sched-range))
 
   -- c is in charge of no other CPU, and idle only at home
   elsewhere : (b : Bool) (w : Option ℕ) → l .winner ≡ w → (j : ℕ) → Present M j → j ≢ k → successor k M b w ≢ (cpu-at M j) .block .«sched_ctxt»
@@ -167,7 +168,7 @@ module _ (turn : Turn) where
         count = kept .count;
         others = kept .others;
         absent = kept .absent;
-        finished = finished (was-idle (cpu-at M k)) runs (l .winner) refl refl;
+        finished = finished (was-idle (cpu-at M k)) _ runs (l .winner) refl refl;
         not-elsewhere = elsewhere runs (l .winner) refl;
         idle-at-home = at-home runs (l .winner) refl;
       }

@@ -8,6 +8,7 @@ use Prim.Native.Nat.{ℕ, _+_, _-_, _<_}
 use lib.Dec.{eqb}
 use lib.ListN.{length, set, length-set}
 use lib.Seq.{getD-set-same, getD-set-other}
+use Rattle.answer.specs.declared.Rule.{Rule}
 use Rattle.columns.specs.Common.{if_then_else_}
 use Rattle.context.specs.declared.Context.{Context}
 use Rattle.context.specs.declared.Status.{Status}
@@ -162,10 +163,10 @@ module _ (k time : ℕ) where
     pub contexts : M′ .contexts ≡ state .contexts
     pub cpus-are : M′ .cpus ≡ set cpus k (state .cpu)
 
-  pub finished-none : (was : Bool) (cpus : List Cpu) (s : State) → (at s (s .cpu .block .«sched_ctxt»)) .«currently_scheduled» ≡ true
-      → Finished s (s .cpu .block .«sched_ctxt») cpus ((after-schedule k time (picked-as time was cpus none s)) .machine)
+  pub finished-none : (was : Bool) (rule : Rule) (cpus : List Cpu) (s : State) → (at s (s .cpu .block .«sched_ctxt»)) .«currently_scheduled» ≡ true
+      → Finished s (s .cpu .block .«sched_ctxt») cpus ((after-schedule k time (picked-as time was rule cpus none s)) .machine)
   unfolding after-schedule picked-as switch-as
-  finished-none was cpus s t =
+  finished-none was rule cpus s t =
       record {
         state = on-cpu (λ p. cpu-stats (stats-state Idle (p .block .stats)) p) s;
         ends = record {
@@ -181,10 +182,10 @@ module _ (k time : ℕ) where
         cpus-are = refl;
       }
 
-  pub finished-some : (was : Bool) (cpus : List Cpu) (x : ℕ) (s : State) → x < length (s .contexts) → s .cpu .block .«sched_ctxt» < length (s .contexts)
-      → Finished s x cpus ((after-schedule k time (picked-as time was cpus (some x) s)) .machine)
+  pub finished-some : (was : Bool) (rule : Rule) (cpus : List Cpu) (x : ℕ) (s : State) → x < length (s .contexts) → s .cpu .block .«sched_ctxt» < length (s .contexts)
+      → Finished s x cpus ((after-schedule k time (picked-as time was rule cpus (some x) s)) .machine)
   unfolding after-schedule picked-as switch-as
-  finished-some was cpus x s r q =
+  finished-some was rule cpus x s r q =
       record {
         state = if eqb ((hand-over time was x s) .cpu .block .«current_ctxt») x then hand-over time was x s else switch-to k time x (hand-over time was x s);
         ends = pick (Ends s x) (eqb ((hand-over time was x s) .cpu .block .«current_ctxt») x) (λ t. hand-over-ends was x s r q)

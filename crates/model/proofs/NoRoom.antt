@@ -6,6 +6,7 @@ use mathlib.Core.Option.{Option, none, some}
 use Prim.Native.Nat.{ℕ}
 use lib.Dec.{eqb}
 use lib.ListN.{getD, length}
+use Rattle.answer.specs.declared.Rule.{Rule}
 use Rattle.columns.specs.Common.{if_then_else_}
 use Rattle.context.specs.Status.{is-runnable}
 use Rattle.weights.specs.Weights.{weight}
@@ -115,15 +116,15 @@ switch-to-full k time x s h =
     (λ t. rw h) (λ t. h)
 
 -- whatever follows a state without room, the call finds none
-picked-full : (k time : ℕ) (was : Bool) (cpus : List Cpu) (o : Option ℕ) (s : State) → Full s
-    → (after-schedule k time (picked-as time was cpus o s)) .no-room ≡ true
+picked-full : (k time : ℕ) (was : Bool) (rule : Rule) (cpus : List Cpu) (o : Option ℕ) (s : State) → Full s
+    → (after-schedule k time (picked-as time was rule cpus o s)) .no-room ≡ true
 unfolding after-schedule picked-as switch-as hand-over
-picked-full k time was cpus none s h = h
-picked-full k time was cpus (some x) s h =
+picked-full k time was rule cpus none s h = h
+picked-full k time was rule cpus (some x) s h =
     pick Full (eqb ((hand-over time was x s) .cpu .block .«current_ctxt») x) (λ t. h) (λ t. switch-to-full k time x (hand-over time was x s) h)
 
 pub schedule-full : (k time : ℕ) (cpus : List Cpu) (s : State) → Full s → (after-schedule k time (schedule k time cpus s)) .no-room ≡ true
 unfolding schedule select-next-context selected choose-and-steal before-choice
 schedule-full k time cpus s h =
-    picked-full k time _ _ _ _
+    picked-full k time _ _ _ _ _
     (settled-full k time _ _ _ (steal-full k _ _ cpus _ _ (chosen-full _ _ (before-choice time s) (before-choice-full time s h))))

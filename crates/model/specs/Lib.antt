@@ -3,6 +3,7 @@ pub mod Wakeup
 pub mod Turn
 pub mod Scan
 pub mod Choice
+pub mod Rule
 pub mod Steal
 pub mod Handover
 pub mod SwitchTo

@@ -14,45 +14,54 @@ use Rattle.percpu.specs.Cpu.{Cpu}
 use Rattle.percpu.specs.With.{cpu-pit-ticks, cpu-stats}
 use Rattle.machine.specs.Machine.{Machine}
 pub use Rattle.machine.specs.Outcome.{Outcome}
-use Rattle.model.specs.State.{State, at, on-cpu, state-of, prev-runnable}
+use Rattle.model.specs.State.{State, at, on-cpu, state-of, is-some, prev-runnable}
 use Rattle.model.specs.Turn.{elapsed, was-idle, charge-holder, before-selection}
 use Rattle.model.specs.Scan.{Scan, scan}
 use Rattle.model.specs.Choice.{Choice, choice, chosen, ineligible-holder}
+use Rattle.model.specs.Rule.{rule-of}
 use Rattle.model.specs.Steal.{Stealing, steal}
 use Rattle.model.specs.SwitchTo.{switch-to, direct-switch-by, try-direct-switch-back}
 use Rattle.model.specs.Handover.{settled, next-context, hand-over}
 use Rattle.answer.specs.declared.SwitchResult.the-variants.{Switched, AllContextsIdle}
-use Rattle.answer.specs.Number.{result-number}
+use Rattle.answer.specs.declared.Rule.{Rule}
+use Rattle.answer.specs.Number.{result-number, rule-number}
 
 -- the state of CPU k put back among the CPUs
-abbrev pub finish : ℕ → List Cpu → ℕ → State → Outcome
-finish k cpus r s =
+abbrev pub finish-by : (rule k : ℕ) → List Cpu → ℕ → State → Outcome
+finish-by rule k cpus r s =
     record {
       machine = record { contexts = s .contexts; cpus = set cpus k (s .cpu) };
       result = r;
       interrupt = false;
+      rule = rule;
       no-room = s .no-room;
     }
 
--- what `select_next_context` gives: the state, every CPU (this one as it was), and who gets the slice; none: the holder keeps it
+-- where nothing was decided
+abbrev pub finish : ℕ → List Cpu → ℕ → State → Outcome
+finish k cpus r s = finish-by 0 k cpus r s
+
+-- what `select_next_context` gives: the state, every CPU (this one as it was), who gets the slice (none: the holder keeps it), and by which rule
 pub record Selected : Type 0 where
   pub state : State
   pub cpus : List Cpu
   pub next : Option ℕ
+  pub rule : Rule
 
--- what `schedule` gives: the state, every CPU (this one as it was), and who was picked; none: AllContextsIdle
+-- what `schedule` gives: the state, every CPU (this one as it was), who was picked (none: AllContextsIdle), and by which rule
 pub record Scheduled : Type 0 where
   pub state : State
   pub cpus : List Cpu
   pub picked : Option ℕ
+  pub rule : Rule
 
 -- the contexts that the decision keeps locked, the winner aside
 abbrev pub locks : State → Choice → List ℕ
 locks s w = s .cpu .block .«sched_ctxt» ∷ w .locked
 
-unfoldable pub picked-as : (time : ℕ) (was-idle : Bool) → List Cpu → Option ℕ → State → Scheduled
-picked-as time was-idle cpus none s = record { state = s; cpus = cpus; picked = none }
-picked-as time was-idle cpus (some x) s = record { state = hand-over time was-idle x s; cpus = cpus; picked = some x }
+unfoldable pub picked-as : (time : ℕ) (was-idle : Bool) → Rule → List Cpu → Option ℕ → State → Scheduled
+picked-as time was-idle rule cpus none s = record { state = s; cpus = cpus; picked = none; rule = rule }
+picked-as time was-idle rule cpus (some x) s = record { state = hand-over time was-idle x s; cpus = cpus; picked = some x; rule = rule }
 
 abbrev pub ticked : State → State
 ticked s = on-cpu (λ p. cpu-pit-ticks (p .block .«pit_ticks» + 1) p) s
@@ -73,7 +82,12 @@ module _ (k time : ℕ) where
   selected elapsed cpus s =
       let l = choose-and-steal cpus s in
       let s′ = settled (prev-runnable s) (ticks elapsed) l in
-      record { state = s′; cpus = l .cpus; next = next-context (prev-runnable s) (l .winner) s′ }
+      record {
+        state = s′;
+        cpus = l .cpus;
+        next = next-context (prev-runnable s) (l .winner) s′;
+        rule = rule-of s (is-some (l .winner)) (scanned s);
+      }
 
   unfoldable pub select-next-context : ℕ → List Cpu → State → Selected
   select-next-context elapsed cpus s = selected elapsed cpus (charge-holder elapsed s)
@@ -81,15 +95,15 @@ module _ (k time : ℕ) where
   unfoldable pub schedule : List Cpu → State → Scheduled
   schedule cpus s =
       let d = select-next-context (elapsed time (s .cpu)) cpus (before-selection time s) in
-      picked-as time (was-idle (s .cpu)) (d .cpus) (d .next) (d .state)
+      picked-as time (was-idle (s .cpu)) (d .rule) (d .cpus) (d .next) (d .state)
 
   -- the holder kept the slice: the CPU is marked Idle though the holder may run
-  unfoldable pub switch-as : State → List Cpu → Option ℕ → Outcome
-  switch-as s cpus none = finish k cpus (result-number AllContextsIdle) (on-cpu (λ p. cpu-stats (stats-state Idle (p .block .stats)) p) s)
-  switch-as s cpus (some x) = finish k cpus (result-number Switched) (if eqb (s .cpu .block .«current_ctxt») x then s else switch-to k time x s)
+  unfoldable pub switch-as : (rule : ℕ) → State → List Cpu → Option ℕ → Outcome
+  switch-as rule s cpus none = finish-by rule k cpus (result-number AllContextsIdle) (on-cpu (λ p. cpu-stats (stats-state Idle (p .block .stats)) p) s)
+  switch-as rule s cpus (some x) = finish-by rule k cpus (result-number Switched) (if eqb (s .cpu .block .«current_ctxt») x then s else switch-to k time x s)
 
   unfoldable pub after-schedule : Scheduled → Outcome
-  after-schedule d = switch-as (d .state) (d .cpus) (d .picked)
+  after-schedule d = switch-as (rule-number (d .rule)) (d .state) (d .cpus) (d .picked)
 
   unfoldable pub switch-inner-by : List Cpu → State → Option State → Outcome
   switch-inner-by cpus s (some s′) = finish k cpus (result-number Switched) s′

@@ -8,6 +8,8 @@ use native.Mathlib.Omega.{arith}
 use lib.Dec.{ltb, eqb}
 use lib.ListN.{length, getD, set, length-set}
 use borrow.Author.Tests.{ltb-true, ltb-false}
+use Rattle.answer.specs.declared.Rule.{Rule}
+use Rattle.answer.specs.Number.{rule-number}
 use Rattle.columns.proofs.Tabulate.{getD-past}
 use Rattle.context.specs.declared.Context.{Context}
 use Rattle.percpu.specs.Cpu.{Cpu}
@@ -18,7 +20,7 @@ use Rattle.model.specs.State.{State, state-of, prev-runnable}
 use Rattle.model.specs.Turn.{elapsed, was-idle, charge-holder, before-selection}
 use Rattle.model.specs.Choice.{Choice, choice, chosen}
 use Rattle.model.specs.SwitchTo.{try-direct-switch-back}
-use Rattle.model.specs.Schedule.{finish, scanned, locks, choose-and-steal, selected, select-next-context, picked-as, schedule, switch-as, after-schedule, switch-inner-by, switch-inner, ticked, tick, switch, direct-switch-or, direct-switch-to}
+use Rattle.model.specs.Schedule.{finish, finish-by, scanned, locks, choose-and-steal, selected, select-next-context, picked-as, schedule, switch-as, after-schedule, switch-inner-by, switch-inner, ticked, tick, switch, direct-switch-or, direct-switch-to}
 use Rattle.model.specs.Accepted.{Call, by-tick, by-switch, by-direct-switch, outcome}
 use Rattle.model.proofs.Cases.{by-test, pick}
 use Rattle.model_leaves.proofs.WellFormed.{Fixed, fixed, FixedFormed, ContextFormed, gone-context, LiveName, Stands, absent, present, WellFormed}
@@ -90,23 +92,23 @@ module _ (c n : ℕ) (M : Machine) (W : WellFormed c n M) where
     abbrev Leaves : Outcome → Type 0
     Leaves o = o .no-room ≡ false → WellFormed c n (o .machine)
 
-    finished : (cpus : List Cpu) (r : ℕ) (s : State) → length cpus ≡ c → ((j : ℕ) → Stands n (M .contexts) (getD cpus j no-cpu)) → Good s → Leaves (finish k cpus r s)
-    finished cpus r s l a o z =
+    finished : (rule : ℕ) (cpus : List Cpu) (r : ℕ) (s : State) → length cpus ≡ c → ((j : ℕ) → Stands n (M .contexts) (getD cpus j no-cpu)) → Good s → Leaves (finish-by rule k cpus r s)
+    finished rule cpus r s l a o z =
         machine-formed (s .contexts) (set cpus k (s .cpu)) (o .count) (o .context) (length-set cpus k (s .cpu) ∙ l)
         (λ j. getD-set cpus k j (s .cpu) no-cpu (Stands n (M .contexts)) (present (o .cpu) (o .room z)) (a j))
 
-    switched : (s : State) (cpus : List Cpu) (w : Option ℕ) → length cpus ≡ c → ((j : ℕ) → Stands n (M .contexts) (getD cpus j no-cpu)) → WinnerFormed c n (M .contexts) w → Good s
-        → Leaves (switch-as k time s cpus w)
+    switched : (rule : ℕ) (s : State) (cpus : List Cpu) (w : Option ℕ) → length cpus ≡ c → ((j : ℕ) → Stands n (M .contexts) (getD cpus j no-cpu)) → WinnerFormed c n (M .contexts) w → Good s
+        → Leaves (switch-as k time rule s cpus w)
     unfolding switch-as
-    switched s cpus none l a w o = finished cpus 2 _ l a o
-    switched s cpus (some x) l a w o =
-        finished cpus 1 _ l a (pick Good (eqb (s .cpu .block .«current_ctxt») x) (λ z. o) (λ z. switch-to-kept c n (M .contexts) time soon k here x s w o))
+    switched rule s cpus none l a w o = finished rule cpus 2 _ l a o
+    switched rule s cpus (some x) l a w o =
+        finished rule cpus 1 _ l a (pick Good (eqb (s .cpu .block .«current_ctxt») x) (λ z. o) (λ z. switch-to-kept c n (M .contexts) time soon k here x s w o))
 
-    picked : (was : Bool) (cpus : List Cpu) (w : Option ℕ) (s : State) → length cpus ≡ c → ((j : ℕ) → Stands n (M .contexts) (getD cpus j no-cpu)) → WinnerFormed c n (M .contexts) w → Good s
-        → Leaves (after-schedule k time (picked-as time was cpus w s))
+    picked : (was : Bool) (rule : Rule) (cpus : List Cpu) (w : Option ℕ) (s : State) → length cpus ≡ c → ((j : ℕ) → Stands n (M .contexts) (getD cpus j no-cpu)) → WinnerFormed c n (M .contexts) w → Good s
+        → Leaves (after-schedule k time (picked-as time was rule cpus w s))
     unfolding after-schedule picked-as
-    picked was cpus none s l a w o = switched s cpus none l a w o
-    picked was cpus (some x) s l a w o = switched (hand-over time was x s) cpus (some x) l a w (hand-over-kept c n (M .contexts) time soon was x s w o)
+    picked was rule cpus none s l a w o = switched (rule-number rule) s cpus none l a w o
+    picked was rule cpus (some x) s l a w o = switched (rule-number rule) (hand-over time was x s) cpus (some x) l a w (hand-over-kept c n (M .contexts) time soon was x s w o)
 
     -- s: the state before the choice
     stolen : (s : State) → Good s → StealKept c n (M .contexts) live-fixed (choose-and-steal k time (M .cpus) s)
@@ -118,13 +120,13 @@ module _ (c n : ℕ) (M : Machine) (W : WellFormed c n M) where
         (chosen-wins c n (M .contexts) k time s o) (chosen-kept c n (M .contexts) k time s o)
 
     selection : (was : Bool) (t : ℕ) (s : State) → Good s
-        → Leaves (after-schedule k time (picked-as time was ((selected k time t (M .cpus) s) .cpus) ((selected k time t (M .cpus) s) .next) ((selected k time t (M .cpus) s) .state)))
+        → Leaves (after-schedule k time (picked-as time was ((selected k time t (M .cpus) s) .rule) ((selected k time t (M .cpus) s) .cpus) ((selected k time t (M .cpus) s) .next) ((selected k time t (M .cpus) s) .state)))
     unfolding selected
     selection was t s o =
         let l = choose-and-steal k time (M .cpus) s in
         let g = stolen s o in
         let u = settled-kept c n (M .contexts) live-fixed k time (prev-runnable s) _ l (g .state) in
-        picked was (l .cpus) _ _ (g .count) (g .cpus) (next-formed c n (M .contexts) (prev-runnable s) (l .winner) _ (g .winner) u) u
+        picked was _ (l .cpus) _ _ (g .count) (g .cpus) (next-formed c n (M .contexts) (prev-runnable s) (l .winner) _ (g .winner) u) u
 
     scheduled : (s : State) → Good s → Leaves (after-schedule k time (schedule k time (M .cpus) s))
     unfolding schedule select-next-context
@@ -138,7 +140,7 @@ module _ (c n : ℕ) (M : Machine) (W : WellFormed c n M) where
     inner-by : (s : State) (d : Option State) → Good s → Maybe d → Leaves (switch-inner-by k time (M .cpus) s d)
     unfolding switch-inner-by
     inner-by s none o g = scheduled s o
-    inner-by s (some u) o g = finished (M .cpus) 1 u (W .cpus) each-stands g
+    inner-by s (some u) o g = finished 0 (M .cpus) 1 u (W .cpus) each-stands g
 
     inner : (s : State) → Good s → Leaves (switch-inner k time (M .cpus) s)
     unfolding switch-inner
@@ -147,15 +149,15 @@ module _ (c n : ℕ) (M : Machine) (W : WellFormed c n M) where
     direct-or : (s : State) (d : Option State) → Good s → Maybe d → Leaves (direct-switch-or k time (M .cpus) s d)
     unfolding direct-switch-or
     direct-or s none o g = inner s o
-    direct-or s (some u) o g = finished (M .cpus) 1 u (W .cpus) each-stands g
+    direct-or s (some u) o g = finished 0 (M .cpus) 1 u (W .cpus) each-stands g
 
     pub decision-leaves : (call : Call) → TargetFormed n (M .contexts) call → (outcome call k time M) .no-room ≡ false → WellFormed c n ((outcome call k time M) .machine)
     unfolding tick switch direct-switch-to
     decision-leaves by-tick a =
         let s : State = ticked (state-of k M) in
-        pick Leaves (ltb (s .cpu .block .«pit_ticks») 3) (λ z. finished (M .cpus) 0 s (W .cpus) each-stands start-kept) (λ z. inner s start-kept)
+        pick Leaves (ltb (s .cpu .block .«pit_ticks») 3) (λ z. finished 0 (M .cpus) 0 s (W .cpus) each-stands start-kept) (λ z. inner s start-kept)
     decision-leaves by-switch a = inner (state-of k M) start-kept
     decision-leaves (by-direct-switch x) a =
         let s : State = state-of k M in
-        pick Leaves (eqb (s .cpu .block .«current_ctxt») x) (λ z. finished (M .cpus) 1 s (W .cpus) each-stands start-kept)
+        pick Leaves (eqb (s .cpu .block .«current_ctxt») x) (λ z. finished 0 (M .cpus) 1 s (W .cpus) each-stands start-kept)
         (λ z. direct-or s _ start-kept (directly-kept c n (M .contexts) time soon k here (eqb (s .cpu .block .«sched_ctxt») x) false x s a start-kept))

@@ -7,6 +7,7 @@ use Prim.Native.Nat.{ℕ, _+_, _<_, _≤_}
 use native.Mathlib.Omega.{arith}
 use lib.Dec.{eqb}
 use lib.ListN.{length, getD}
+use Rattle.answer.specs.declared.Rule.{Rule}
 use Rattle.columns.specs.Common.{if_then_else_}
 use Rattle.context.specs.Status.{is-runnable}
 use Rattle.weights.specs.Weights.{weight}
@@ -88,11 +89,11 @@ module _ (k time : ℕ) where
       pick (Within q t (l + 1)) (not (eqb (s .cpu .block .«sched_ctxt») y) && not ((at s y) .«has_queue_key») && is-runnable ((at s y) .status)) (λ z. name-pushed s h y r)
       (λ z. weaker (omega arith) (omega arith) (omega arith) h)
 
-  picked-room : {q t l : ℕ} (was : Bool) (cpus : List Cpu) (o : Option ℕ) (s : State) → l < 64 → Within q t l s
-      → (after-schedule k time (picked-as time was cpus o s)) .no-room ≡ false
+  picked-room : {q t l : ℕ} (was : Bool) (rule : Rule) (cpus : List Cpu) (o : Option ℕ) (s : State) → l < 64 → Within q t l s
+      → (after-schedule k time (picked-as time was rule cpus o s)) .no-room ≡ false
   unfolding after-schedule picked-as switch-as hand-over
-  picked-room was cpus none s r h = h .room
-  picked-room {q} {t} {l} was cpus (some x) s r h =
+  picked-room was rule cpus none s r h = h .room
+  picked-room {q} {t} {l} was rule cpus (some x) s r h =
       pick (λ (u : State). u .no-room ≡ false) (eqb ((hand-over time was x s) .cpu .block .«current_ctxt») x) (λ z. h .room)
       (λ z. (switch-to-within {q = q} {t = t} {l = l} x (hand-over time was x s) r h) .room)
 
@@ -103,4 +104,4 @@ module _ (k time : ℕ) where
       let n : ℕ = elapsed time (s .cpu) in
       let a = charge-within n (before-selection time s) (before-selection-within time s h r) r in
       let b : Within 63 64 63 (charge-holder n (before-selection time s)) = weaker (omega arith) (omega arith) (omega arith) a in
-      picked-room _ _ _ _ (omega arith) (selected-within cpus each n (charge-holder n (before-selection time s)) b)
+      picked-room _ _ _ _ _ (omega arith) (selected-within cpus each n (charge-holder n (before-selection time s)) b)

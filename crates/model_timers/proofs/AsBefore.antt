@@ -61,7 +61,7 @@ module _ (k time : ℕ) where
   schedule-as-before cpus s h =
       ap (λ (u : State).
       let d = select-next-context k time (elapsed time (s .cpu)) cpus (on-cpu (times time) u) in
-      picked-as time (was-idle (s .cpu)) (d .cpus) (d .next) (d .state))
+      picked-as time (was-idle (s .cpu)) (d .rule) (d .cpus) (d .next) (d .state))
       (served-as-before time (on-cpu count-switch s) h)
 
   inner-as-before : (cpus : List Cpu) (s : State) → Readable time s → switch-inner k time cpus s ≡ source-switch-inner k time cpus s

@@ -36,7 +36,7 @@ module _ (k time : ℕ) where
   unfoldable pub source-schedule : List Cpu → State → Scheduled
   source-schedule cpus s =
       let d = select-next-context k time (elapsed time (s .cpu)) cpus (source-before-selection time s) in
-      picked-as time (was-idle (s .cpu)) (d .cpus) (d .next) (d .state)
+      picked-as time (was-idle (s .cpu)) (d .rule) (d .cpus) (d .next) (d .state)
 
   unfoldable pub source-switch-inner-by : List Cpu → State → Option State → Outcome
   source-switch-inner-by cpus s (some s′) = finish k cpus (result-number Switched) s′

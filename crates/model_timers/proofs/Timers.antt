@@ -8,6 +8,7 @@ use native.Mathlib.Omega.{arith}
 use lib.Dec.{eqb}
 use lib.ListN.{length, getD, set, length-set}
 use lib.Seq.{getD-set-same}
+use Rattle.answer.specs.declared.Rule.{Rule}
 use Rattle.columns.specs.Common.{if_then_else_, fold}
 use Rattle.context.specs.declared.Context.{Context}
 use Rattle.context.specs.Status.{is-runnable}
@@ -130,10 +131,10 @@ module _ (P : List Timer → Type 0) (put : (u : Timer) (l : List Timer) → P l
     direct-has cpus x s Blocked f h g n = n
     direct-has cpus x s (CanSwitch c) f h g n = g _ (switch-to-has x (put-context x c s) h)
 
-    picked-has : (was : Bool) (cpus : List Cpu) (o : Option ℕ) (s : State) → k < length cpus → Has s → After (after-schedule k time (picked-as time was cpus o s))
+    picked-has : (was : Bool) (rule : Rule) (cpus : List Cpu) (o : Option ℕ) (s : State) → k < length cpus → Has s → After (after-schedule k time (picked-as time was rule cpus o s))
     unfolding after-schedule picked-as switch-as hand-over
-    picked-has was cpus none s b h = finish-has _ cpus _ b h
-    picked-has was cpus (some x) s b h =
+    picked-has was rule cpus none s b h = finish-has _ cpus _ b h
+    picked-has was rule cpus (some x) s b h =
         finish-has _ cpus _ b
         (pick Has (eqb ((hand-over time was x s) .cpu .block .«current_ctxt») x) (λ z. h) (λ z. switch-to-has x (hand-over time was x s) h))
 
@@ -148,5 +149,5 @@ module _ (P : List Timer → Type 0) (put : (u : Timer) (l : List Timer) → P l
         let f : Scan = scanned k time u in
         let w : Choice = choice u f in
         let c : length ((choose-and-steal k time cpus u) .cpus) ≡ length cpus = stolen-count k (prev-runnable u) (locks u w) (length cpus) cpus (w .winner) (chosen w f u) refl in
-        picked-has _ _ _ _ (omega arith)
+        picked-has _ _ _ _ _ (omega arith)
         (settled-has (prev-runnable u) _ _ (steal-has k (prev-runnable u) (locks u w) cpus (w .winner) (chosen w f u) (chosen-has w f u (charge-has n (before-selection time s) served))))

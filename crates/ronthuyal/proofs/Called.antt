@@ -67,7 +67,7 @@ is-refused m time r e z =
 
 -- w: what the code's check gave
 module _ (m : List ℕ) (time : ℕ) (w : Checked) (e : w ≡ check m time) where
-  pub call-refused : {a : Answer} (r : ℕ) (f : Machine → Reply) → w ≡ Refused r → a ≡ record { refusal = r; result = 0; interrupt = 0 } → reply a m ≡ checked m time f
+  pub call-refused : {a : Answer} (r : ℕ) (f : Machine → Reply) → w ≡ Refused r → a ≡ record { refusal = r; result = 0; interrupt = 0; rule = 0 } → reply a m ≡ checked m time f
   unfolding checked-by
   call-refused r f g z = rw (← e, g) (ap (λ (b : Answer). reply b m) z)
 
@@ -95,6 +95,6 @@ module _ (m : List ℕ) (time : ℕ) (w : Checked) (e : w ≡ check m time) wher
       let p = is-passed m time c n (sym g ∙ e)
       in rw (← e, g) (h (decode m) (decoded m (passed time m (p .none))) (rw (p .cpus, p .names) (decoded-fits m (passed time m (p .none)))))
 
-  pub call-no-operation : {a : Answer} (c n : ℕ) → w ≡ Passed c n → a ≡ record { refusal = 5; result = 0; interrupt = 0 } → reply a m ≡ no-operation-call m time
+  pub call-no-operation : {a : Answer} (c n : ℕ) → w ≡ Passed c n → a ≡ record { refusal = 5; result = 0; interrupt = 0; rule = 0 } → reply a m ≡ no-operation-call m time
   unfolding checked-by
   call-no-operation c n g z = rw (← e, g) (ap (λ (b : Answer). reply b m) z)

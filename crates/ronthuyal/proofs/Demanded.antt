@@ -83,7 +83,7 @@ stands-direct context by-tick s = absurd (omega arith)
 stands-direct context by-switch s = absurd (omega arith)
 stands-direct context (by-direct-switch x) s = ap by-direct-switch (s .1)
 
-stands-none : (operation context : ℕ) → (operation ≡ 1 → ⊥) → (operation ≡ 2 → ⊥) → (operation ≡ 3 → ⊥) → (call : Call) → StandsFor operation context call → ⊥
+pub stands-none : (operation context : ℕ) → (operation ≡ 1 → ⊥) → (operation ≡ 2 → ⊥) → (operation ≡ 3 → ⊥) → (call : Call) → StandsFor operation context call → ⊥
 stands-none operation context a b c by-tick s = a s
 stands-none operation context a b c by-switch s = b s
 stands-none operation context a b c (by-direct-switch x) s = c (s .0)
@@ -104,7 +104,7 @@ module _ {time : ℕ} (m : List ℕ) (p : admitted.Passed time m) where
 
 -- w: what the code's check gave
 module _ {a : Answer} {m' : List ℕ} (m : List ℕ) (time : ℕ) (w : Checked) (e : w ≡ check m time) where
-  pub demand-refused : (operation cpu context r : ℕ) → w ≡ Refused r → a ≡ record { refusal = r; result = 0; interrupt = 0 }
+  pub demand-refused : (operation cpu context r : ℕ) → w ≡ Refused r → a ≡ record { refusal = r; result = 0; interrupt = 0; rule = 0 }
       → DemandMet m m' operation cpu time context (a .refusal)
   demand-refused operation cpu context r g h =
       record { met = λ d s z. absurd (is-refused m time r (sym g ∙ e) (sym (ap (λ (b : Answer). b .refusal) h) ∙ z)) }

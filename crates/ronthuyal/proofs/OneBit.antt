@@ -1,5 +1,5 @@
 -- A mask of one bit is operation 4 itself. Assumes nothing.
-use mathlib.Core.Path.{_≡_, refl, ap, _∙_}
+use mathlib.Core.Path.{_≡_, refl, sym, ap, _∙_}
 use mathlib.Core.Bool.{false}
 use mathlib.Core.List.{List, [], _∷_}
 use Prim.Native.Nat.{ℕ, zero, suc, _/_, _%_, _-_, _^_, _<_}
@@ -8,6 +8,7 @@ use native.Mathlib.Nat.{pow-suc, zero-add}
 use lib.Count.{trailingZeros}
 use lib.Dec.{eqb}
 use lib.Pow.{pow-pos, pow-lt}
+use Rattle.group_ops.proofs.Unblocking.{unblock-rule}
 use Rattle.cpu_set.specs.Members.{members, next-cpu, rest-cpus}
 use Rattle.cpu_set.proofs.Members.{members-step, members-none}
 use Rattle.machine.specs.Machine.{Machine}
@@ -54,18 +55,18 @@ module _ (m : List ℕ) where
   unfolding joined joined-answer first-check
   refuse-whole r = pick (λ (y : Reply). y ≡ refuse r m) (eqb r 0) (λ t. refl) (λ t. refl)
 
-  given-whole : (o : Outcome) (m' : List ℕ) → Whole (reply (given o) m')
+  given-whole : (o : Outcome) (m' : List ℕ) → o .rule ≡ 0 → Whole (reply (given o) m')
   unfolding joined joined-answer first-check
-  given-whole o m' = λ i. reply (record { refusal = 0; result = zero-add (o .result) i; interrupt = mark-either false (o .interrupt) i }) m'
+  given-whole o m' z = λ i. reply (record { refusal = 0; result = zero-add (o .result) i; interrupt = mark-either false (o .interrupt) i; rule = sym z i }) m'
 
-  replied-whole : (o : Outcome) → Whole (replied m o)
+  replied-whole : (o : Outcome) → o .rule ≡ 0 → Whole (replied m o)
   unfolding replied
-  replied-whole o = pick Whole (o .no-room) (λ t. refuse-whole 9) (λ t. given-whole o (encode (o .machine)))
+  replied-whole o z = pick Whole (o .no-room) (λ t. refuse-whole 9) (λ t. given-whole o (encode (o .machine)) z)
 
-  to-whole : (f : ℕ → ℕ → Outcome) (v : Named) → Whole (reply-to m f v)
+  to-whole : (f : ℕ → ℕ → Outcome) → ((k x : ℕ) → (f k x) .rule ≡ 0) → (v : Named) → Whole (reply-to m f v)
   unfolding reply-to
-  to-whole f (names.Refused r) = refuse-whole r
-  to-whole f (names.Found k x) = replied-whole (f k x)
+  to-whole f h (names.Refused r) = refuse-whole r
+  to-whole f h (names.Found k x) = replied-whole (f k x) (h k x)
 
   checked-whole : (f : Machine → Reply) → ((M : Machine) → Whole (f M)) → (w : Checked) → Whole (checked-by m f w)
   unfolding checked-by
@@ -78,4 +79,4 @@ unfolding unblock-group singles image-after
 one-bit m cpu time x h =
     ap (group-of m cpu time) (bit-members x h)
     ∙ list-is-singles m cpu time x []
-    ∙ checked-whole m _ (λ M. to-whole m _ (named M cpu x)) (check m time)
+    ∙ checked-whole m _ (λ M. to-whole m _ (λ k y. unblock-rule k y M) (named M cpu x)) (check m time)

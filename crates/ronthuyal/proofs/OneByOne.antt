@@ -51,9 +51,9 @@ stays-full : (k x : ℕ) (o : Outcome) → o .no-room ≡ true → (also-unblock
 unfolding also-unblock
 stays-full k x o t = ap (λ (b : Bool). b || (unblock-context k x (o .machine)) .no-room) t
 
-joined-given : (o p : Outcome) → joined-answer (given o) (given p) ≡ record { refusal = 0; result = o .result + p .result; interrupt = mark (o .interrupt || p .interrupt) }
+joined-given : (o p : Outcome) → joined-answer (given o) (given p) ≡ record { refusal = 0; result = o .result + p .result; interrupt = mark (o .interrupt || p .interrupt); rule = 0 }
 unfolding first-check joined-answer
-joined-given o p = λ i. record { refusal = 0; result = o .result + p .result; interrupt = mark-either (o .interrupt) (p .interrupt) i }
+joined-given o p = λ i. record { refusal = 0; result = o .result + p .result; interrupt = mark-either (o .interrupt) (p .interrupt) i; rule = 0 }
 
 -- after some of the names. The set has the names' refusal r and the outcome o; the calls have the joined answer a and the image m'
 pub data Alike (m : List ℕ) (cpu r : ℕ) (o : Outcome) (a : Answer) (m' : List ℕ) : Type 0 where

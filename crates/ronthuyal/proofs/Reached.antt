@@ -56,7 +56,7 @@ pub record OfName (r : ℕ) : Type 0 where
 
 -- what an accepted call answers
 abbrev pub given : Outcome → Answer
-given o = record { refusal = 0; result = o .result; interrupt = mark (o .interrupt) }
+given o = record { refusal = 0; result = o .result; interrupt = mark (o .interrupt); rule = o .rule }
 
 -- how a call for the name x on an image of N ends: q is the refusal of the name, u the reply
 pub data Ends (m : List ℕ) (cpu : ℕ) (N : Machine) (k x q : ℕ) (u : Reply) : Type 0 where

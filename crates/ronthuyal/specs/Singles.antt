@@ -22,7 +22,7 @@ image-after m cpu time [] = m
 image-after m cpu time (x ∷ xs) = image-after (unblock-context-call m cpu time x .image) cpu time xs
 
 abbrev pub zero-answer : Answer
-zero-answer = record { refusal = 0; result = 0; interrupt = 0 }
+zero-answer = record { refusal = 0; result = 0; interrupt = 0; rule = 0 }
 
 -- of two answers: the refusal that is checked first, the sum of the results, and 1 if either has the mark
 unfoldable pub joined-answer : Answer → Answer → Answer
@@ -31,6 +31,7 @@ joined-answer a b =
       refusal = first-check (a .refusal) (b .refusal);
       result = a .result + b .result;
       interrupt = max (a .interrupt) (b .interrupt);
+      rule = 0;
     }
 
 -- one reply for all of them: if none was refused, with the image m' after them; else the least number, with the image m before them

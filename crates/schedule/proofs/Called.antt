@@ -29,7 +29,7 @@ use Rattle.stages.proofs.Kept.{context-more, cpu-more}
 use Rattle.stages.proofs.Reading.{unchanged}
 use Rattle.turn.proofs.Bounded.{count-below}
 use Rattle.schedule.specs.Begun.{CanBegin}
-use Rattle.schedule.specs.Decides.{Decides, Ends}
+use Rattle.schedule.specs.Decides.{Told, undecided, Decides, Ends}
 use Rattle.schedule.proofs.Start.{put-below}
 use Rattle.schedule.proofs.Ending.{stage-ends, stage-end, ends-as, ends-decides}
 use Rattle.schedule.proofs.Inner.{Directs, current-is, direct-made, direct-full, direct-not}
@@ -101,7 +101,7 @@ module _ {c n k : ℕ} {m m' : List ℕ} {count : ℕ} (time : ℕ) (h : k < c) 
   count-is : (v : Bool) → ltb count 3 ≡ v → (M : Machine) → m ≡ encode M → Fits c n M → ltb (cpu-at M k .block .«pit_ticks» + 1) 3 ≡ v
   count-is v e M z o = subst (λ (x : ℕ). ltb x 3 ≡ v) (t .stage M z o .answer refl) e
 
-  pub tick-early : count < 3 → Decides c n m m' false 0 (λ (M : Machine). tick k time M)
+  pub tick-early : count < 3 → Decides c n m m' false (undecided 0) (λ (M : Machine). tick k time M)
   unfolding tick
   tick-early l =
       let e = lt-ltb count 3 l
@@ -109,7 +109,7 @@ module _ {c n k : ℕ} {m m' : List ℕ} {count : ℕ} (time : ℕ) (h : k < c) 
       (ends-as {f' = λ (cpus : List Cpu) (s : State). if ltb (s .cpu .block .«pit_ticks» + 1) 3 then finish k cpus 0 (ticked s) else switch-inner k time cpus (ticked s)} (stage-end 0 t)
       (λ M z o cpus. rw (count-is true e M z o)))
 
-  pub tick-due : {m'' : List ℕ} {full : Bool} {r : ℕ} → 3 ≤ count → Ends c n k m' m'' full r (λ (cpus : List Cpu) (s : State). switch-inner k time cpus s) → Decides c n m m'' full r (λ (M : Machine). tick k time M)
+  pub tick-due : {m'' : List ℕ} {full : Bool} {r : Told} → 3 ≤ count → Ends c n k m' m'' full r (λ (cpus : List Cpu) (s : State). switch-inner k time cpus s) → Decides c n m m'' full r (λ (M : Machine). tick k time M)
   unfolding tick
   tick-due l u =
       let e = le-ltb count 3 l
@@ -117,7 +117,7 @@ module _ {c n k : ℕ} {m m' : List ℕ} {count : ℕ} (time : ℕ) (h : k < c) 
       (ends-as {f' = λ (cpus : List Cpu) (s : State). if ltb (s .cpu .block .«pit_ticks» + 1) 3 then finish k cpus 0 (ticked s) else switch-inner k time cpus (ticked s)} (stage-ends h t u)
       (λ M z o cpus. rw (count-is false e M z o)))
 
-pub switch-decides : {c n k : ℕ} {m m' : List ℕ} {full : Bool} {r : ℕ} (time : ℕ) → Ends c n k m m' full r (λ (cpus : List Cpu) (s : State). switch-inner k time cpus s) → Decides c n m m' full r (λ (M : Machine). switch k time M)
+pub switch-decides : {c n k : ℕ} {m m' : List ℕ} {full : Bool} {r : Told} (time : ℕ) → Ends c n k m m' full r (λ (cpus : List Cpu) (s : State). switch-inner k time cpus s) → Decides c n m m' full r (λ (M : Machine). switch k time M)
 unfolding switch
 switch-decides time u = ends-decides u
 
@@ -131,7 +131,7 @@ call k time x cpus s =
 
 -- b was loaded
 module _ {c n : ℕ} {m : List ℕ} (k time x : ℕ) (b : PercpuBlock) (hb : (M : Machine) → m ≡ encode M → Fits c n M → b ≡ cpu-at M k .block) where
-  pub direct-current : b .«current_ctxt» ≡ x → Image c n m → Decides c n m m false 1 (λ (M : Machine). direct-switch-to k time x M)
+  pub direct-current : b .«current_ctxt» ≡ x → Image c n m → Decides c n m m false (undecided 1) (λ (M : Machine). direct-switch-to k time x M)
   unfolding direct-switch-to
   direct-current z i =
       ends-decides (ends-as {f' = call k time x} (stage-end 1 (unchanged k (λ (s : State). s) i (λ M e o. refl))) (λ M e o cpus. rw (current-is k time x b hb true (eq-eqb _ _ z) M e o)))
@@ -143,15 +143,15 @@ module _ {c n : ℕ} {m : List ℕ} (k time x : ℕ) (b : PercpuBlock) (hb : (M 
         let y : own ≡ eqb (cpu-at M k .block .«sched_ctxt») x = ho ∙ ap (λ (p : PercpuBlock). eqb (p .«sched_ctxt») x) (hb M e o)
         in rw (current-is k time x b hb false (ne-eqb _ _ z) M e o) (ap (λ (v : Bool). direct-switch-or k time cpus (state-of k M) (direct k time x v (state-of k M))) y)
 
-    pub directly : {m' : List ℕ} → Directs c n k m m' false true (direct k time x own) → Decides c n m m' false 1 (λ (M : Machine). direct-switch-to k time x M)
+    pub directly : {m' : List ℕ} → Directs c n k m m' false true (direct k time x own) → Decides c n m m' false (undecided 1) (λ (M : Machine). direct-switch-to k time x M)
     unfolding direct-switch-to direct-switch-or
     directly t = ends-decides (ends-as {f' = call k time x} (direct-made k (direct k time x own) (direct-switch-or k time) (λ cpus s y. refl) t) called)
 
-    pub directly-full : {m' : List ℕ} {q : Bool} {r : ℕ} → Directs c n k m m' true q (direct k time x own) → Decides c n m m' true r (λ (M : Machine). direct-switch-to k time x M)
+    pub directly-full : {m' : List ℕ} {q : Bool} {r : Told} → Directs c n k m m' true q (direct k time x own) → Decides c n m m' true r (λ (M : Machine). direct-switch-to k time x M)
     unfolding direct-switch-to direct-switch-or
     directly-full t = ends-decides (ends-as {f' = call k time x} (direct-full k (direct k time x own) (direct-switch-or k time) (λ cpus s y. refl) t) called)
 
-    pub not-directly : {m' m'' : List ℕ} {full : Bool} {r : ℕ} → Directs c n k m m' false false (direct k time x own) → Image c n m → Ends c n k m' m'' full r (λ (cpus : List Cpu) (s : State). switch-inner k time cpus s)
+    pub not-directly : {m' m'' : List ℕ} {full : Bool} {r : Told} → Directs c n k m m' false false (direct k time x own) → Image c n m → Ends c n k m' m'' full r (λ (cpus : List Cpu) (s : State). switch-inner k time cpus s)
         → Decides c n m m'' full r (λ (M : Machine). direct-switch-to k time x M)
     unfolding direct-switch-to direct-switch-or
     not-directly t i u =

@@ -1,13 +1,17 @@
 -- The choice and the stealing together. Assumes nothing.
 use mathlib.Core.Path.{_≡_, refl, sym, ap, _∙_, subst}
-use mathlib.Core.Bool.{Bool, true, false}
+use mathlib.Core.Bool.{Bool, true, false, _&&_}
 use mathlib.Core.List.{List, _∷_}
 use Prim.Native.Nat.{ℕ, _<_}
 use native.Mathlib.Omega.{arith}
-use lib.Dec.{eqb}
+use mathlib.Core.Option.{Option, none, some}
+use lib.Dec.{leb, ltb, eqb}
 use borrow.Author.Tests.{eq-eqb, ne-eqb}
 use mathlib.Core.Logic.{_≢_}
 use lib.ListN.{length, set, length-set}
+use Rattle.columns.proofs.Tests.{by-test}
+use Rattle.answer.specs.declared.Rule.{Rule}
+use Rattle.entries.specs.declared.Entry.{Entry}
 use Rattle.context.specs.declared.Context.{Context}
 use Rattle.context.specs.Status.{is-runnable}
 use Rattle.percpu.specs.declared.PercpuBlock.{PercpuBlock}
@@ -15,8 +19,10 @@ use Rattle.percpu.specs.Cpu.{Cpu}
 use Rattle.machine.specs.Machine.{Machine, context-at, cpu-at}
 use Rattle.machine.specs.Encode.{encode}
 use Rattle.machine.specs.Shape.{Fits, Image}
-use Rattle.model.specs.State.{State, state-of, prev-runnable}
-use Rattle.model.specs.Choice.{Choice, choice, chosen}
+use Rattle.model.specs.State.{State, state-of, is-some, holder, prev-runnable}
+use Rattle.model.specs.Choice.{Choice, goes-before, prev-is-eligible, choice, chosen}
+use Rattle.model.specs.Scan.{Scan}
+use Rattle.model.specs.Rule.{rule-nobody, rule-by, rule-of}
 use Rattle.model.specs.Steal.{steal}
 use Rattle.model.specs.Schedule.{scanned, locks, choose-and-steal}
 use Rattle.stages.specs.Stage.{put-state, Stage, Ranged}
@@ -29,7 +35,8 @@ use Rattle.select.specs.Values.{winner-below}
 use Rattle.select.proofs.Bounded.{below-chosen}
 use Rattle.steal.specs.Moves.{machine-of, StealsAt, Steals}
 use Rattle.steal.proofs.Bounded.{steal-ranged}
-use Rattle.schedule.specs.Part.{of-stealing, put-in, PartAt, Part}
+use Rattle.schedule.specs.Part.{ruled, chosen-by, put-in, PartAt, Part}
+use Rattle.schedule.specs.Stolen.{stolen-rule}
 use Rattle.schedule.specs.Named.{NamedBelow}
 use lib.Seq.{set-set}
 use Rattle.schedule.proofs.Robbing.{over, steal-over, steal-named, entries-fit}
@@ -47,7 +54,26 @@ chosen-ranged {n = n} {k = k} {b = b} {d = d} time h t r =
 abbrev chosen-machine : (k time : ℕ) → Machine → Machine
 chosen-machine k time M = put-state k (taken k time (state-of k M)) M
 
--- q: the choice as the code has it; runs and locked: what the stealing is given besides the winner
+-- only where nobody waits does the stealing count
+nobody-stolen : (s : State) (o : Option Entry) (b : Bool) → stolen-rule b (rule-nobody s false o) ≡ rule-nobody s b o
+unfolding stolen-rule
+nobody-stolen s none b = by-test (prev-runnable s) (λ t. rw t) (λ t. rw t)
+nobody-stolen s (some e) b =
+    by-test (prev-runnable s && leb ((holder s) .vtime) (e .vtime)) (λ t. rw t)
+    (λ t. rw t (by-test (prev-runnable s && leb ((holder s) .vd) (e .key .vd)) (λ u. rw u) (λ u. rw u)))
+
+stolen-by : (s : State) (f : Scan) (o : Option Entry) (b : Bool) → stolen-rule b (rule-by s false f o) ≡ rule-by s b f o
+unfolding stolen-rule
+stolen-by s f (some e) b =
+    let c = context-at (f .contexts) (e .«context_ref») in
+    by-test (prev-is-eligible s && goes-before (holder s) c) (λ t. rw t (by-test (ltb ((holder s) .vd) (c .vd)) (λ u. rw u) (λ u. rw u))) (λ t. rw t)
+stolen-by s f none b = by-test (prev-is-eligible s) (λ t. rw t) (λ t. rw t (nobody-stolen s (f .ineligible-best) b))
+
+stolen-is-rule : (s : State) (f : Scan) (b : Bool) → stolen-rule b (rule-of s false f) ≡ rule-of s b f
+unfolding rule-of
+stolen-is-rule s f b = stolen-by s f (f .eligible-best) b
+
+-- q: the choice as the code has it; runs and locked: what the stealing is given besides the winner; p and p': the rule before and after it
 module _ (time : ℕ) (runs : Bool) (locked : List ℕ) {c n k : ℕ} {m m' m'' : List ℕ} (h : k < c) {q : Choice} (t : Stage c n k m m' false q (λ (s : State). taken k time s) (λ (s : State). choice s (scanned k time s)))
     {full : Bool} {w' : Picked} (u : Steals c n k m' m'' full w' (λ (M : Machine). steal k runs locked (M .cpus) (q .winner) (state-of k M)))
     (hr : (M : Machine) → m ≡ encode M → Fits c n M → runs ≡ prev-runnable (state-of k M))
@@ -74,19 +100,21 @@ module _ (time : ℕ) (runs : Bool) (locked : List ℕ) {c n k : ℕ} {m m' m'' 
     put-is : machine-of k (over k ((taken k time (state-of k M)) .cpu) (choose-and-steal k time cpus (state-of k M))) ≡ put-in k ((choose-and-steal k time cpus (state-of k M)) .cpus) ((choose-and-steal k time cpus (state-of k M)) .state)
     put-is = λ i. record { contexts = (choose-and-steal k time cpus (state-of k M)) .state .contexts; cpus = set-set ((choose-and-steal k time cpus (state-of k M)) .cpus) k ((taken k time (state-of k M)) .cpu) ((choose-and-steal k time cpus (state-of k M)) .state .cpu) i }
 
-    part-at : PartAt c n k m'' full (picked-of w') (of-stealing (choose-and-steal k time cpus (state-of k M)))
-    part-at =
+    part-at : {p p' : Rule} → ((M : Machine) → m ≡ encode M → Fits c n M → p ≡ rule-of (state-of k M) false (scanned k time (state-of k M))) → p' ≡ stolen-rule (is-some (picked-of w')) p
+        → PartAt c n k m'' full (ruled (picked-of w') p') (chosen-by k time cpus (state-of k M))
+    part-at hp hs =
         let a = t .stage M e o
         in let b = subst (StealsAt c n k m'' full w') stolen-is (u .steals (chosen-machine k time M) (a .after refl) (a .fits refl))
         in record {
           room = b .room;
           after = λ y. b .after y ∙ ap encode put-is;
           fits = λ y. subst (Fits c n) put-is (b .fits y);
-          answer = b .winner;
+          answer = λ y. λ i. ruled (b .winner y i) ((hs ∙ (λ j. stolen-rule (is-some (b .winner y j)) (hp M e o j)) ∙ stolen-is-rule (state-of k M) (scanned k time (state-of k M)) _) i);
         }
 
-  pub chosen-part : Part c n k m m'' full (picked-of w') (λ (cpus : List Cpu) (s : State). of-stealing (choose-and-steal k time cpus s))
-  chosen-part = record { image = u .image; part = part-at }
+  pub chosen-part : {p p' : Rule} → ((M : Machine) → m ≡ encode M → Fits c n M → p ≡ rule-of (state-of k M) false (scanned k time (state-of k M))) → p' ≡ stolen-rule (is-some (picked-of w')) p
+      → Part c n k m m'' full (ruled (picked-of w') p') (λ (cpus : List Cpu) (s : State). chosen-by k time cpus s)
+  chosen-part hp hs = record { image = u .image; part = λ M e o cpus z. part-at M e o cpus z hp hs }
 
   pub stolen-ranged : full ≡ false → Ranged c n t-timed b-charged m → Ranged c n t-timed b-stolen m''
   stolen-ranged z r = steal-ranged runs locked (q .winner) h z u (chosen-ranged time h t r)

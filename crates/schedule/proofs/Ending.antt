@@ -12,21 +12,21 @@ use Rattle.machine.specs.Encode.{encode}
 use Rattle.machine.specs.Shape.{Fits, Image}
 use Rattle.machine.specs.Outcome.{Outcome}
 use Rattle.model.specs.State.{State, state-of, is-some}
-use Rattle.model.specs.Schedule.{finish}
+use Rattle.model.specs.Schedule.{finish-by, finish}
 use Rattle.stages.specs.Stage.{put-state, Stage}
 use Rattle.stages.proofs.Compose.{state-put}
 use Rattle.stages.proofs.Reading.{put-same}
 use Rattle.switch_to.specs.Direct.{or-same}
 use Rattle.schedule.specs.Part.{Result, put-in, PartAt, Part}
-use Rattle.schedule.specs.Decides.{DecidesAt, Decides, Ends}
+use Rattle.schedule.specs.Decides.{Told, undecided, DecidesAt, Decides, Ends}
 use lib.Seq.{set-set, set-getD}
 use Rattle.columns.proofs.Tests.{never}
 use Rattle.schedule.proofs.Parts.{put-over}
 
 -- a part whose answer is the call's result
-pub part-ends : {c n k : ℕ} {m m' : List ℕ} {full : Bool} {r : ℕ} {p : List Cpu → State → Result ℕ} {f : List Cpu → State → Outcome} → Part c n k m m' full r p
+pub part-ends : {c n k : ℕ} {m m' : List ℕ} {full : Bool} {r : Told} {p : List Cpu → State → Result Told} {f : List Cpu → State → Outcome} → Part c n k m m' full r p
     → ((M : Machine) → m ≡ encode M → Fits c n M → (cpus : List Cpu) → set cpus k (cpu-at M k) ≡ M .cpus
-    → finish k (p cpus (state-of k M) .cpus) (p cpus (state-of k M) .answer) (p cpus (state-of k M) .state) ≡ f cpus (state-of k M)) → Ends c n k m m' full r f
+    → finish-by (p cpus (state-of k M) .answer .rule) k (p cpus (state-of k M) .cpus) (p cpus (state-of k M) .answer .result) (p cpus (state-of k M) .state) ≡ f cpus (state-of k M)) → Ends c n k m m' full r f
 part-ends {c} {n} {k} {m' = m'} {full = full} {r = r} {p = p} t h =
     record {
       ends = λ M e o cpus z.
@@ -35,7 +35,7 @@ part-ends {c} {n} {k} {m' = m'} {full = full} {r = r} {p = p} t h =
     }
 
 -- no room was found
-pub no-end : {c n k : ℕ} {m m' : List ℕ} {r : ℕ} {f : List Cpu → State → Outcome}
+pub no-end : {c n k : ℕ} {m m' : List ℕ} {r : Told} {f : List Cpu → State → Outcome}
     → ((M : Machine) → m ≡ encode M → Fits c n M → (cpus : List Cpu) → set cpus k (cpu-at M k) ≡ M .cpus → (f cpus (state-of k M) .no-room ≡ true) × (f cpus (state-of k M) .interrupt ≡ false))
     → Ends c n k m m' true r f
 no-end h =
@@ -46,7 +46,7 @@ no-end h =
     }
 
 -- a stage that had room, and then the rest of the call
-pub stage-ends : {R : Type 0} {c n k : ℕ} {m m' m'' : List ℕ} {full : Bool} {r : ℕ} {q : R} {g : State → State} {a : State → R} {f : List Cpu → State → Outcome} → k < c
+pub stage-ends : {R : Type 0} {c n k : ℕ} {m m' m'' : List ℕ} {full : Bool} {r : Told} {q : R} {g : State → State} {a : State → R} {f : List Cpu → State → Outcome} → k < c
     → Stage c n k m m' false q g a → Ends c n k m' m'' full r f → Ends c n k m m'' full r (λ (cpus : List Cpu) (s : State). f cpus (g s))
 stage-ends {c = c} {n = n} {k = k} {m'' = m''} {full = full} {r = r} {g = g} {f = f} h t u =
     record {
@@ -60,7 +60,7 @@ stage-ends {c = c} {n = n} {k = k} {m'' = m''} {full = full} {r = r} {g = g} {f 
 
 -- the call ends with a stage
 pub stage-end : {R : Type 0} {c n k : ℕ} {m m' : List ℕ} {full : Bool} {q : R} {g : State → State} {a : State → R} (r : ℕ) → Stage c n k m m' full q g a
-    → Ends c n k m m' full r (λ (cpus : List Cpu) (s : State). finish k cpus r (g s))
+    → Ends c n k m m' full (undecided r) (λ (cpus : List Cpu) (s : State). finish k cpus r (g s))
 stage-end {c = c} {n = n} {k = k} {g = g} r t =
     record {
       ends = λ M e o cpus z.
@@ -71,12 +71,12 @@ stage-end {c = c} {n = n} {k = k} {g = g} r t =
     }
 
 -- the same call in other words
-pub ends-as : {c n k : ℕ} {m m' : List ℕ} {full : Bool} {r : ℕ} {f f' : List Cpu → State → Outcome} → Ends c n k m m' full r f
+pub ends-as : {c n k : ℕ} {m m' : List ℕ} {full : Bool} {r : Told} {f f' : List Cpu → State → Outcome} → Ends c n k m m' full r f
     → ((M : Machine) → m ≡ encode M → Fits c n M → (cpus : List Cpu) → f cpus (state-of k M) ≡ f' cpus (state-of k M)) → Ends c n k m m' full r f'
 ends-as {c} {n} {m' = m'} {full = full} {r = r} t h = record { ends = λ M e o cpus z. subst (DecidesAt c n m' full r) (h M e o cpus) (t .ends M e o cpus z) }
 
 -- the whole call
-pub ends-decides : {c n k : ℕ} {m m' : List ℕ} {full : Bool} {r : ℕ} {f : List Cpu → State → Outcome} → Ends c n k m m' full r f → Decides c n m m' full r (λ (M : Machine). f (M .cpus) (state-of k M))
+pub ends-decides : {c n k : ℕ} {m m' : List ℕ} {full : Bool} {r : Told} {f : List Cpu → State → Outcome} → Ends c n k m m' full r f → Decides c n m m' full r (λ (M : Machine). f (M .cpus) (state-of k M))
 unfolding cpu-at
 ends-decides {k = k} t = record { decides = λ M e o. t .ends M e o (M .cpus) (set-getD (M .cpus) k _) }
 

@@ -22,7 +22,7 @@ use Rattle.machine.specs.Shape.{Fits, Image}
 use Rattle.machine.specs.Outcome.{Outcome}
 use Rattle.model.specs.State.{State, state-of, at, is-some}
 use Rattle.model.specs.SwitchTo.{switch-to, try-direct-switch-back}
-use Rattle.model.specs.Schedule.{Scheduled, finish, schedule, switch-as, after-schedule, switch-inner-by, switch-inner}
+use Rattle.model.specs.Schedule.{Scheduled, finish-by, finish, schedule, switch-as, after-schedule, switch-inner-by, switch-inner}
 use Rattle.model.proofs.Cases.{pick}
 use Rattle.model.proofs.NoRoom.{switch-to-full}
 use Rattle.stages.specs.Stage.{Stage, Staged, Ranged}
@@ -33,15 +33,15 @@ use Rattle.stages.proofs.Kept.{ranged-more}
 use Rattle.switch_to.specs.declared.direct.DirectSwitch.{DirectSwitch}
 use Rattle.switch_to.specs.Direct.{is-full, is-switched, or-same}
 use Rattle.schedule.specs.Begun.{CanBegin}
-use Rattle.schedule.specs.Part.{of-scheduled, Part}
-use Rattle.schedule.specs.Decides.{DecidesAt, Ends}
+use Rattle.schedule.specs.Part.{Ruled, ruled, of-scheduled, Part}
+use Rattle.schedule.specs.Decides.{Told, told, undecided, DecidesAt, Ends}
 use Rattle.schedule.specs.Switched.{marked-idle, switched-to, switched, switch-result}
 use Rattle.columns.proofs.Tests.{never}
 use Rattle.schedule.proofs.Parts.{part-stage}
 use Rattle.schedule.proofs.Start.{counting-ranged}
 use Rattle.schedule.proofs.Ending.{part-ends, no-end, stage-end, ends-as, none-is, same-image}
 use Rattle.stages.specs.Bounds.{t-handed, b-advanced}
-use Rattle.answer.specs.Number.{result-number}
+use Rattle.answer.specs.Number.{result-number, rule-number}
 
 -- the CPU marked Idle: b was loaded, b' is stored
 pub idle-as : (p : Cpu) (b b' : PercpuBlock) (t : CpuStats) → b ≡ p .block → t ≡ stats-state Idle (b .stats) → b' ≡ block-stats t b → cpu-block b' p ≡ cpu-stats (stats-state Idle (p .block .stats)) p
@@ -64,47 +64,48 @@ module _ {c n : ℕ} {m : List ℕ} (k time x : ℕ) (b : PercpuBlock) (hb : (M 
 
 -- the switch, by who was picked
 module _ {c n k : ℕ} {m m' : List ℕ} (time : ℕ) {w : Option ℕ} where
-  pub as-nobody : w ≡ none → Staged c n k m m' false (λ (s : State). marked-idle s) → Stage c n k m m' false 2 (λ (s : State). switched k time w s) (λ (s : State). result-number (switch-result w))
+  pub as-nobody : {u : ℕ} → w ≡ none → Staged c n k m m' false (λ (s : State). marked-idle s) → Stage c n k m m' false (told 2 u) (λ (s : State). switched k time w s) (λ (s : State). told (result-number (switch-result w)) u)
   unfolding switched switch-result
   as-nobody e t = rw e (stage-as t (λ M z o. (refl, λ f g. refl)))
 
-  pub as-somebody : {full : Bool} (x : ℕ) → w ≡ some x → Staged c n k m m' full (λ (s : State). switched-to k time x s)
-      → Stage c n k m m' full 1 (λ (s : State). switched k time w s) (λ (s : State). result-number (switch-result w))
+  pub as-somebody : {u : ℕ} {full : Bool} (x : ℕ) → w ≡ some x → Staged c n k m m' full (λ (s : State). switched-to k time x s)
+      → Stage c n k m m' full (told 1 u) (λ (s : State). switched k time w s) (λ (s : State). told (result-number (switch-result w)) u)
   unfolding switched switch-result
   as-somebody x e t = rw e (stage-as t (λ M z o. (refl, λ f g. refl)))
 
 -- `after-schedule` by its parts, and where there is no room
 module _ (k time : ℕ) where
-  switch-is : (cpus : List Cpu) (o : Option ℕ) (s : State) → finish k cpus (result-number (switch-result o)) (switched k time o s) ≡ switch-as k time s cpus o
+  switch-is : (u : ℕ) (cpus : List Cpu) (o : Option ℕ) (s : State) → finish-by u k cpus (result-number (switch-result o)) (switched k time o s) ≡ switch-as k time u s cpus o
   unfolding switch-as switched switch-result
-  switch-is cpus none s = refl
-  switch-is cpus (some x) s = refl
+  switch-is u cpus none s = refl
+  switch-is u cpus (some x) s = refl
 
-  as-full : (cpus : List Cpu) (o : Option ℕ) (s : State) → s .no-room ≡ true → ((switch-as k time s cpus o) .no-room ≡ true) × ((switch-as k time s cpus o) .interrupt ≡ false)
+  as-full : (u : ℕ) (cpus : List Cpu) (o : Option ℕ) (s : State) → s .no-room ≡ true → ((switch-as k time u s cpus o) .no-room ≡ true) × ((switch-as k time u s cpus o) .interrupt ≡ false)
   unfolding switch-as
-  as-full cpus none s h = (h, refl)
-  as-full cpus (some x) s h = (pick (λ (u : State). u .no-room ≡ true) (eqb (s .cpu .block .«current_ctxt») x) (λ t. h) (λ t. switch-to-full k time x s h), refl)
+  as-full u cpus none s h = (h, refl)
+  as-full u cpus (some x) s h = (pick (λ (u : State). u .no-room ≡ true) (eqb (s .cpu .block .«current_ctxt») x) (λ t. h) (λ t. switch-to-full k time x s h), refl)
 
-module _ {c n k : ℕ} {m m' : List ℕ} (time : ℕ) {w : Option ℕ} where
-  pub decided-full : {m'' : List ℕ} {r : ℕ} → Part c n k m m' true w (λ (cpus : List Cpu) (s : State). of-scheduled (schedule k time cpus s))
+module _ {c n k : ℕ} {m m' : List ℕ} (time : ℕ) {w : Ruled} where
+  pub decided-full : {m'' : List ℕ} {r : Told} → Part c n k m m' true w (λ (cpus : List Cpu) (s : State). of-scheduled (schedule k time cpus s))
       → Ends c n k m m'' true r (λ (cpus : List Cpu) (s : State). after-schedule k time (schedule k time cpus s))
   unfolding after-schedule
   decided-full t =
       no-end
       (λ M e o cpus z.
       let d = schedule k time cpus (state-of k M)
-      in as-full k time (d .cpus) (d .picked) (d .state) (sym (t .part M e o cpus z .room)))
+      in as-full k time (rule-number (d .rule)) (d .cpus) (d .picked) (d .state) (sym (t .part M e o cpus z .room)))
 
-  pub decided : {m'' : List ℕ} {full : Bool} {r : ℕ} → k < c → Part c n k m m' false w (λ (cpus : List Cpu) (s : State). of-scheduled (schedule k time cpus s))
-      → Stage c n k m' m'' full r (λ (s : State). switched k time w s) (λ (s : State). result-number (switch-result w))
+  pub decided : {m'' : List ℕ} {full : Bool} {r : Told} {v : ℕ} → v ≡ rule-number (w .rule) → k < c → Part c n k m m' false w (λ (cpus : List Cpu) (s : State). of-scheduled (schedule k time cpus s))
+      → Stage c n k m' m'' full r (λ (s : State). switched k time (w .who) s) (λ (s : State). told (result-number (switch-result (w .who))) v)
       → Ends c n k m m'' full r (λ (cpus : List Cpu) (s : State). after-schedule k time (schedule k time cpus s))
   unfolding after-schedule
-  decided h t u =
+  decided hv h t u =
       part-ends (part-stage h t u)
       (λ M e o cpus z.
       let d = schedule k time cpus (state-of k M)
-      in let y : w ≡ d .picked = t .part M e o cpus z .answer refl
-      in ap (λ (x : Option ℕ). finish k (d .cpus) (result-number (switch-result x)) (switched k time x (d .state))) y ∙ switch-is k time (d .cpus) (d .picked) (d .state))
+      in let y : w ≡ ruled (d .picked) (d .rule) = t .part M e o cpus z .answer refl
+      in (λ i. finish-by ((hv ∙ ap (λ (x : Ruled). rule-number (x .rule)) y) i) k (d .cpus) (result-number (switch-result (y i .who))) (switched k time (y i .who) (d .state)))
+      ∙ switch-is k time (rule-number (d .rule)) (d .cpus) (d .picked) (d .state))
 
 -- a stage that makes the direct switch d, or changes nothing; q: whether it was made
 abbrev pub Directs : (c n k : ℕ) (m m' : List ℕ) (full q : Bool) → (State → Option State) → Type 0
@@ -116,7 +117,7 @@ module _ (k : ℕ) (d : State → Option State) (by : List Cpu → State → Opt
   some-is cpus s (some x) e = hs cpus s x
   some-is cpus s none e = never e
 
-  pub direct-made : {c n : ℕ} {m m' : List ℕ} → Directs c n k m m' false true d → Ends c n k m m' false 1 (λ (cpus : List Cpu) (s : State). by cpus s (d s))
+  pub direct-made : {c n : ℕ} {m m' : List ℕ} → Directs c n k m m' false true d → Ends c n k m m' false (undecided 1) (λ (cpus : List Cpu) (s : State). by cpus s (d s))
   direct-made t = ends-as (stage-end 1 t) (λ M e o cpus. some-is cpus (state-of k M) (d (state-of k M)) (t .stage M e o .answer refl))
 
   -- a state with room that has none after was switched from
@@ -124,10 +125,10 @@ module _ (k : ℕ) (d : State → Option State) (by : List Cpu → State → Opt
   full-is cpus s none h e = never (e ∙ h)
   full-is cpus s (some x) h e = (sym (ap (λ (o : Outcome). o .no-room) (hs cpus s x)) ∙ sym e, sym (ap (λ (o : Outcome). o .interrupt) (hs cpus s x)))
 
-  pub direct-full : {c n : ℕ} {m m' : List ℕ} {q : Bool} {r : ℕ} → Directs c n k m m' true q d → Ends c n k m m' true r (λ (cpus : List Cpu) (s : State). by cpus s (d s))
+  pub direct-full : {c n : ℕ} {m m' : List ℕ} {q : Bool} {r : Told} → Directs c n k m m' true q d → Ends c n k m m' true r (λ (cpus : List Cpu) (s : State). by cpus s (d s))
   direct-full t = no-end (λ M e o cpus z. full-is cpus (state-of k M) (d (state-of k M)) refl (t .stage M e o .room))
 
-  pub direct-not : {c n : ℕ} {m m' m'' : List ℕ} {full : Bool} {r : ℕ} (rest : List Cpu → State → Outcome) → ((cpus : List Cpu) (s : State) → rest cpus s ≡ by cpus s none)
+  pub direct-not : {c n : ℕ} {m m' m'' : List ℕ} {full : Bool} {r : Told} (rest : List Cpu → State → Outcome) → ((cpus : List Cpu) (s : State) → rest cpus s ≡ by cpus s none)
       → Directs c n k m m' false false d → Image c n m → Ends c n k m' m'' full r rest → Ends c n k m m'' full r (λ (cpus : List Cpu) (s : State). by cpus s (d s))
   direct-not {c} {n} {m'' = m''} {full = full} {r = r} rest hn t i u =
       ends-as (subst (λ (x : List ℕ). Ends c n k x m'' full r rest) (same-image d t i) u)
@@ -138,15 +139,15 @@ pub back-ranged : {c n k : ℕ} {m : List ℕ} (time : ℕ) → CanBegin c n k t
 back-ranged time a = ranged-more (omega arith) (omega arith) (counting-ranged a)
 
 module _ {c n k : ℕ} {m m' : List ℕ} (time : ℕ) where
-  pub switched-back : Directs c n k m m' false true (try-direct-switch-back k time) → Ends c n k m m' false 1 (λ (cpus : List Cpu) (s : State). switch-inner k time cpus s)
+  pub switched-back : Directs c n k m m' false true (try-direct-switch-back k time) → Ends c n k m m' false (undecided 1) (λ (cpus : List Cpu) (s : State). switch-inner k time cpus s)
   unfolding switch-inner switch-inner-by
   switched-back t = direct-made k (try-direct-switch-back k time) (switch-inner-by k time) (λ cpus s x. refl) t
 
-  pub no-room-back : {q : Bool} {r : ℕ} → Directs c n k m m' true q (try-direct-switch-back k time) → Ends c n k m m' true r (λ (cpus : List Cpu) (s : State). switch-inner k time cpus s)
+  pub no-room-back : {q : Bool} {r : Told} → Directs c n k m m' true q (try-direct-switch-back k time) → Ends c n k m m' true r (λ (cpus : List Cpu) (s : State). switch-inner k time cpus s)
   unfolding switch-inner switch-inner-by
   no-room-back t = direct-full k (try-direct-switch-back k time) (switch-inner-by k time) (λ cpus s x. refl) t
 
-  pub not-back : {m'' : List ℕ} {full : Bool} {r : ℕ} → Directs c n k m m' false false (try-direct-switch-back k time) → Image c n m → Ends c n k m' m'' full r (λ (cpus : List Cpu) (s : State). after-schedule k time (schedule k time cpus s))
+  pub not-back : {m'' : List ℕ} {full : Bool} {r : Told} → Directs c n k m m' false false (try-direct-switch-back k time) → Image c n m → Ends c n k m' m'' full r (λ (cpus : List Cpu) (s : State). after-schedule k time (schedule k time cpus s))
       → Ends c n k m m'' full r (λ (cpus : List Cpu) (s : State). switch-inner k time cpus s)
   unfolding switch-inner switch-inner-by
   not-back t i u =

@@ -24,7 +24,7 @@ use Rattle.stages.proofs.Reading.{unchanged-with}
 use Rattle.handover.specs.Handed.{settled-by}
 use Rattle.handover.proofs.Settled.{settled-is, settled-below}
 use Rattle.handover.proofs.Advanced.{next-below}
-use Rattle.schedule.specs.Part.{of-stealing, of-selected, Part}
+use Rattle.schedule.specs.Part.{Ruled, ruled, chosen-by, of-selected, Part}
 use Rattle.schedule.specs.Named.{NamedBelow}
 use Rattle.columns.proofs.Tests.{never}
 use Rattle.schedule.proofs.Parts.{stage-part, stage-part-full, part-stage, part-as, part-full}
@@ -33,8 +33,8 @@ use Rattle.stages.specs.Bounds.{t-timed, b-woken, b-charged, b-stolen, b-advanc
 use Rattle.model.specs.Handover.{next-context, settled}
 
 -- the stealing found no room
-pub selected-unchosen : {c n k : ℕ} {m m' m'' : List ℕ} {w q : Option ℕ} (time elapsed : ℕ)
-    → Part c n k m m' true w (λ (cpus : List Cpu) (s : State). of-stealing (choose-and-steal k time cpus s))
+pub selected-unchosen : {c n k : ℕ} {m m' m'' : List ℕ} {w q : Ruled} (time elapsed : ℕ)
+    → Part c n k m m' true w (λ (cpus : List Cpu) (s : State). chosen-by k time cpus s)
     → Part c n k m m'' true q (λ (cpus : List Cpu) (s : State). of-selected (selected k time elapsed cpus s))
 unfolding selected
 selected-unchosen {k = k} time elapsed t =
@@ -42,40 +42,45 @@ selected-unchosen {k = k} time elapsed t =
     (λ cpus s e. no-room.settled-full k time (prev-runnable s) (ticks elapsed) (choose-and-steal k time cpus s) e)
 
 -- t: chosen and stolen; u: V advanced and the holder sent back
-module _ {c n k : ℕ} {m m' : List ℕ} {w : Option ℕ} (time elapsed : ℕ) (won runs : Bool) (gained : ℕ) (h : k < c)
-    (t : Part c n k m m' false w (λ (cpus : List Cpu) (s : State). of-stealing (choose-and-steal k time cpus s)))
-    (hr : (M : Machine) → m ≡ encode M → Fits c n M → runs ≡ prev-runnable (state-of k M)) (hw : won ≡ is-some w) (hg : gained ≡ ticks elapsed) where
+module _ {c n k : ℕ} {m m' : List ℕ} {w : Ruled} (time elapsed : ℕ) (won runs : Bool) (gained : ℕ) (h : k < c)
+    (t : Part c n k m m' false w (λ (cpus : List Cpu) (s : State). chosen-by k time cpus s))
+    (hr : (M : Machine) → m ≡ encode M → Fits c n M → runs ≡ prev-runnable (state-of k M)) (hw : won ≡ is-some (w .who)) (hg : gained ≡ ticks elapsed) where
   module _ (M : Machine) (e : m ≡ encode M) (o : Fits c n M) (cpus : List Cpu) (z : set cpus k (cpu-at M k) ≡ M .cpus) where
-    winner-is : w ≡ (choose-and-steal k time cpus (state-of k M)) .winner
-    winner-is = t .part M e o cpus z .answer refl
+    winner-is : w .who ≡ (choose-and-steal k time cpus (state-of k M)) .winner
+    winner-is = ap (λ (x : Ruled). x .who) (t .part M e o cpus z .answer refl)
 
     same-state : settled-by won runs gained ((choose-and-steal k time cpus (state-of k M)) .state) ≡ settled (prev-runnable (state-of k M)) (ticks elapsed) (choose-and-steal k time cpus (state-of k M))
     same-state =
         (λ i. settled-by ((hw ∙ ap is-some winner-is) i) (hr M e o i) (hg i) ((choose-and-steal k time cpus (state-of k M)) .state))
         ∙ settled-is k time (prev-runnable (state-of k M)) (ticks elapsed) (choose-and-steal k time cpus (state-of k M))
 
-  pub selected-full : {m'' : List ℕ} {q : Option ℕ} → Staged c n k m' m'' true (λ (s : State). settled-by won runs gained s)
+  pub selected-full : {m'' : List ℕ} {q : Ruled} → Staged c n k m' m'' true (λ (s : State). settled-by won runs gained s)
       → Part c n k m m'' true q (λ (cpus : List Cpu) (s : State). of-selected (selected k time elapsed cpus s))
   unfolding selected
   selected-full u = part-as (part-stage h t u) (λ M e o cpus z. (same-state M e o cpus z, refl, λ y x. never y))
 
   -- next: who gets the slice, as read after
   module _ {m'' : List ℕ} (u : Staged c n k m' m'' false (λ (s : State). settled-by won runs gained s)) {next : Option ℕ}
-      (r : (M : Machine) → m'' ≡ encode M → Fits c n M → next ≡ next-context runs w (state-of k M)) where
-    pub selected-room : Part c n k m m'' false next (λ (cpus : List Cpu) (s : State). of-selected (selected k time elapsed cpus s))
+      (r : (M : Machine) → m'' ≡ encode M → Fits c n M → next ≡ next-context runs (w .who) (state-of k M)) where
+    pub selected-room : Part c n k m m'' false (ruled next (w .rule)) (λ (cpus : List Cpu) (s : State). of-selected (selected k time elapsed cpus s))
     unfolding selected
     selected-room =
-        let v : Stage c n k m'' m'' false next (λ (s : State). s) (λ (s : State). next-context runs w s) = unchanged-with k (λ (s : State). s) (u .image refl) (λ M e o. (refl, r M e o))
+        let v : Stage c n k m'' m'' false next (λ (s : State). s) (λ (s : State). next-context runs (w .who) s) = unchanged-with k (λ (s : State). s) (u .image refl) (λ M e o. (refl, r M e o))
         in part-as (part-stage h t (stage-then h u v))
-        (λ M e o cpus z. (same-state M e o cpus z, refl, λ y x. x ∙ (λ i. next-context (hr M e o i) (winner-is M e o cpus z i) (same-state M e o cpus z i))))
+        (λ M e o cpus z. (
+          same-state M e o cpus z,
+          refl,
+          λ y x. λ i.
+              ruled ((x ∙ (λ j. next-context (hr M e o j) (winner-is M e o cpus z j) (same-state M e o cpus z j))) i) (t .part M e o cpus z .answer refl i .rule),
+        ))
 
     pub selected-ranged : gained ≤ max-gain → Ranged c n t-timed b-stolen m' → Ranged c n t-timed b-advanced m''
     selected-ranged l a = ranged-stage (omega arith) (omega arith) h u (λ M o s. settled-below won runs gained (state-of k M) l (o .cpu k h) s) a
 
-    pub selected-named : NamedBelow n w → NamedBelow n next
+    pub selected-named : NamedBelow n (w .who) → NamedBelow n next
     selected-named f x e =
         let i = u .image refl
-        in next-below (i .M) k (i .fits) h runs w f x (sym (r (i .M) (i .eq) (i .fits)) ∙ e)
+        in next-below (i .M) k (i .fits) h runs (w .who) f x (sym (r (i .M) (i .eq) (i .fits)) ∙ e)
 
 -- before the choice the holder is charged
 pub keeps-full : (k time elapsed : ℕ) (cpus : List Cpu) (s : State) → s .no-room ≡ true → ((selected k time elapsed cpus s) .state) .no-room ≡ true
@@ -85,13 +90,13 @@ keeps-full k time elapsed cpus s e =
     (no-room.steal-full k (prev-runnable s) _ cpus _ _ (no-room.chosen-full (choice s (scanned k time s)) (scanned k time s) s e))
 
 module _ {c n k : ℕ} {m m' m'' : List ℕ} (time elapsed : ℕ) where
-  pub charged-full : {q : Option ℕ} → Staged c n k m m' true (λ (s : State). charge-holder elapsed s)
+  pub charged-full : {q : Ruled} → Staged c n k m m' true (λ (s : State). charge-holder elapsed s)
       → Part c n k m m'' true q (λ (cpus : List Cpu) (s : State). of-selected (select-next-context k time elapsed cpus s))
   unfolding select-next-context
   charged-full t =
       stage-part-full (λ (cpus : List Cpu) (s : State). of-selected (selected k time elapsed cpus s)) t (keeps-full k time elapsed)
 
-  pub charged-then : {q : Option ℕ} {full : Bool} → k < c → Staged c n k m m' false (λ (s : State). charge-holder elapsed s)
+  pub charged-then : {q : Ruled} {full : Bool} → k < c → Staged c n k m m' false (λ (s : State). charge-holder elapsed s)
       → Part c n k m' m'' full q (λ (cpus : List Cpu) (s : State). of-selected (selected k time elapsed cpus s))
       → Part c n k m m'' full q (λ (cpus : List Cpu) (s : State). of-selected (select-next-context k time elapsed cpus s))
   unfolding select-next-context

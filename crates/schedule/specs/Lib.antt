@@ -4,3 +4,4 @@ pub mod Ticked
 pub mod Begun
 pub mod Named
 pub mod Switched
+pub mod Stolen

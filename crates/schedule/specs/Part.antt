@@ -5,13 +5,14 @@ use mathlib.Core.List.{List}
 use mathlib.Core.Option.{Option}
 use Prim.Native.Nat.{ℕ}
 use lib.ListN.{set}
+use Rattle.answer.specs.declared.Rule.{Rule}
 use Rattle.percpu.specs.Cpu.{Cpu}
 use Rattle.machine.specs.Machine.{Machine, cpu-at}
 use Rattle.machine.specs.Encode.{encode}
 use Rattle.machine.specs.Shape.{Fits, Image}
-use Rattle.model.specs.State.{State, state-of}
-use Rattle.model.specs.Steal.{Stealing}
-use Rattle.model.specs.Schedule.{Selected, Scheduled}
+use Rattle.model.specs.State.{State, state-of, is-some}
+use Rattle.model.specs.Rule.{rule-of}
+use Rattle.model.specs.Schedule.{Selected, Scheduled, scanned, choose-and-steal}
 
 -- what a part gives: the state, every CPU (this one as it was), and an answer
 pub record Result (R : Type 0) : Type 0 where
@@ -19,14 +20,25 @@ pub record Result (R : Type 0) : Type 0 where
   pub cpus : List Cpu
   pub answer : R
 
-abbrev pub of-stealing : Stealing → Result (Option ℕ)
-of-stealing l = record { state = l .state; cpus = l .cpus; answer = l .winner }
+-- who, and by which rule
+pub record Ruled : Type 0 where
+  pub who : Option ℕ
+  pub rule : Rule
 
-abbrev pub of-selected : Selected → Result (Option ℕ)
-of-selected d = record { state = d .state; cpus = d .cpus; answer = d .next }
+abbrev pub ruled : Option ℕ → Rule → Ruled
+ruled w u = record { who = w; rule = u }
 
-abbrev pub of-scheduled : Scheduled → Result (Option ℕ)
-of-scheduled d = record { state = d .state; cpus = d .cpus; answer = d .picked }
+-- the choice and the stealing, where s is the state before them
+abbrev pub chosen-by : (k time : ℕ) → List Cpu → State → Result Ruled
+chosen-by k time cpus s =
+    let l = choose-and-steal k time cpus s in
+    record { state = l .state; cpus = l .cpus; answer = ruled (l .winner) (rule-of s (is-some (l .winner)) (scanned k time s)) }
+
+abbrev pub of-selected : Selected → Result Ruled
+of-selected d = record { state = d .state; cpus = d .cpus; answer = ruled (d .next) (d .rule) }
+
+abbrev pub of-scheduled : Scheduled → Result Ruled
+of-scheduled d = record { state = d .state; cpus = d .cpus; answer = ruled (d .picked) (d .rule) }
 
 -- the CPUs with the state of CPU k put in
 abbrev pub put-in : ℕ → List Cpu → State → Machine

@@ -15,8 +15,7 @@ ghost use Rattle.model.specs.Schedule.{ticked, tick, switch, direct-switch-to};
 ghost use Rattle.stages.specs.Stage.{Stage, Ranged};
 ghost use Rattle.schedule.specs.Decides.{Decides};
 ghost use Rattle.numbers.specs.Limits.{max-number, max-elapsed};
-ghost use Rattle.answer.specs.Number.{result-number};
-ghost use Rattle.schedule.specs.Ticked.{ticked-full, ticked-number};
+ghost use Rattle.schedule.specs.Ticked.{decided-told, ticked-full, ticked-told};
 
 // What a tick came to: no switch was due, or the switch.
 pub enum Ticked {
@@ -43,7 +42,7 @@ pub fn tick(m: &mut [u64], c: usize, n: usize, k: usize, time: u64) -> Ticked
     requires { ⌜ (k < c) × (time ≤ max-number) ⌝ }
     requires { ⌜ Ranged c n max-number max-number (now m) ⌝ }
     requires { ⌜ ((M : Machine) → now m ≡ encode M → Fits c n M → elapsed time (cpu-at M k) ≤ max-elapsed) ⌝ }
-    ensures { λ r. ⌜ Decides c n (now (m .entry)) (now (m .exit)) (ticked-full r) (ticked-number r) (λ (M : Machine). tick k time M) ⌝ }
+    ensures { λ r. ⌜ Decides c n (now (m .entry)) (now (m .exit)) (ticked-full r) (ticked-told r) (λ (M : Machine). tick k time M) ⌝ }
 {
     let count = count_tick(m, c, n, k);
     if count < ticks::TICK_INTERVAL {
@@ -58,7 +57,7 @@ pub fn switch(m: &mut [u64], c: usize, n: usize, k: usize, time: u64) -> Decided
     requires { ⌜ (k < c) × (time ≤ max-number) ⌝ }
     requires { ⌜ Ranged c n max-number max-number (now m) ⌝ }
     requires { ⌜ ((M : Machine) → now m ≡ encode M → Fits c n M → elapsed time (cpu-at M k) ≤ max-elapsed) ⌝ }
-    ensures { λ r. ⌜ Decides c n (now (m .entry)) (now (m .exit)) (r .full) (result-number (r .result)) (λ (M : Machine). switch k time M) ⌝ }
+    ensures { λ r. ⌜ Decides c n (now (m .entry)) (now (m .exit)) (r .full) (decided-told r) (λ (M : Machine). switch k time M) ⌝ }
 {
     switching::switch_inner(m, c, n, k, time)
 }
@@ -68,7 +67,7 @@ pub fn direct_switch_to(m: &mut [u64], c: usize, n: usize, k: usize, time: u64, 
     requires { ⌜ (k < c) × (x < n) × (time ≤ max-number) ⌝ }
     requires { ⌜ Ranged c n max-number max-number (now m) ⌝ }
     requires { ⌜ ((M : Machine) → now m ≡ encode M → Fits c n M → elapsed time (cpu-at M k) ≤ max-elapsed) ⌝ }
-    ensures { λ r. ⌜ Decides c n (now (m .entry)) (now (m .exit)) (r .full) (result-number (r .result)) (λ (M : Machine). direct-switch-to k time x M) ⌝ }
+    ensures { λ r. ⌜ Decides c n (now (m .entry)) (now (m .exit)) (r .full) (decided-told r) (λ (M : Machine). direct-switch-to k time x M) ⌝ }
 {
     let b = stages::load_block(m, c, n, k);
     let name = numbers::word(x);
@@ -76,6 +75,7 @@ pub fn direct_switch_to(m: &mut [u64], c: usize, n: usize, k: usize, time: u64, 
         return Decided {
             full: false,
             result: SwitchResult::Switched,
+            rule: 0,
         };
     }
     let own = b.sched_ctxt == name;
@@ -84,10 +84,12 @@ pub fn direct_switch_to(m: &mut [u64], c: usize, n: usize, k: usize, time: u64, 
         DirectSwitch::NoRoom => Decided {
             full: true,
             result: SwitchResult::AllContextsIdle,
+            rule: 0,
         },
         DirectSwitch::Switched => Decided {
             full: false,
             result: SwitchResult::Switched,
+            rule: 0,
         },
         DirectSwitch::NotSwitched => switching::switch_inner(m, c, n, k, time),
     }

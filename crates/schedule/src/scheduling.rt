@@ -14,7 +14,7 @@ ghost use Rattle.model.specs.Schedule.{schedule};
 ghost use Rattle.stages.specs.Stage.{Staged, Ranged};
 ghost use Rattle.picked.specs.Names.{picked-of};
 ghost use Rattle.schedule.specs.Begun.{CanBegin};
-ghost use Rattle.schedule.specs.Part.{of-scheduled, Part};
+ghost use Rattle.schedule.specs.Part.{ruled, of-scheduled, Part};
 ghost use Rattle.schedule.specs.Named.{NamedBelow};
 ghost use Rattle.schedule.specs.Switched.{handed};
 ghost use Rattle.numbers.specs.Limits.{max-number};
@@ -41,7 +41,7 @@ pub fn schedule(m: &mut [u64], c: usize, n: usize, k: usize, time: u64) -> Next
     requires { ⌜ Image c n (now m) ⌝ }
     requires { ⌜ (k < c) × (time ≤ max-number) ⌝ }
     requires { ⌜ CanBegin c n k time (now m) ⌝ }
-    ensures { λ r. ⌜ Part c n k (now (m .entry)) (now (m .exit)) (r .full) (picked-of (r .context)) (λ (cpus : List Cpu) (s : State). of-scheduled (schedule k time cpus s)) ⌝ }
+    ensures { λ r. ⌜ Part c n k (now (m .entry)) (now (m .exit)) (r .full) (ruled (picked-of (r .context)) (r .rule)) (λ (cpus : List Cpu) (s : State). of-scheduled (schedule k time cpus s)) ⌝ }
     ensures { λ r. ⌜ (r .full ≡ false → NamedBelow n (picked-of (r .context)) × Ranged c n t-handed b-advanced (now (m .exit))) ⌝ }
 {
     let begun = beginning::begin(m, c, n, k, time);
@@ -54,9 +54,11 @@ pub fn schedule(m: &mut [u64], c: usize, n: usize, k: usize, time: u64) -> Next
         return selecting::no_room();
     }
     let context = next.context;
+    let rule = next.rule;
     hand_over(m, c, n, k, time, turn.was_idle, context);
     Next {
         full: false,
         context,
+        rule,
     }
 }

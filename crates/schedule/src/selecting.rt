@@ -1,5 +1,6 @@
 // `select_next_context`: who gets the slice.
 use crate::choosing;
+use answer::Rule;
 use picked::Picked;
 ghost use mathlib.Core.Path.{_≡_};
 ghost use mathlib.Core.Bool.{true, false};
@@ -11,7 +12,7 @@ ghost use Rattle.model.specs.State.{State};
 ghost use Rattle.model.specs.Schedule.{selected, select-next-context};
 ghost use Rattle.stages.specs.Stage.{Ranged};
 ghost use Rattle.picked.specs.Names.{picked-of};
-ghost use Rattle.schedule.specs.Part.{of-selected, Part};
+ghost use Rattle.schedule.specs.Part.{ruled, of-selected, Part};
 ghost use Rattle.schedule.specs.Named.{NamedBelow};
 ghost use Rattle.numbers.specs.Limits.{max-elapsed};
 ghost use Rattle.stages.specs.Bounds.{t-timed, b-woken, b-charged, b-advanced};
@@ -21,6 +22,7 @@ pub struct Next {
     pub full: bool,
     // nobody: the holder keeps the slice
     pub context: Picked,
+    pub rule: Rule,
 }
 
 pub fn no_room() -> Next
@@ -29,6 +31,7 @@ pub fn no_room() -> Next
     Next {
         full: true,
         context: Picked::Nobody,
+        rule: Rule::Idle,
     }
 }
 
@@ -37,7 +40,7 @@ fn selected(m: &mut [u64], c: usize, n: usize, k: usize, time: u64, elapsed: u64
     requires { ⌜ Image c n (now m) ⌝ }
     requires { ⌜ (k < c) × (elapsed ≤ max-elapsed) ⌝ }
     requires { ⌜ Ranged c n t-timed b-charged (now m) ⌝ }
-    ensures { λ r. ⌜ Part c n k (now (m .entry)) (now (m .exit)) (r .full) (picked-of (r .context)) (λ (cpus : List Cpu) (s : State). of-selected (selected k time elapsed cpus s)) ⌝ }
+    ensures { λ r. ⌜ Part c n k (now (m .entry)) (now (m .exit)) (r .full) (ruled (picked-of (r .context)) (r .rule)) (λ (cpus : List Cpu) (s : State). of-selected (selected k time elapsed cpus s)) ⌝ }
     ensures { λ r. ⌜ (r .full ≡ false → NamedBelow n (picked-of (r .context)) × Ranged c n t-timed b-advanced (now (m .exit))) ⌝ }
 {
     let runs = choosing::prev_runnable(m, c, n, k);
@@ -46,6 +49,7 @@ fn selected(m: &mut [u64], c: usize, n: usize, k: usize, time: u64, elapsed: u64
         return no_room();
     }
     let winner = moved.winner;
+    let rule = moved.rule;
     let won = winner.is_some();
     let gained = ticks::elapsed_ticks(elapsed);
     if handover::settle(m, c, n, k, gained, won, runs) {
@@ -54,6 +58,7 @@ fn selected(m: &mut [u64], c: usize, n: usize, k: usize, time: u64, elapsed: u64
     Next {
         full: false,
         context: handover::next_context(m, c, n, k, runs, winner),
+        rule,
     }
 }
 
@@ -68,7 +73,7 @@ pub fn select_next_context(
     requires { ⌜ Image c n (now m) ⌝ }
     requires { ⌜ (k < c) × (elapsed ≤ max-elapsed) ⌝ }
     requires { ⌜ Ranged c n t-timed b-woken (now m) ⌝ }
-    ensures { λ r. ⌜ Part c n k (now (m .entry)) (now (m .exit)) (r .full) (picked-of (r .context)) (λ (cpus : List Cpu) (s : State). of-selected (select-next-context k time elapsed cpus s)) ⌝ }
+    ensures { λ r. ⌜ Part c n k (now (m .entry)) (now (m .exit)) (r .full) (ruled (picked-of (r .context)) (r .rule)) (λ (cpus : List Cpu) (s : State). of-selected (select-next-context k time elapsed cpus s)) ⌝ }
     ensures { λ r. ⌜ (r .full ≡ false → NamedBelow n (picked-of (r .context)) × Ranged c n t-timed b-advanced (now (m .exit))) ⌝ }
 {
     if turn::charge_holder(m, c, n, k, elapsed) {

@@ -15,17 +15,20 @@ ghost use Rattle.model.specs.Schedule.{schedule, after-schedule, switch-inner};
 ghost use Rattle.stages.specs.Stage.{Stage, Staged, Ranged};
 ghost use Rattle.picked.specs.Names.{picked-of};
 ghost use Rattle.schedule.specs.Begun.{CanBegin};
-ghost use Rattle.schedule.specs.Decides.{Ends};
+ghost use Rattle.schedule.specs.Decides.{told, Ends};
 ghost use Rattle.schedule.specs.Named.{NamedBelow};
 ghost use Rattle.schedule.specs.Switched.{marked-idle, switched-to, switched, switch-result};
 ghost use Rattle.numbers.specs.Limits.{max-number};
 ghost use Rattle.stages.specs.Bounds.{t-handed, b-advanced};
 ghost use Rattle.answer.specs.Number.{result-number};
+ghost use Rattle.schedule.specs.Ticked.{decided-told};
 
-// Whether an insertion found no room, and what the switch came to; without room that says nothing.
+// Whether an insertion found no room, what the switch came to, and the number of its rule, 0 where nothing was decided;
+// without room these say nothing.
 pub struct Decided {
     pub full: bool,
     pub result: SwitchResult,
+    pub rule: u64,
 }
 
 fn mark_idle(m: &mut [u64], c: usize, n: usize, k: usize)
@@ -55,11 +58,19 @@ fn switch_unless_current(m: &mut [u64], c: usize, n: usize, k: usize, time: u64,
 }
 
 // Keeping the holder is AllContextsIdle and marks the CPU Idle, though the holder may run.
-fn switch_as(m: &mut [u64], c: usize, n: usize, k: usize, time: u64, picked: Picked) -> Decided
+fn switch_as(
+    m: &mut [u64],
+    c: usize,
+    n: usize,
+    k: usize,
+    time: u64,
+    picked: Picked,
+    rule: u64,
+) -> Decided
     requires { ⌜ Image c n (now m) ⌝ }
     requires { ⌜ (k < c) × (time ≤ max-number) × NamedBelow n (picked-of picked) ⌝ }
     requires { ⌜ Ranged c n t-handed b-advanced (now m) ⌝ }
-    ensures { λ r. ⌜ Stage c n k (now (m .entry)) (now (m .exit)) (r .full) (result-number (r .result)) (λ (s : State). switched k time (picked-of picked) s) (λ (s : State). result-number (switch-result (picked-of picked))) ⌝ }
+    ensures { λ r. ⌜ Stage c n k (now (m .entry)) (now (m .exit)) (r .full) (decided-told r) (λ (s : State). switched k time (picked-of picked) s) (λ (s : State). told (result-number (switch-result (picked-of picked))) rule) ⌝ }
 {
     match picked {
         Picked::Nobody => {
@@ -67,11 +78,13 @@ fn switch_as(m: &mut [u64], c: usize, n: usize, k: usize, time: u64, picked: Pic
             Decided {
                 full: false,
                 result: SwitchResult::AllContextsIdle,
+                rule,
             }
         }
         Picked::Somebody(x) => Decided {
             full: switch_unless_current(m, c, n, k, time, x),
             result: SwitchResult::Switched,
+            rule,
         },
     }
 }
@@ -80,34 +93,39 @@ fn decide(m: &mut [u64], c: usize, n: usize, k: usize, time: u64) -> Decided
     requires { ⌜ Image c n (now m) ⌝ }
     requires { ⌜ (k < c) × (time ≤ max-number) ⌝ }
     requires { ⌜ CanBegin c n k time (now m) ⌝ }
-    ensures { λ r. ⌜ Ends c n k (now (m .entry)) (now (m .exit)) (r .full) (result-number (r .result)) (λ (cpus : List Cpu) (s : State). after-schedule k time (schedule k time cpus s)) ⌝ }
+    ensures { λ r. ⌜ Ends c n k (now (m .entry)) (now (m .exit)) (r .full) (decided-told r) (λ (cpus : List Cpu) (s : State). after-schedule k time (schedule k time cpus s)) ⌝ }
 {
     let next = scheduling::schedule(m, c, n, k, time);
     if next.full {
         return Decided {
             full: true,
             result: SwitchResult::AllContextsIdle,
+            rule: 0,
         };
     }
     let picked = next.context;
-    switch_as(m, c, n, k, time, picked)
+    let rule = next.rule;
+    let number = answer::rule_number(rule);
+    switch_as(m, c, n, k, time, picked, number)
 }
 
 pub fn switch_inner(m: &mut [u64], c: usize, n: usize, k: usize, time: u64) -> Decided
     requires { ⌜ Image c n (now m) ⌝ }
     requires { ⌜ (k < c) × (time ≤ max-number) ⌝ }
     requires { ⌜ CanBegin c n k time (now m) ⌝ }
-    ensures { λ r. ⌜ Ends c n k (now (m .entry)) (now (m .exit)) (r .full) (result-number (r .result)) (λ (cpus : List Cpu) (s : State). switch-inner k time cpus s) ⌝ }
+    ensures { λ r. ⌜ Ends c n k (now (m .entry)) (now (m .exit)) (r .full) (decided-told r) (λ (cpus : List Cpu) (s : State). switch-inner k time cpus s) ⌝ }
 {
     let back = switch_to::try_direct_switch_back(m, c, n, k, time);
     match back {
         DirectSwitch::NoRoom => Decided {
             full: true,
             result: SwitchResult::AllContextsIdle,
+            rule: 0,
         },
         DirectSwitch::Switched => Decided {
             full: false,
             result: SwitchResult::Switched,
+            rule: 0,
         },
         DirectSwitch::NotSwitched => decide(m, c, n, k, time),
     }

@@ -70,6 +70,13 @@ module _ (h : Holder) (s : State) (o : Holding h s) where
     pub least-wins : r ≡ false → record { winner = some x; v = e .vtime; locked = [] } ≡ nobody s (some e)
     least-wins t = rw (goes false t) (λ j. record { winner = some (hx j); v = e .vtime; locked = [] })
 
+  -- whether the holder goes before an eligible entry whose record is q
+  module _ (f : Scan) (e : Entry) (q : Context) (hq : q ≡ context-at (f .contexts) (e .«context_ref»)) {before r : Bool}
+      (hb : before ≡ (ltb (h .vd) (q .vd) || eqb (h .vd) (q .vd) && ltb (q .«rem_slice») (h .«rem_slice»))) (d : r ≡ (h .eligible && before)) where
+    pub wins : (b : Bool) → r ≡ b → (prev-is-eligible s && goes-before (holder s) (context-at (f .contexts) (e .«context_ref»))) ≡ b
+    wins b t =
+        sym (λ j. o .eligible j && (hb ∙ (λ i. ltb (o .vd i) ((hq i) .vd) || eqb (o .vd i) ((hq i) .vd) && ltb ((hq i) .«rem_slice») (o .rem-slice i))) j) ∙ sym d ∙ t
+
   -- what the scan found, and who keeps its lock
   module _ (f : Scan) {late : Option Entry} (hl : late ≡ f .ineligible-best) where
     pub without-kept : {k : List ℕ} → k ≡ named late → h .eligible ≡ true → record { winner = none; v = h .v; locked = k } ≡ without-entry s f
@@ -80,15 +87,11 @@ module _ (h : Holder) (s : State) (o : Holding h s) where
 
     module _ (e : Entry) (q : Context) (hq : q ≡ context-at (f .contexts) (e .«context_ref»)) {before r : Bool} {k : List ℕ} (n : k ≡ named late)
         (hb : before ≡ (ltb (h .vd) (q .vd) || eqb (h .vd) (q .vd) && ltb (q .«rem_slice») (h .«rem_slice»))) (d : r ≡ (h .eligible && before)) where
-      wins : (b : Bool) → r ≡ b → (prev-is-eligible s && goes-before (holder s) (context-at (f .contexts) (e .«context_ref»))) ≡ b
-      wins b t =
-          sym (λ j. o .eligible j && (hb ∙ (λ i. ltb (o .vd i) ((hq i) .vd) || eqb (o .vd i) ((hq i) .vd) && ltb ((hq i) .«rem_slice») (o .rem-slice i))) j) ∙ sym d ∙ t
-
       pub against-kept : r ≡ true → record { winner = none; v = h .v; locked = k } ≡ against s f e
-      against-kept t = rw (wins true t) (λ j. record { winner = none; v = o .v j; locked = (n ∙ ap named hl) j })
+      against-kept t = rw (wins f e q hq hb d true t) (λ j. record { winner = none; v = o .v j; locked = (n ∙ ap named hl) j })
 
       pub against-wins : {x : ℕ} → x ≡ e .«context_ref» → r ≡ false → record { winner = some x; v = h .v; locked = k } ≡ against s f e
-      against-wins hx t = rw (wins false t) (λ j. record { winner = some (hx j); v = o .v j; locked = (n ∙ ap named hl) j })
+      against-wins hx t = rw (wins f e q hq hb d false t) (λ j. record { winner = some (hx j); v = o .v j; locked = (n ∙ ap named hl) j })
 
 pub best-at : (n : ℕ) {b b' : Best} → b ≡ b' → best-below n b → best-below n b'
 best-at n e h = subst (best-below n) e h

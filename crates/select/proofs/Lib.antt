@@ -1,5 +1,6 @@
 pub mod Judging
 pub mod Choosing
+pub mod Ruling
 pub mod Keys
 pub mod Visiting
 pub mod Visited

@@ -8,12 +8,14 @@ use Rattle.context.specs.declared.Context.{Context}
 use Rattle.entries.specs.declared.Entry.{Entry}
 use Rattle.percpu.specs.declared.PercpuBlock.{PercpuBlock}
 use Rattle.percpu.specs.Cpu.{Cpu}
-use Rattle.machine.specs.Machine.{Machine, context-at, cpu-at}
+use Rattle.answer.specs.declared.Rule.{Rule}
+use Rattle.machine.specs.Machine.{Machine, context-at, cpu-at, with-contexts}
 use Rattle.machine.specs.Encode.{encode}
 use Rattle.machine.specs.Shape.{Fits, Image}
 use Rattle.model.specs.State.{State, state-of, holder}
 use Rattle.model.specs.Scan.{Scan, judge, visit, visited, scan-step, scan}
 use Rattle.model.specs.Choice.{Choice, ineligible-holder, choice, taken-out, chosen}
+use Rattle.model.specs.Rule.{rule-of}
 use Rattle.model.specs.Schedule.{scanned}
 use Rattle.stages.specs.Stage.{put-state, Stage, Staged}
 use Rattle.stages.proofs.Compose.{staged, stage-then, stage-as}
@@ -83,6 +85,12 @@ apply-then {k = k} s w d {r} h g o t u =
     let z : r ≡ choice s (found (M .contexts) w d) = g M e b s (found (M .contexts) w d) o (record { contexts = refl; best = refl; late = refl })
     in ((λ j. taken-out ((z j) .winner) (cleaned (w .«weight_change») (keys-in d (w .«contexts_to_remove»)) ((z j) .v) (state-of k M))), λ f y. z))
 
+pub apply-rule : {c n : ℕ} {m : List ℕ} (w : Scanned) (d : List ℕ) {u : Rule} {h : Holder}
+    → ((M : Machine) → m ≡ encode M → Fits c n M → (s : State) (f : Scan) → Holding h s → Chosen (M .contexts) w f → u ≡ rule-of s false f)
+    → (s : State) → Holding h s → (M : Machine) → m ≡ encode M → Fits c n M → u ≡ rule-of s false (found (M .contexts) w d)
+unfolding found
+apply-rule w d g s o M e b = g M e b s (found (M .contexts) w d) o (record { contexts = refl; best = refl; late = refl })
+
 chosen-after-is : (s : State) (f : Scan) → chosen-after s f (with-scan f s) ≡ chosen (choice s f) f s
 unfolding chosen-after chosen
 chosen-after-is s f = ap (taken-out ((choice s f) .winner)) (cleaned-is f ((choice s f) .v) s)
@@ -108,3 +116,14 @@ select-then {c} {n} k time d w t i b ho hs a u =
       fits = λ y. subst (λ (x : State). Fits c n (put-state k x M)) p (z .fits y);
       answer = λ y. z .answer y ∙ ap (choice s) q;
     })
+
+pub select-rule : {c n : ℕ} {m m' : List ℕ} (k time : ℕ) (d : List ℕ) (w : Scanned) (t : Scanner) {h : Holder} {u : Rule}
+    → ((M : Machine) → m ≡ encode M → Fits c n M → Holding h (state-of k M)) → ((M : Machine) → m ≡ encode M → Fits c n M → Scanning k time t (state-of k M))
+    → Scans c n m m' d w (λ (M : Machine). scan-by t (M .contexts) (cpu-at M k .queue))
+    → ((s : State) → Holding h s → (M : Machine) → m' ≡ encode M → Fits c n M → u ≡ rule-of s false (found (M .contexts) w d))
+    → (M : Machine) → m ≡ encode M → Fits c n M → u ≡ rule-of (state-of k M) false (scanned k time (state-of k M))
+select-rule k time d w t ho hs a g M e o =
+    let s = state-of k M
+    in let z = a .scans M e o
+    in g s (ho M e o) (with-contexts (scan-by t (M .contexts) (cpu-at M k .queue) .contexts) M) (z .after) (z .fits)
+    ∙ ap (rule-of s false) (z .same ∙ scan-is k time t s (hs M e o))

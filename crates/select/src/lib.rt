@@ -6,6 +6,7 @@ mod judge;
 mod read;
 mod scan;
 
+use answer::Rule;
 use context::Context;
 use entries::Entry;
 use picked::Picked;
@@ -13,9 +14,12 @@ ghost use mathlib.Core.Path.{_≡_};
 ghost use mathlib.Core.Bool.{false};
 ghost use Prim.Native.Nat.{_<_, _≤_};
 ghost use lib.ListN.{length};
-ghost use Rattle.machine.specs.Shape.{Image};
-ghost use Rattle.model.specs.State.{State};
+ghost use Rattle.machine.specs.Machine.{Machine};
+ghost use Rattle.machine.specs.Encode.{encode};
+ghost use Rattle.machine.specs.Shape.{Fits, Image};
+ghost use Rattle.model.specs.State.{State, state-of};
 ghost use Rattle.model.specs.Choice.{choice, chosen};
+ghost use Rattle.model.specs.Rule.{rule-of};
 ghost use Rattle.model.specs.Schedule.{scanned};
 ghost use Rattle.stages.specs.Stage.{Stage};
 ghost use Rattle.select.specs.Values.{choice-of, best-below, winner-below};
@@ -77,11 +81,13 @@ pub struct Scanned {
     pub contexts_to_remove: usize,
 }
 
-// Who won, V, and the context that the decision keeps locked besides the holder and the winner.
+// Who won, V, the context that the decision keeps locked besides the holder and the winner, and the rule, which is Idle
+// where nobody waits.
 pub struct Selected {
     pub winner: Picked,
     pub v: u64,
     pub locked: Picked,
+    pub rule: Rule,
 }
 
 // After the scan of CPU k's queue, which found w: the choice, the clean-up, and the winner's key out of the queue.
@@ -99,6 +105,7 @@ fn apply_choice(
     requires { ⌜ (best-below n (w .«eligible_best»)) × (best-below n (w .«ineligible_best»)) ⌝ }
     ensures { λ r. ⌜ ((s : State) → Holding h s → Stage c n k (now (m .entry)) (now (m .exit)) false (choice-of r) (λ (a : State). chosen-after s (found (a .contexts) w (now (d .entry))) a) (λ (a : State). choice s (found (a .contexts) w (now (d .entry))))) ⌝ }
     ensures { λ r. ⌜ winner-below n (r .winner) ⌝ }
+    ensures { λ r. ⌜ ((s : State) → Holding h s → (M : Machine) → now (m .entry) ≡ encode M → Fits c n M → r .rule ≡ rule-of s false (found (M .contexts) w (now (d .entry)))) ⌝ }
 {
     let r = choice::choose(m, c, n, h, w);
     clean_up::clean_up(m, d, c, n, k, w.weight_change, w.contexts_to_remove, r.v);
@@ -120,6 +127,7 @@ pub fn select(
     requires { ⌜ (k < c) × (length (now scratch) ≡ key-words) ⌝ }
     ensures { λ r. ⌜ Stage c n k (now (m .entry)) (now (m .exit)) false (choice-of r) (λ (s : State). chosen (choice s (scanned k time s)) (scanned k time s) s) (λ (s : State). choice s (scanned k time s)) ⌝ }
     ensures { λ r. ⌜ winner-below n (r .winner) ⌝ }
+    ensures { λ r. ⌜ ((M : Machine) → now (m .entry) ≡ encode M → Fits c n M → r .rule ≡ rule-of (state-of k M) false (scanned k time (state-of k M))) ⌝ }
 {
     let b = stages::load_block(m, c, n, k);
     let h = read::holder(m, c, n, k, b);

@@ -21,7 +21,7 @@ use Rattle.machine.proofs.LookUps.{live, present}
 use Rattle.model.specs.Turn.{elapsed}
 use Rattle.model.specs.Accepted.{Call, by-tick, by-switch, by-direct-switch, outcome}
 use Rattle.admission.specs.Refusals.{decision-locked, is-late, decision-refusal, direct-refusal}
-use Rattle.schedule.specs.Decides.{Decides, DecidesAt}
+use Rattle.schedule.specs.Decides.{Told, Decides, DecidesAt}
 use Rattle.answer.specs.declared.Answer.{Answer}
 use Rattle.context_ops.specs.Reply.{replied}
 use Rattle.switch_ops.specs.declared.Decision.{Decision}
@@ -30,7 +30,7 @@ use Rattle.switch_ops.specs.Reply.{call-of, refusal, decide-on, decide-b
 use Rattle.numbers.specs.Limits.{max-elapsed}
 
 -- the code's enum d is one of its variants, e; full' and r' are full and r as numbers
-pub followed : {c n : ℕ} {m m' : List ℕ} {full full' : Bool} {r r' : ℕ} (k time : ℕ) (d e : Decision) → d ≡ e → (full' ≡ full) × (r' ≡ r)
+pub followed : {c n : ℕ} {m m' : List ℕ} {full full' : Bool} {r r' : Told} (k time : ℕ) (d e : Decision) → d ≡ e → (full' ≡ full) × (r' ≡ r)
     → Decides c n m m' full r (λ (M : Machine). outcome (call-of e) k time M) → Decides c n m m' full' r' (λ (M : Machine). outcome (call-of d) k time M)
 followed k time d e h g f = rw (h, g .0, g .1) f
 
@@ -42,19 +42,19 @@ decodes M o =
     in record { queue = f .queue; timers = f .timers; local = f .local; ipi = f .ipi })
 
 -- there was room
-pub room : {c n : ℕ} {m' : List ℕ} {r : ℕ} {a : Answer} (m : List ℕ) (o : Outcome) {full : Bool} → full ≡ false → DecidesAt c n m' full r o
-    → a ≡ record { refusal = 0; result = r; interrupt = 0 } → Replies m' a (replied m o) (o .machine)
+pub room : {c n : ℕ} {m' : List ℕ} {r : Told} {a : Answer} (m : List ℕ) (o : Outcome) {full : Bool} → full ≡ false → DecidesAt c n m' full r o
+    → a ≡ record { refusal = 0; result = r .result; interrupt = 0; rule = r .rule } → Replies m' a (replied m o) (o .machine)
 unfolding replied
 room {m' = m'} {r = r} m o t d h =
     let e : o .no-room ≡ false = sym (d .room) ∙ t
     in record {
-      replies = rw (e, d .interrupt, h) (λ i. record { answer = record { refusal = 0; result = d .result t i; interrupt = 0 }; image = d .after t i });
+      replies = rw (e, d .interrupt, h) (λ i. record { answer = record { refusal = 0; result = d .result t i .result; interrupt = 0; rule = d .result t i .rule }; image = d .after t i });
       leaves = λ z. ap decode (d .after t) ∙ decodes (o .machine) (d .fits t);
     }
 
 -- there was none
-pub no-room : {c n : ℕ} {m' m'' : List ℕ} {r : ℕ} {a : Answer} (m : List ℕ) (o : Outcome) {full : Bool} → full ≡ true → DecidesAt c n m' full r o
-    → a ≡ record { refusal = 9; result = 0; interrupt = 0 } → m'' ≡ m → Replies m'' a (replied m o) (o .machine)
+pub no-room : {c n : ℕ} {m' m'' : List ℕ} {r : Told} {a : Answer} (m : List ℕ) (o : Outcome) {full : Bool} → full ≡ true → DecidesAt c n m' full r o
+    → a ≡ record { refusal = 9; result = 0; interrupt = 0; rule = 0 } → m'' ≡ m → Replies m'' a (replied m o) (o .machine)
 unfolding replied
 no-room m o t d h e =
     record {
@@ -64,7 +64,7 @@ no-room m o t d h e =
 
 -- a refused call
 module _ (m : List ℕ) (M : Machine) (time : ℕ) (call : Call) where
-  pub refused-on : {a : Answer} (k r : ℕ) → r ≡ refusal call M k time → (r ≡ 0 → ⊥) → a ≡ record { refusal = r; result = 0; interrupt = 0 }
+  pub refused-on : {a : Answer} (k r : ℕ) → r ≡ refusal call M k time → (r ≡ 0 → ⊥) → a ≡ record { refusal = r; result = 0; interrupt = 0; rule = 0 }
       → Replies m a (decide-on m M k time call) ((outcome call k time M) .machine)
   unfolding decide-on
   refused-on {a} k r e n h =
@@ -80,7 +80,7 @@ module _ (m : List ℕ) (M : Machine) (time : ℕ) (call : Call) where
 
   -- p: what looking up the CPU gave
   module _ (cpu : ℕ) (p : CpuLookup) (hp : p ≡ get-percpu-block M cpu) where
-    pub absent : {a : Answer} → p ≡ Absent → a ≡ record { refusal = 5; result = 0; interrupt = 0 } → Replies m a (decide m M cpu time call) ((outcome call cpu time M) .machine)
+    pub absent : {a : Answer} → p ≡ Absent → a ≡ record { refusal = 5; result = 0; interrupt = 0; rule = 0 } → Replies m a (decide m M cpu time call) ((outcome call cpu time M) .machine)
     unfolding decide-by
     absent e h =
         record {
@@ -97,7 +97,7 @@ module _ (m : List ℕ) (M : Machine) (time : ℕ) (call : Call) where
 
 -- operation 3; l: what looking up the context gave
 module _ (m : List ℕ) (M : Machine) (cpu time context : ℕ) (l : Lookup) (hl : l ≡ look-up M context) where
-  pub gone : {a : Answer} → l ≡ Gone → a ≡ record { refusal = 5; result = 0; interrupt = 0 }
+  pub gone : {a : Answer} → l ≡ Gone → a ≡ record { refusal = 5; result = 0; interrupt = 0; rule = 0 }
       → Replies m a (direct-switch m M cpu time context) ((outcome (by-direct-switch context) cpu time M) .machine)
   unfolding direct-switch-by
   gone e h =

@@ -15,6 +15,8 @@ use Rattle.model.specs.Accepted.{Call, by-tick, by-switch, by-direct-switch, ou
 use Rattle.admission.specs.Refusals.{decision-refusal, direct-refusal}
 use Rattle.answer.specs.declared.Answer.{Answer}
 use Rattle.context_ops.specs.Reply.{Reply, reply, refuse, replied}
+use Rattle.schedule.specs.Decides.{Told, told}
+use Rattle.switch_ops.specs.declared.Followed.{Followed}
 use Rattle.switch_ops.specs.declared.Decision.{Decision}
 use Rattle.switch_ops.specs.declared.Decision.the-variants.{Tick, Switch, DirectSwitchTo}
 
@@ -23,6 +25,10 @@ abbrev pub call-of : Decision → Call
 call-of Tick = by-tick
 call-of Switch = by-switch
 call-of (DirectSwitchTo x) = by-direct-switch x
+
+-- what the code passes on of a call
+abbrev pub followed-told : Followed → Told
+followed-told f = told (f .result) (f .rule)
 
 -- refusals 6 to 8 of a call on CPU k, which is present; 0 for none
 abbrev pub refusal : Call → Machine → (k time : ℕ) → ℕ

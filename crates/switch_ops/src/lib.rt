@@ -19,10 +19,9 @@ ghost use Rattle.model.specs.Turn.{elapsed};
 ghost use Rattle.model.specs.Accepted.{by-tick, by-switch, by-direct-switch, outcome};
 ghost use Rattle.schedule.specs.Decides.{Decides};
 ghost use Rattle.context_ops.specs.Reply.{replied};
-ghost use Rattle.switch_ops.specs.Reply.{call-of, refusal, decide-on, decide, direct-switch, Replies, TargetBelow};
+ghost use Rattle.switch_ops.specs.Reply.{call-of, followed-told, refusal, decide-on, decide, direct-switch, Replies, TargetBelow};
 ghost use Rattle.numbers.specs.Limits.{max-number, max-elapsed};
-ghost use Rattle.answer.specs.Number.{result-number};
-ghost use Rattle.schedule.specs.Ticked.{ticked-full, ticked-number};
+ghost use Rattle.schedule.specs.Ticked.{decided-told, ticked-full, ticked-told};
 
 pub enum Decision {
     Tick,
@@ -30,39 +29,43 @@ pub enum Decision {
     DirectSwitchTo(usize),
 }
 
-fn accepted(result: u64) -> Answer
-    ensures { λ r. ⌜ r ≡ record { refusal = 0; result = result; interrupt = 0 } ⌝ }
+fn accepted(result: u64, rule: u64) -> Answer
+    ensures { λ r. ⌜ r ≡ record { refusal = 0; result = result; interrupt = 0; rule = rule } ⌝ }
 {
     Answer {
         refusal: 0,
         result,
         interrupt: 0,
+        rule,
     }
 }
 
-// whether an insertion found no room, and the number of the result
+// whether an insertion found no room, and the numbers of the result and of the rule
 struct Followed {
     full: bool,
     result: u64,
+    rule: u64,
 }
 
 fn of_switch(d: Decided) -> Followed
-    ensures { λ r. ⌜ (r .full ≡ d .full) × (r .result ≡ result-number (d .result)) ⌝ }
+    ensures { λ r. ⌜ (r .full ≡ d .full) × (followed-told r ≡ decided-told d) ⌝ }
 {
     let result = d.result;
     Followed {
         full: d.full,
         result: answer::result_number(result),
+        rule: d.rule,
     }
 }
 
 fn of_tick(t: Ticked) -> Followed
-    ensures { λ r. ⌜ (r .full ≡ ticked-full t) × (r .result ≡ ticked-number t) ⌝ }
+    ensures { λ r. ⌜ (r .full ≡ ticked-full t) × (followed-told r ≡ ticked-told t) ⌝ }
 {
     match t {
         Ticked::NotDue => Followed {
             full: false,
             result: 0,
+            rule: 0,
         },
         Ticked::Due(d) => of_switch(d),
     }
@@ -75,7 +78,7 @@ fn follow(m: &mut [u64], c: usize, n: usize, k: usize, time: u64, d: Decision) -
     requires { ⌜ TargetBelow n d ⌝ }
     requires { ⌜ Ranged c n max-number max-number (now m) ⌝ }
     requires { ⌜ ((M : Machine) → now m ≡ encode M → Fits c n M → elapsed time (cpu-at M k) ≤ max-elapsed) ⌝ }
-    ensures { λ r. ⌜ Decides c n (now (m .entry)) (now (m .exit)) (r .full) (r .result) (λ (M : Machine). outcome (call-of d) k time M) ⌝ }
+    ensures { λ r. ⌜ Decides c n (now (m .entry)) (now (m .exit)) (r .full) (followed-told r) (λ (M : Machine). outcome (call-of d) k time M) ⌝ }
 {
     match d {
         Decision::Tick => of_tick(schedule::tick(m, c, n, k, time)),
@@ -97,7 +100,7 @@ fn in_place(m: &mut [u64], c: usize, n: usize, k: usize, time: u64, d: Decision)
     ensures { λ r. ⌜ ((M : Machine) → now (m .entry) ≡ encode M → Fits c n M → Replies (now (m .exit)) r (replied (now (m .entry)) (outcome (call-of d) k time M)) ((outcome (call-of d) k time M) .machine)) ⌝ }
 {
     let r = follow(m, c, n, k, time, d);
-    accepted(r.result)
+    accepted(r.result, r.rule)
 }
 
 // The words are kept until it is known that there was room, and put back if not.
@@ -117,7 +120,7 @@ fn with_copy(m: &mut [u64], c: usize, n: usize, k: usize, time: u64, d: Decision
         words::copy(&saved, m, len);
         return answer::refused(9);
     }
-    accepted(r.result)
+    accepted(r.result, r.rule)
 }
 
 // A decision adds at most one item more than these lists have together.

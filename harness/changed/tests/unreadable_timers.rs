@@ -80,11 +80,11 @@ const SWITCH: Call = Call {
 fn left(image: &[u64]) -> [Vec<(u64, usize)>; 2] {
     assert_eq!(check::refusal(image, &SWITCH), 0);
     let (mut ours, mut theirs) = (image.to_vec(), image.to_vec());
-    let answers = [
-        changed::oracle::call(&mut ours, &SWITCH).unwrap(),
-        kernel::oracle::call(&mut theirs, &SWITCH).unwrap(),
-    ];
-    assert_eq!((answers[0].refusal, answers[0]), (0, answers[1]));
+    let answer = changed::oracle::call(&mut ours, &SWITCH).unwrap();
+    assert_eq!(answer.refusal, 0);
+    // The kernel names no rule.
+    let unnamed = Answer { rule: 0, ..answer };
+    assert_eq!(kernel::oracle::call(&mut theirs, &SWITCH).unwrap(), unnamed);
     // Woken or not, a context is as the kernel leaves it.
     assert_eq!(ours[..BLOCK], theirs[..BLOCK]);
     [timers(&ours), timers(&theirs)]

@@ -6,7 +6,7 @@ use crate::{
     list::{case, group_case, line, nonzero},
     recorded,
 };
-use image::{MAX_CONTEXTS, MAX_CPUS, OPERATIONS, View, check, decision, length};
+use image::{Answer, MAX_CONTEXTS, MAX_CPUS, OPERATIONS, RULES, View, check, decision, length};
 
 /// How many words of a generated image may be other than 0: the list stays short.
 const WORDS: usize = 160;
@@ -21,7 +21,7 @@ fn short(image: &[u64]) -> bool {
 }
 
 /// Prints the calls of a recorded list, and `each` generated ones of every operation, of
-/// groups, and of decisions with an unreadable due timer.
+/// groups, and of decisions with an unreadable due timer; a twentieth as many of each rule.
 pub fn calls(list: &str, seed: u64, each: u64) -> bool {
     let mut number = 0;
     let mut print = |text: String| {
@@ -34,7 +34,7 @@ pub fn calls(list: &str, seed: u64, each: u64) -> bool {
         }
     }
     let mut left = [each; OPERATIONS.len()];
-    take(Stream::new(seed), |next| {
+    take(Stream::new(seed), |next, _| {
         let wanted = left.get_mut(next.call.operation.wrapping_sub(1) as usize);
         if let Some(left) = wanted.filter(|left| short(&next.image) && **left > 0) {
             *left -= 1;
@@ -55,7 +55,7 @@ pub fn calls(list: &str, seed: u64, each: u64) -> bool {
         }
     }
     let mut left = each;
-    take(Stream::timers(seed), |next| {
+    take(Stream::timers(seed), |next, _| {
         let (call, image) = (&next.call, &next.image);
         let passes = || check::refusal(image, call) == 0;
         if short(image) && passes() && decision::unreadable_due(View(image), call) {
@@ -64,17 +64,28 @@ pub fn calls(list: &str, seed: u64, each: u64) -> bool {
         }
         left > 0
     });
+    let mut left = [each / 20; RULES.len()];
+    left[0] = 0;
+    take(Stream::rules(seed), |next, answer| {
+        let left_of = &mut left[answer.rule as usize];
+        if short(&next.image) && *left_of > 0 {
+            *left_of -= 1;
+            print(line(case(&next.call, &next.image)));
+        }
+        left.iter().any(|left| *left > 0)
+    });
     true
 }
 
-/// Goes through the cases of a stream for as long as more are wanted.
-fn take(mut stream: Stream, mut wanted: impl FnMut(&Case) -> bool) {
+/// Goes through the cases of a stream and their answers for as long as more are wanted.
+fn take(mut stream: Stream, mut wanted: impl FnMut(&Case, &Answer) -> bool) {
     loop {
         let next = stream.next();
-        if let Ok(Expected::Known(_, after)) = expected(&next.image, &next.call) {
-            stream.answered(&after);
-        }
-        if !wanted(&next) {
+        let Ok(Expected::Known(answer, after)) = expected(&next.image, &next.call) else {
+            panic!("the kernel is not there, or table and kernel disagree: use run");
+        };
+        stream.answered(&after);
+        if !wanted(&next, &answer) {
             return;
         }
     }

@@ -1,11 +1,14 @@
 //! What a call must answer: rows 1 to 8 by the own reading of the table, the rest by
 //! the kernel's run: by the changed build where a due timer is unreadable, else by the
-//! unchanged one.
+//! unchanged one. The rule of a decision is the one that the marks in the changed build note.
 
 use crate::ask::Ask;
 use image::Answer;
 #[cfg(feature = "oracle")]
-use image::{Call, Fault, View, block, decision};
+use {
+    crate::generate::weight,
+    image::{Call, Fault, View, block, decision, rule},
+};
 
 pub enum Expected {
     /// Answer and image after.
@@ -46,12 +49,37 @@ fn run(image: &[u64], ask: &impl Ask) -> Result<Expected, Contradiction> {
     };
     let mut after = image.to_vec();
     let answer = known(changed::oracle::call(&mut after, call))?;
-    if (answer, &after) != (want.0, &want.1) {
+    // Only the changed text notes a rule.
+    let unnamed = Answer { rule: 0, ..answer };
+    if (unnamed, &after) != (want.0, &want.1) {
         return Err(Contradiction(
             "the changed build departs from the kernel in more than the unreadable timers".into(),
         ));
     }
+    ruled(image, call, &answer, &after)?;
     Ok(Expected::Known(answer, after))
+}
+
+/// A rule is noted exactly where a decision is accepted; on a tidy machine it is that of the
+/// own reading.
+#[cfg(feature = "oracle")]
+fn ruled(image: &[u64], call: &Call, answer: &Answer, after: &[u64]) -> Result<(), Contradiction> {
+    let decided = answer.refusal == 0 && decision::is_made(View(image), call);
+    let noted = answer.rule;
+    if decided != (1..=9).contains(&noted) || !decided && noted != 0 {
+        let text =
+            format!("it is an accepted decision: {decided}, and its rule is noted as {noted}");
+        return Err(Contradiction(text));
+    }
+    if !decided || !rule::judges(View(image), call) {
+        return Ok(());
+    }
+    match rule::judged(View(image), call, View(after), weight) {
+        read if read == noted => Ok(()),
+        read => Err(Contradiction(format!(
+            "the kernel's rule is {noted}, and is read as {read}"
+        ))),
+    }
 }
 
 #[cfg(feature = "oracle")]

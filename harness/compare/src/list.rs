@@ -2,8 +2,8 @@
 //! and the kernel. A case is a line: operation, CPU, time, context, the image's length,
 //! how many of its words are not 0, and these as pairs of place and value. A line that
 //! begins with g wakes a group: CPU, time, mask, then the image as before. The answer is a
-//! line: refusal, result, interrupt mark, how many words the call changed, and these as
-//! pairs of place and new value. A line that begins with # is copied.
+//! line: refusal, result, interrupt mark, rule, how many words the call changed, and these
+//! as pairs of place and new value. A line that begins with # is copied.
 
 use crate::{
     ask::Ask,
@@ -32,7 +32,7 @@ fn put_image(numbers: &mut Vec<u64>, image: &[u64]) {
 
 /// The numbers of an answer.
 pub fn answer(answer: &Answer, before: &[u64], after: &[u64]) -> Vec<u64> {
-    let mut numbers = vec![answer.refusal, answer.result, answer.interrupt];
+    let mut numbers = vec![answer.refusal, answer.result, answer.interrupt, answer.rule];
     put_pairs(&mut numbers, &changes(before, after));
     numbers
 }

@@ -21,6 +21,7 @@ mod record;
 mod recorded;
 mod replay;
 mod report;
+mod rules;
 mod run;
 mod tally;
 #[cfg(feature = "oracle")]
@@ -41,6 +42,7 @@ fn main() -> ExitCode {
         ["run", seed, count] => run::run(number(seed), number(count)),
         ["chain", seed, calls] => run::chain(number(seed), number(calls)),
         ["timers", seed, count] => run::timers(number(seed), number(count)),
+        ["rules", seed, count] => run::rules(number(seed), number(count)),
         ["groups", seed, count] => run::groups(number(seed), number(count)),
         ["replay", list] => replay::replay(list),
         ["calls", recorded, seed, each] => calls::calls(recorded, number(seed), number(each)),

@@ -5,7 +5,8 @@ use crate::generate::{Case, Stream};
 use image::{Answer, View, check, decision};
 use std::{fs, hash::Hasher};
 
-/// Answer and image after by one build, the other is not asked: both may be edited.
+/// Answer and image after by one build, the rule by the changed one. They are not held to each
+/// other: both may be edited.
 fn answered(case: &Case) -> Option<(Answer, Vec<u64>)> {
     let mut after = case.image.clone();
     let refusal = check::refusal(&case.image, &case.call);
@@ -16,7 +17,19 @@ fn answered(case: &Case) -> Option<(Answer, Vec<u64>)> {
         true => changed::oracle::call(&mut after, &case.call),
         false => kernel::oracle::call(&mut after, &case.call),
     };
-    Some((answer.ok()?, after))
+    let rule = match check::decides(&case.call) {
+        true => {
+            changed::oracle::call(&mut case.image.clone(), &case.call)
+                .ok()?
+                .rule
+        }
+        false => 0,
+    };
+    let answer = Answer {
+        rule,
+        ..answer.ok()?
+    };
+    Some((answer, after))
 }
 
 /// A number for the answer and the image after; the image too, for the next case.
@@ -26,7 +39,13 @@ fn digest(case: &Case) -> (u64, Vec<u64>) {
         return (0, case.image.clone());
     };
     let mut hasher = std::hash::DefaultHasher::new();
-    for word in [answer.refusal, answer.result, answer.interrupt] {
+    let Answer {
+        refusal,
+        result,
+        interrupt,
+        rule,
+    } = answer;
+    for word in [refusal, result, interrupt, rule] {
         hasher.write_u64(word);
     }
     for word in &after {

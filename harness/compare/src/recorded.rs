@@ -40,6 +40,7 @@ pub fn words(path: &str) -> Vec<Recorded> {
                 refusal: next(),
                 result: next(),
                 interrupt: next(),
+                rule: next(),
             };
             let mut after = image.clone();
             read_pairs(&mut next, &mut after);
@@ -88,6 +89,7 @@ fn text(path: &str) -> Vec<Recorded> {
                 refusal: answer[0],
                 result: answer[1],
                 interrupt: answer[2],
+                rule: answer[3],
             },
             after,
         }
@@ -103,7 +105,7 @@ pub fn as_text(cases: &[Recorded]) -> String {
     let line = |case: &Recorded| {
         let (call, answer) = (&case.call, &case.answer);
         format!(
-            "{} {} {} {} | {} | {} {} {} | {}\n",
+            "{} {} {} {} | {} | {} {} {} {} | {}\n",
             call.operation,
             call.cpu,
             call.time,
@@ -112,6 +114,7 @@ pub fn as_text(cases: &[Recorded]) -> String {
             answer.refusal,
             answer.result,
             answer.interrupt,
+            answer.rule,
             pairs(changes(&case.image, &case.after)),
         )
     };

@@ -40,6 +40,7 @@ pub fn differences(case: &Case<impl Ask>, want: (&Answer, &[u64]), got: (&Answer
     row("refusal", want.0.refusal, got.0.refusal);
     row("result", want.0.result, got.0.result);
     row("interrupt mark", want.0.interrupt, got.0.interrupt);
+    row("rule", want.0.rule, got.0.rule);
     for (index, (want, got)) in want.1.iter().zip(got.1).enumerate() {
         if want != got {
             row(&word(&case.image, index), *want, *got);

@@ -24,6 +24,11 @@ pub fn timers(seed: u64, count: u64) -> bool {
     all(Stream::timers(seed), seed, count)
 }
 
+/// Decisions by rules that are seldom met otherwise.
+pub fn rules(seed: u64, count: u64) -> bool {
+    all(Stream::rules(seed), seed, count)
+}
+
 /// An edited kernel is no oracle.
 fn unedited() {
     #[cfg(feature = "oracle")]

@@ -1,6 +1,6 @@
 //! How many cases of each sort were compared.
 
-use crate::{due::Sorts, generate::Case, port};
+use crate::{due::Sorts, generate::Case, port, rules::Rules};
 use image::{Answer, Group, OPERATIONS, View};
 
 /// Of some of the cases: all, refused ones, those compared with the port.
@@ -37,6 +37,7 @@ pub struct Tally {
     chained: Counts,
     refusals: [u64; 10],
     due: Sorts,
+    rules: Rules,
 }
 
 impl Tally {
@@ -49,6 +50,7 @@ impl Tally {
         if matches!(answer.refusal, 0 | 9) {
             self.due.add(View(&case.image), &case.call);
         }
+        self.rules.add(case, answer);
         self.any(case.chained, answer);
     }
     pub fn group(&mut self, case: &Case<Group>, answer: &Answer) {
@@ -77,6 +79,7 @@ impl Tally {
             counts.print(&format!("{operation} {name}"));
         }
         self.due.print();
+        self.rules.print();
         self.print_rest();
     }
     pub fn print_groups(&self) {

@@ -1,15 +1,16 @@
 //! The machine image of document 01: places of its words, their names, and an own
-//! reading of the table of refused calls.
+//! reading of the table of refused calls, of decisions and of their rules.
 
 pub mod check;
 pub mod decision;
 pub mod name;
 mod places;
 pub mod ranges;
+pub mod rule;
 mod structure;
 pub mod tidy;
 
-pub use places::{block, context};
+pub use places::{RULES, block, context};
 
 pub const MAX_CPUS: u64 = 4;
 pub const MAX_CONTEXTS: u64 = 64;
@@ -55,6 +56,8 @@ pub struct Answer {
     pub refusal: u64,
     pub result: u64,
     pub interrupt: u64,
+    /// The number of the rule that decided, 0 where nothing was decided.
+    pub rule: u64,
 }
 
 impl Answer {

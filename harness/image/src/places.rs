@@ -168,3 +168,17 @@ pub mod block {
         ("ipi_context_wakeup_list", ""),
     ];
 }
+
+/// What the numbers of the rules stand for.
+pub const RULES: [&str; 10] = [
+    "no decision",
+    "first eligible entry",
+    "holder kept by its deadline",
+    "holder kept by its slice",
+    "holder alone eligible",
+    "holder with least virtual time",
+    "holder kept by deadline with nobody eligible",
+    "entry with least virtual time",
+    "stolen",
+    "idle",
+];

@@ -42,6 +42,7 @@ mod ptrace {
 pub mod branches;
 mod load;
 pub mod oracle;
+mod rule;
 mod store;
 
 /// Where the text was edited for the power table; empty in every other build.

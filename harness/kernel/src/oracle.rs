@@ -13,7 +13,7 @@ use crate::{
     ipi,
     load::{self, Machine},
     percpu::{self, PercpuBlock},
-    store,
+    rule, store,
     sync::CleanLockToken,
     time,
 };
@@ -49,8 +49,9 @@ pub fn call(image: &mut [u64], call: &Call) -> Result<Answer, Fault> {
             operation: 2,
             ..*call
         };
-        answer.result = run(&mut again, &switch)?.result;
-        if again != image {
+        let switched = run(&mut again, &switch)?;
+        answer.result = switched.result;
+        if again != image || switched.rule != answer.rule {
             return Err(Fault::Panics("a tick and its switch differ".into()));
         }
     }
@@ -109,6 +110,7 @@ impl Built {
     pub fn connect(&mut self, call: &Call) {
         ipi::take_wakeup();
         signal::take_called();
+        rule::take();
         time::set(call.time);
         connect(&mut self.0, call.cpu as usize);
     }
@@ -131,6 +133,7 @@ impl Built {
             refusal: 0,
             result,
             interrupt: ipi::take_wakeup().into(),
+            rule: rule::take(),
         }
     }
 }

@@ -46,6 +46,7 @@ fn accepted() {
         refusal: 0,
         result: 3,
         interrupt: 1,
+        rule: 0,
     };
     assert_eq!(answer, want);
     let mut after = machine();

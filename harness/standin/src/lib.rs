@@ -1,5 +1,5 @@
-//! Stands in for the port: the table, the kernel and, where a due timer is unreadable, its
-//! changed build behind the port's interface. The comparison is tried on it, and edits of
+//! Stands in for the port: the table, the kernel and, for the rule and where a due timer is
+//! unreadable, its changed build behind the port's interface. The comparison is tried on it, and edits of
 //! the table show whether it would see a port that reads the table otherwise.
 
 mod group;
@@ -28,12 +28,24 @@ pub unsafe extern "C" fn ronthuyal_call(
     if refusal != 0 {
         return Answer::refused(refusal);
     }
+    let rule = rule(words, &call);
     let answer = match decision::unreadable_due(View(words), &call) {
         true => changed::oracle::call(words, &call),
         false => kernel::oracle::call(words, &call),
     };
-    // No row has this number: an edited table let a call pass that has no answer.
-    answer.unwrap_or(Answer::refused(u64::MAX))
+    match answer {
+        Ok(answer) => Answer { rule, ..answer },
+        // No row has this number: an edited table let a call pass that has no answer.
+        Err(_) => Answer::refused(u64::MAX),
+    }
+}
+
+/// The changed build notes the rule of a decision.
+fn rule(words: &[u64], call: &Call) -> u64 {
+    match check::decides(call) {
+        true => changed::oracle::call(&mut words.to_vec(), call).map_or(0, |answer| answer.rule),
+        false => 0,
+    }
 }
 
 /// # Safety

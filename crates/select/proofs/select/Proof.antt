@@ -1,5 +1,5 @@
 use Rattle.model.specs.State.{state-of}
-use Rattle.select.proofs.Selecting.{sched-below, select-then}
+use Rattle.select.proofs.Selecting.{sched-below, select-rule, select-then}
 use native.Mathlib.Omega.{arith}
 use borrow.Author.Needs.{needs}
 use Rattle.select.proofs.select.Statement.{statement}
@@ -27,7 +27,7 @@ same-length-2 : tie.Need-same-length-2
 same-length-2 c = search needs
 
 returns : tie.Need-returns
-returns c = (select-then _ _ _ _ _ (c .before .before .before .before .before .before .before .before .before .before .before .before .before .before .before .before .before .before .before .pre .0) (c .before .before .before .before .before .before .before .before .before .before .before .before .before .before .before .before .before .before .before .pre .1 .0) (λ M e o. c .before .before .before .before .before .before .before .before .before .before .before .before .before .holder .ensures M e o (c .before .before .before .before .before .before .before .before .before .before .before .before .before .before .before .load-block .ensures M e o)) (λ M e o. c .before .before .before .before .before .before .before .before .before .before .before .before .scanner .ensures .0 (state-of _ M) (c .before .before .before .before .before .before .before .before .before .before .before .before .before .before .before .load-block .ensures M e o) (c .before .before .before .before .before .before .before .before .before .before .before .before .before .holder .ensures M e o (c .before .before .before .before .before .before .before .before .before .before .before .before .before .before .before .load-block .ensures M e o))) (c .before .before .before .before .before .before .before .before .before .scan-queue .ensures .0) (c .before .before .apply-choice .ensures .0), c .before .before .apply-choice .ensures .1)
+returns c = (select-then _ _ _ _ _ (c .before .before .before .before .before .before .before .before .before .before .before .before .before .before .before .before .before .before .before .pre .0) (c .before .before .before .before .before .before .before .before .before .before .before .before .before .before .before .before .before .before .before .pre .1 .0) (λ M e o. c .before .before .before .before .before .before .before .before .before .before .before .before .before .holder .ensures M e o (c .before .before .before .before .before .before .before .before .before .before .before .before .before .before .before .load-block .ensures M e o)) (λ M e o. c .before .before .before .before .before .before .before .before .before .before .before .before .scanner .ensures .0 (state-of _ M) (c .before .before .before .before .before .before .before .before .before .before .before .before .before .before .before .load-block .ensures M e o) (c .before .before .before .before .before .before .before .before .before .before .before .before .before .holder .ensures M e o (c .before .before .before .before .before .before .before .before .before .before .before .before .before .before .before .load-block .ensures M e o))) (c .before .before .before .before .before .before .before .before .before .scan-queue .ensures .0) (c .before .before .apply-choice .ensures .0), (c .before .before .apply-choice .ensures .1 .0, select-rule _ _ _ _ _ (λ M e o. c .before .before .before .before .before .before .before .before .before .before .before .before .before .holder .ensures M e o (c .before .before .before .before .before .before .before .before .before .before .before .before .before .before .before .load-block .ensures M e o)) (λ M e o. c .before .before .before .before .before .before .before .before .before .before .before .before .scanner .ensures .0 (state-of _ M) (c .before .before .before .before .before .before .before .before .before .before .before .before .before .before .before .load-block .ensures M e o) (c .before .before .before .before .before .before .before .before .before .before .before .before .before .holder .ensures M e o (c .before .before .before .before .before .before .before .before .before .before .before .before .before .before .before .load-block .ensures M e o))) (c .before .before .before .before .before .before .before .before .before .scan-queue .ensures .0) (c .before .before .apply-choice .ensures .1 .1)))
 
 pub select-spec : {M : Type 1} → statement M
 select-spec =

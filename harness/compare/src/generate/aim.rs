@@ -10,10 +10,10 @@ use super::{
 use image::{SLICE_MAX, block as b, context as c};
 
 /// What charging leaves of a runnable holder.
-struct Charged {
+pub struct Charged {
     vtime: u64,
-    vd: u64,
-    rem_slice: u64,
+    pub vd: u64,
+    pub rem_slice: u64,
 }
 
 fn charged(record: &[u64; c::WORDS], v: u64, elapsed: u64) -> Charged {
@@ -45,9 +45,7 @@ pub fn at_holder(rng: &mut Rng, machine: &mut Machine, at: usize, time: u64, tid
     }
     let earlier = !behind && rng.once_in(2);
     let word = machine.cpu[at].word;
-    let holder = machine.record[machine.cpu[at].sched()];
-    let elapsed = time.saturating_sub(word[b::SCHEDULE_TIME]).min(1 << 52);
-    let charged = charged(&holder, word[b::V], elapsed);
+    let charged = at_the_choice(machine, at, time);
     let mut changed = Vec::new();
     for entry in &mut machine.cpu[at].queue {
         if !rng.once_in(2) {
@@ -67,6 +65,20 @@ pub fn at_holder(rng: &mut Rng, machine: &mut Machine, at: usize, time: u64, tid
         }
         changed.push(*entry);
     }
+    follow(rng, machine, &changed, tidy);
+    machine.settle();
+}
+
+/// The holder here, if it is runnable, as a decision at this time finds it.
+pub fn at_the_choice(machine: &Machine, at: usize, time: u64) -> Charged {
+    let word = machine.cpu[at].word;
+    let holder = machine.record[machine.cpu[at].sched()];
+    let elapsed = time.saturating_sub(word[b::SCHEDULE_TIME]).min(1 << 52);
+    charged(&holder, word[b::V], elapsed)
+}
+
+/// Brings records to their changed entries; of an untidy machine not all.
+pub fn follow(rng: &mut Rng, machine: &mut Machine, changed: &[Entry], tidy: bool) {
     for entry in changed {
         let record = &mut machine.record[entry.context];
         let follows = record[c::GONE] == 0 && (tidy || !rng.once_in(3));
@@ -80,11 +92,10 @@ pub fn at_holder(rng: &mut Rng, machine: &mut Machine, at: usize, time: u64, tid
             record[c::QUEUE_KEY_REM_SLICE] = entry.rem_slice;
         }
     }
-    machine.settle();
 }
 
 /// A runnable holder that is eligible after a turn of its whole length.
-fn stay_behind(rng: &mut Rng, machine: &mut Machine, at: usize, time: u64) {
+pub fn stay_behind(rng: &mut Rng, machine: &mut Machine, at: usize, time: u64) {
     let sched = machine.cpu[at].sched();
     let word = &mut machine.cpu[at].word;
     let record = &mut machine.record[sched];

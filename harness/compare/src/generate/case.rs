@@ -13,7 +13,6 @@ pub enum Kind {
     Recorded,
 }
 
-#[cfg(feature = "branches")]
 pub const KINDS: [(Kind, &str); 5] = [
     (Kind::Tidy, "tidy"),
     (Kind::Untidy, "untidy"),
@@ -43,4 +42,6 @@ pub enum Choice {
     Chains,
     /// Machines with due timers that cannot be read.
     Timers,
+    /// Decisions by rules that are seldom met otherwise.
+    Rules,
 }

@@ -9,6 +9,7 @@ mod full;
 mod group;
 pub mod machine;
 pub mod rng;
+mod rules;
 mod seats;
 #[cfg(test)]
 mod tests;
@@ -17,10 +18,10 @@ mod timers;
 mod untidy;
 mod values;
 
-#[cfg(feature = "branches")]
-pub use case::KINDS;
-pub use case::{Case, Kind};
+pub use case::{Case, KINDS, Kind};
 pub use group::Groups;
+#[cfg(feature = "oracle")]
+pub use values::weight;
 
 use case::Choice;
 use image::{Call, NUMBER_MAX, View, block as b, check};
@@ -48,6 +49,9 @@ impl Stream {
     }
     pub fn timers(seed: u64) -> Self {
         Self::of(seed, Choice::Timers)
+    }
+    pub fn rules(seed: u64) -> Self {
+        Self::of(seed, Choice::Rules)
     }
     fn of(seed: u64, choice: Choice) -> Self {
         Self {
@@ -78,6 +82,7 @@ impl Stream {
             5..=10 => Kind::Untidy,
             11..=13 => Kind::Full,
             14..=18 if self.choice == Choice::Timers => Kind::Full,
+            14..=18 if self.choice == Choice::Rules => Kind::Tidy,
             14..=18 => Kind::Damaged,
             _ => Kind::Chain,
         };
@@ -118,7 +123,7 @@ impl Stream {
             _ => rng.once_in(2),
         };
         let mut aimed = rng.below(machine.cpu.len());
-        if self.choice == Choice::Timers {
+        if matches!(self.choice, Choice::Timers | Choice::Rules) {
             aimed = timers::aimed(rng, &machine);
         }
         if rng.once_in(2) {
@@ -126,6 +131,9 @@ impl Stream {
         }
         if rng.once_in(3) {
             aim::at_victims(rng, &mut machine, aimed);
+        }
+        if self.choice == Choice::Rules {
+            rules::put(rng, &mut machine, aimed, scale.time, !spoiled);
         }
         if spoiled {
             untidy::spoil(rng, &scale, &mut machine, aimed);
@@ -144,6 +152,8 @@ impl Stream {
         }
         if self.choice == Choice::Timers {
             timers::call(&mut self.rng, &mut call, aimed);
+        } else if self.choice == Choice::Rules {
+            rules::call(&mut self.rng, &mut call, aimed);
         } else if let Some(filled) = filled {
             // Only a wake-up from another CPU puts a name there.
             call.operation = 4;

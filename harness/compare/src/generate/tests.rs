@@ -28,6 +28,11 @@ fn kinds_of_timers() {
     kinds(Stream::timers(1));
 }
 
+#[test]
+fn kinds_of_rules() {
+    kinds(Stream::rules(1));
+}
+
 /// Half of the calls that are made for it are decisions with an unreadable due timer.
 #[test]
 fn unreadable() {

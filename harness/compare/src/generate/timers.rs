@@ -17,10 +17,7 @@ pub fn put(rng: &mut Rng, scale: &Scale, machine: &mut Machine, at: usize) {
     if rng.once_in(12) {
         seat_idle(machine, at);
     }
-    for seat in SEATS {
-        let context = machine.cpu[at].word[seat] as usize;
-        machine.record[context][c::LOCK] = 0;
-    }
+    free_seats(machine, at);
     let crowded = rng.once_in(4);
     for _ in 0..rng.within(1, 4) {
         let written = crowded || rng.once_in(2);
@@ -40,6 +37,14 @@ pub fn put(rng: &mut Rng, scale: &Scale, machine: &mut Machine, at: usize) {
 }
 
 const SEATS: [usize; 3] = [b::CURRENT_CTXT, b::SCHED_CTXT, b::IDLE_CTXT];
+
+/// A decision here then finds its own locks free.
+pub fn free_seats(machine: &mut Machine, at: usize) {
+    for seat in SEATS {
+        let context = machine.cpu[at].word[seat] as usize;
+        machine.record[context][c::LOCK] = 0;
+    }
+}
 
 /// Idle comes in charge, and current; who was is out.
 fn seat_idle(machine: &mut Machine, at: usize) {

@@ -2,10 +2,13 @@
 
 mod images;
 
-use crate::port;
-use image::{Answer, Call, NUMBER_MAX, View, check, tidy};
+use crate::{
+    expected::{Expected, expected},
+    port,
+};
+use image::{Answer, Call, NUMBER_MAX, View, tidy};
 use images::{CALL, Size};
-use kernel::oracle::{self, Built};
+use kernel::oracle::Built;
 use std::{hint::black_box, time::Instant};
 
 /// How many calls are timed together, and how often. Each call has an image and a machine
@@ -99,9 +102,10 @@ fn kernel_with_image(image: &mut [u64], _: &mut Built) {
 
 /// The decision must be the one that is meant, and the port's the kernel's.
 fn agrees(start: &[u64], result: u64) -> bool {
-    let (mut ours, mut theirs) = (start.to_vec(), start.to_vec());
-    assert_eq!(check::refusal(start, &CALL), 0);
-    let answer = oracle::call(&mut theirs, &CALL).expect("the kernel's answer");
+    let mut ours = start.to_vec();
+    let Ok(Expected::Known(answer, theirs)) = expected(start, &CALL) else {
+        panic!("table and kernel disagree: use run");
+    };
     assert_eq!((answer.refusal, answer.result), (0, result));
     assert!(tidy::holds(View(start)) || start[1] <= start[0]);
     assert!(plain(start, NUMBER_MAX));

@@ -1,3 +1,4 @@
+use Rattle.select.proofs.Ruling.{rule-none, rule-some}
 use Rattle.select.proofs.Choosing.{best-at, choice-none, choice-some, record-of}
 use native.Mathlib.Omega.{arith}
 use borrow.Author.Needs.{needs}
@@ -23,10 +24,10 @@ against-requires : tie.Need-against-requires
 against-requires c κs = search needs
 
 returns : tie.Need-returns
-returns c = (λ M e o s f H C. choice-none s f C (c .before .enum-told .given .1) (c .without-entry .ensures .0 s f H (C .late)), c .without-entry .ensures .1 _ (c .before .before .before .before .pre .1 .1))
+returns c = (λ M e o s f H C. choice-none s f C (c .before .enum-told .given .1) (c .without-entry .ensures .0 s f H (C .late)), (c .without-entry .ensures .1 .0 _ (c .before .before .before .before .pre .1 .1), λ M e o s f H C. rule-none s f C (c .before .enum-told .given .1) (c .without-entry .ensures .1 .1 s f H (C .late))))
 
 returns-2 : tie.Need-returns-2
-returns-2 c = (λ M e o s f H C. choice-some s f C (c .before .before .before .before .best .given .1) (c .against .ensures .0 s f H (record-of s f C (c .before .before .index .ensures) (c .before .load .ensures M e o)) (C .late)), c .against .ensures .1 (c .before .before .before .before .before .before .before .args .n) (best-at (c .before .before .before .before .before .before .before .args .n) (c .before .before .before .before .best .given .1) (c .before .before .before .before .before .before .before .pre .1 .0)))
+returns-2 c = (λ M e o s f H C. choice-some s f C (c .before .before .before .before .best .given .1) (c .against .ensures .0 s f H (record-of s f C (c .before .before .index .ensures) (c .before .load .ensures M e o)) (C .late)), (c .against .ensures .1 .0 (c .before .before .before .before .before .before .before .args .n) (best-at (c .before .before .before .before .before .before .before .args .n) (c .before .before .before .before .best .given .1) (c .before .before .before .before .before .before .before .pre .1 .0)), λ M e o s f H C. rule-some s f C (c .before .before .before .before .best .given .1) (c .against .ensures .1 .1 s f H (record-of s f C (c .before .before .index .ensures) (c .before .load .ensures M e o)))))
 
 pub choose-spec : {M : Type 1} → statement M
 choose-spec =

@@ -2,8 +2,8 @@ use lib.ListN.{length}
 use mathlib.Core.Path.{_≡_}
 use Prim.Native.Nat.{_-_, _≤_}
 use borrow.Author.Needs.{needs}
-use Rattle.replay.proofs.words.Statement.{statement}
-use Rattle.replay.proofs.words.Tie as tie
+use Rattle.replay.proofs.image.words.Statement.{statement}
+use Rattle.replay.proofs.image.words.Tie as tie
 
 abbrev Inv-loop : tie.InvT-loop
 Inv-loop s from k m₀ old₀ at₀ i₀ m old at i = (i ≤ k) × (length m ≡ length m₀) × (length old ≡ length old₀)

@@ -2,8 +2,8 @@ use lib.ListN.{length}
 use mathlib.Core.Path.{_≡_}
 use Prim.Native.Nat.{_-_, _≤_}
 use borrow.Author.Needs.{needs}
-use Rattle.replay.proofs.clear.Statement.{statement}
-use Rattle.replay.proofs.clear.Tie as tie
+use Rattle.replay.proofs.image.clear.Statement.{statement}
+use Rattle.replay.proofs.image.clear.Tie as tie
 
 abbrev Inv-loop : tie.InvT-loop
 Inv-loop m₀ i₀ m i = (i ≤ length m₀) × (length m ≡ length m₀)

@@ -1,15 +1,13 @@
-use mathlib.Core.Logic.{⊎-elim}
 use Prim.Native.Nat.{_-_, _≤_}
 use borrow.Author.Needs.{needs}
-use native.Mathlib.Omega.{arith}
-use Rattle.replay.proofs.differ.Statement.{statement}
-use Rattle.replay.proofs.differ.Tie as tie
+use Rattle.replay.proofs.image.show_changed.Statement.{statement}
+use Rattle.replay.proofs.image.show_changed.Tie as tie
 
 abbrev Inv-loop : tie.InvT-loop
-Inv-loop m old count₀ i₀ count i = (i ≤ 4327) × (count ≤ i)
+Inv-loop m old i₀ i = i ≤ 4327
 
 abbrev μ-loop : tie.MeasureT-loop
-μ-loop m old count₀ i₀ count i = 4327 - i
+μ-loop m old i₀ i = 4327 - i
 
 loop-holds : tie.Need-loop-holds Inv-loop μ-loop
 loop-holds c = search needs
@@ -20,8 +18,14 @@ get-requires c κs = search needs
 get-requires-2 : tie.Need-get-requires-2 Inv-loop μ-loop
 get-requires-2 c κs = search needs
 
-add-count : tie.Need-add-count Inv-loop μ-loop
-add-count c = search needs
+word-requires : tie.Need-word-requires Inv-loop μ-loop
+word-requires c κs = search needs
+
+show-requires : tie.Need-show-requires Inv-loop μ-loop
+show-requires c κs = search needs
+
+show-requires-2 : tie.Need-show-requires-2 Inv-loop μ-loop
+show-requires-2 c κs = search needs
 
 add-i : tie.Need-add-i Inv-loop μ-loop
 add-i c = search needs
@@ -30,13 +34,13 @@ loop-less : tie.Need-loop-less Inv-loop μ-loop
 loop-less c = search needs
 
 loop-again : tie.Need-loop-again Inv-loop μ-loop
-loop-again c = ⊎-elim (λ w. omega arith) (λ w. omega arith) (c .if1 .came)
+loop-again c = search needs
 
 returns : tie.Need-returns Inv-loop μ-loop
 returns c = search needs
 
-pub differ-spec : {M : Type 1} → statement M
-differ-spec =
+pub show-changed-spec : {M : Type 1} → statement M
+show-changed-spec =
     tie.close
     (tie.spec
     Inv-loop
@@ -44,7 +48,9 @@ differ-spec =
     loop-holds
     get-requires
     get-requires-2
-    add-count
+    word-requires
+    show-requires
+    show-requires-2
     add-i
     loop-less
     loop-again

@@ -2,8 +2,8 @@ use lib.ListN.{length}
 use mathlib.Core.Path.{_≡_}
 use Prim.Native.Nat.{_-_}
 use borrow.Author.Needs.{needs}
-use Rattle.replay.proofs.replay.Statement.{statement}
-use Rattle.replay.proofs.replay.Tie as tie
+use Rattle.replay.proofs.listed.replay.Statement.{statement}
+use Rattle.replay.proofs.listed.replay.Tie as tie
 
 abbrev Inv-loop : tie.InvT-loop
 Inv-loop s m₀ old₀ at₀ m old at = (length m ≡ length m₀) × (length old ≡ length old₀)

@@ -1,0 +1,1 @@
+// What the rule in a call's answer says: a theorem over the definitions of the calls, in proofs/.

@@ -1,0 +1,9 @@
+pub mod Numbers
+pub mod Victim
+pub mod Judging
+pub mod ByScan
+pub mod Called
+pub mod Found
+pub mod Robbed
+pub mod Words
+pub mod InDemand3

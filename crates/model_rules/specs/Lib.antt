@@ -1,0 +1,3 @@
+pub mod Met
+pub mod ByScan
+pub mod InDemand3

@@ -1,0 +1,107 @@
+// The cases of a text, one after the other.
+use crate::image;
+use crate::text;
+use answer::Answer;
+use libc::STDOUT_FILENO;
+
+struct Head {
+    cpu: u64,
+    time: u64,
+    // a context, or the mask of a group
+    named: u64,
+    length: u64,
+    words: u64,
+    // where the words begin in the text
+    end: usize,
+}
+
+fn read_head(s: &[u8], from: usize) -> Head {
+    let cpu = text::next(s, from);
+    let time = text::next(s, cpu.end);
+    let named = text::next(s, time.end);
+    let length = text::next(s, named.end);
+    let words = text::next(s, length.end);
+    Head {
+        cpu: cpu.value,
+        time: time.value,
+        named: named.value,
+        length: length.value,
+        words: words.value,
+        end: words.end,
+    }
+}
+
+fn prepare(s: &[u8], h: Head, m: &mut [u64], old: &mut [u64]) -> usize {
+    image::clear(m);
+    image::clear(old);
+    image::words(s, h.end, h.words, m, old)
+}
+
+fn play(m: &mut [u64], operation: u64, h: Head) -> Answer {
+    let n = numbers::index(h.length);
+    if n <= m.len() {
+        return ronthuyal::ronthuyal_call(&mut m[0..n], operation, h.cpu, h.time, h.named);
+    }
+    ronthuyal::ronthuyal_call(m, operation, h.cpu, h.time, h.named)
+}
+
+fn play_group(m: &mut [u64], h: Head) -> Answer {
+    let n = numbers::index(h.length);
+    if n <= m.len() {
+        return ronthuyal::ronthuyal_unblock_group(&mut m[0..n], h.cpu, h.time, h.named);
+    }
+    ronthuyal::ronthuyal_unblock_group(m, h.cpu, h.time, h.named)
+}
+
+// One case, and where the text goes on.
+fn case(s: &[u8], from: usize, m: &mut [u64], old: &mut [u64]) -> usize {
+    let operation = text::next(s, from);
+    let h = read_head(s, operation.end);
+    let end = prepare(s, h, m, old);
+    let a = play(m, operation.value, h);
+    image::answer(a, m, old);
+    end
+}
+
+// A case that wakes a group, from behind its g, and where the text goes on.
+fn group(s: &[u8], from: usize, m: &mut [u64], old: &mut [u64]) -> usize {
+    let h = read_head(s, from);
+    let end = prepare(s, h, m, old);
+    let a = play_group(m, h);
+    image::answer(a, m, old);
+    end
+}
+
+// A line that is printed as it is, and where the text goes on.
+fn comment(s: &[u8], from: usize) -> usize {
+    let end = text::line_end(s, from);
+    if from <= end {
+        if end <= s.len() {
+            io::write_all(STDOUT_FILENO, &s[from..end]);
+        }
+    }
+    io::write_all(STDOUT_FILENO, b"\n");
+    end
+}
+
+fn item(s: &[u8], from: usize, m: &mut [u64], old: &mut [u64]) -> usize {
+    if text::is_comment(s, from) {
+        return comment(s, from);
+    }
+    let behind = text::after_group(s, from);
+    if from < behind {
+        return group(s, behind, m, old);
+    }
+    case(s, from, m, old)
+}
+
+pub fn replay(s: &[u8], m: &mut [u64], old: &mut [u64]) {
+    let mut at = text::skip(s, 0);
+    while at < s.len() {
+        let next = text::skip(s, item(s, at, m, old));
+        if next <= at {
+            return;
+        }
+        at = next;
+    }
+}
