@@ -19,9 +19,9 @@ use Rattle.percpu.specs.Layout.{cpu-of, entry-at, timer-at, counter, no-entry, 
 use Rattle.machine.specs.Machine.{Machine, context-at, cpu-at}
 use Rattle.machine.specs.Encode.{decode, encode, context-place, cpu-place}
 use Rattle.machine.specs.Shape.{Fits}
-use Rattle.image.specs.Ranges.{context-in-range, context-most, block-most, array-most, array-most-to, block-most-to, context-most-to}
+use Rattle.image_ranges.specs.Ranges.{context-in-range, context-most, block-most, array-most, array-most-to, block-most-to, context-most-to}
 use Rattle.image.specs.Refusal.{size-c, size-n}
-use Rattle.image.proofs.InRange.{BlockInRange, context-at-most}
+use Rattle.image_ranges.proofs.InRange.{BlockInRange, context-at-most}
 use Rattle.image.proofs.Admitted.{Passed, a-context, a-block, decoded, decoded-fits}
 use Rattle.stages.specs.Stage.{ContextBelow, CpuBelow, Below, Ranged}
 use Rattle.admission.proofs.Soundness.{contexts-are, cpus-are}

@@ -25,10 +25,10 @@ use Rattle.percpu.specs.Layout.{cpu-of, entry-at, timer-at, no-entry, no-timer}
 use Rattle.machine.specs.Machine.{Machine, context-at, cpu-at, no-context, no-cpu}
 use Rattle.machine.specs.Encode.{encode, decode, context-place, cpu-place}
 use Rattle.machine.specs.Shape.{CpuFits, Fits}
-use Rattle.image.specs.Ranges.{block-most-to}
-use Rattle.image.specs.Structure.{id-of, is-live, is-new, ids-differ, names-live, entry-ids, structure}
+use Rattle.image_ranges.specs.Ranges.{block-most-to}
+use Rattle.image_structure.specs.Structure.{id-of, is-live, is-new, ids-differ, names-live, entry-ids, structure}
 use Rattle.image.specs.Refusal.{size-c, size-n, image-refusal}
-use Rattle.image.proofs.InRange.{BlockInRange}
+use Rattle.image_ranges.proofs.InRange.{BlockInRange}
 use Rattle.image.proofs.Admitted.{Passed, BlockStructure, block-structure-of, decoded-fits, a-block}
 use Rattle.model.specs.Tidy.{IsContext, Live, Present, Sound, context}
 use Rattle.percpu.specs.Places.{key-ctxt-id-column, entry-context-ref-column, block-size}

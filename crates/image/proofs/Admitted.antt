@@ -20,10 +20,10 @@ use Rattle.machine.specs.Machine.{Machine, context-at, cpu-at, no-context, no-c
 use Rattle.machine.specs.Encode.{encode, decode, context-place, cpu-place}
 use Rattle.machine.specs.Shape.{ContextFits, CpuFits, Fits, Image}
 use Rattle.machine.proofs.Encoded.{WholeImage, encode-decode}
-use Rattle.image.specs.Ranges.{context-in-range, block-in-range, contexts-in-range, blocks-in-range, blocks-in-range-to, contexts-in-range-to}
-use Rattle.image.specs.Structure.{structure, block-structure, ids-differ, names-live, entry-ids, keys-rise, timers-rise}
+use Rattle.image_ranges.specs.Ranges.{context-in-range, block-in-range, contexts-in-range, blocks-in-range, blocks-in-range-to, contexts-in-range-to}
+use Rattle.image_structure.specs.Structure.{structure, block-structure, ids-differ, names-live, entry-ids, keys-rise, timers-rise}
 use Rattle.image.specs.Refusal.{size-c, size-n, in-bounds, ranges, sized-refusal, image-refusal, ranges-to}
-use Rattle.image.proofs.InRange.{whole-context, context-fits, Rising, BlockInRange, in-range, whole-block, cpu-fits}
+use Rattle.image_ranges.proofs.InRange.{whole-context, context-fits, Rising, BlockInRange, in-range, whole-block, cpu-fits}
 use Rattle.percpu.specs.Places.{block-size}
 use Rattle.numbers.specs.Limits.{max-number}
 

@@ -5,8 +5,8 @@ use mathlib.Core.List.{List}
 use lib.Dec.{ltb, leb, eqb}
 use lib.ListN.{length, getD}
 use Rattle.columns.specs.Common.{if_then_else_}
-use Rattle.image.specs.Ranges.{contexts-in-range-to, blocks-in-range-to}
-use Rattle.image.specs.Structure.{structure}
+use Rattle.image_ranges.specs.Ranges.{contexts-in-range-to, blocks-in-range-to}
+use Rattle.image_structure.specs.Structure.{structure}
 use Rattle.machine.specs.Encode.{cpu-place}
 use Rattle.numbers.specs.Limits.{max-number}
 

@@ -1,8 +1,4 @@
 // Refusals 1 to 4 of document 01: the sizes, the length, every word's range, and the structure.
-mod ranges;
-mod records;
-mod structure;
-
 ghost use mathlib.Core.Path.{_≡_};
 ghost use mathlib.Core.Bool.{Bool, true, false};
 ghost use Prim.Native.Nat.{ℕ, _+_, _*_, _<_, _≤_};
@@ -30,10 +26,10 @@ fn in_ranges(m: &[u64], time: u64) -> bool
     }
     let c = numbers::index(m[0]);
     let n = numbers::index(m[1]);
-    if !records::contexts_in_range(m, m[0], n) {
+    if !image_ranges::contexts_in_range(m, m[0], n) {
         return false;
     }
-    ranges::blocks_in_range(m, c, n)
+    image_ranges::blocks_in_range(m, c, n)
 }
 
 // Refusals 2 to 4, of an image whose sizes are in their bounds.
@@ -49,7 +45,7 @@ fn sized_refusal(m: &[u64], time: u64) -> u64
     if !in_ranges(m, time) {
         return 3;
     }
-    if !structure::structure(m, c, n) {
+    if !image_structure::structure(m, c, n) {
         return 4;
     }
     0

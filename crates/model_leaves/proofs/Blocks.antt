@@ -18,7 +18,7 @@ use Rattle.percpu.specs.Cpu.{Cpu}
 use Rattle.percpu.specs.Words.{block-words, block-of}
 use Rattle.percpu.specs.Layout.{counts, columns, cpu-words, counter, front-length}
 use Rattle.machine.specs.Machine.{context-at, no-cpu}
-use Rattle.image.specs.Ranges.{within, zero-words, block-most-to, array-least, array-most-to, array-in-range-to, block-in-range-to}
+use Rattle.image_ranges.specs.Ranges.{within, zero-words, block-most-to, array-least, array-most-to, array-in-range-to, block-in-range-to}
 use Rattle.model.proofs.Lists.{all-at, all-in, all-map}
 use Rattle.model_leaves.proofs.WellFormed.{EntryFormed, TimerFormed, NamesFormed, view, CpuFormed, Room, Stands, absent, present}
 use Rattle.model_leaves.proofs.Words.{present-word, mark-most, state-most, within-front, used-all, unused-rest}

@@ -21,7 +21,7 @@ use Rattle.percpu.specs.Layout.{cpu-of, no-entry, no-timer}
 use Rattle.machine.specs.Machine.{Machine, cpu-at}
 use Rattle.machine.specs.Encode.{decode, context-place, cpu-place}
 use Rattle.machine.specs.Shape.{CpuFits, Fits}
-use Rattle.image.specs.Structure.{is-live, names-live}
+use Rattle.image_structure.specs.Structure.{is-live, names-live}
 use Rattle.image.specs.Refusal.{size-c, size-n}
 use Rattle.image.proofs.Admitted.{Passed, a-context, a-block, block-structure-of, decoded-fits}
 use Rattle.model.proofs.Lists.{all-in}

@@ -21,9 +21,9 @@ use Rattle.percpu.specs.Cpu.{Cpu}
 use Rattle.percpu.specs.Words.{block-of}
 use Rattle.percpu.specs.Layout.{cpu-of, entry-at, counter, no-entry}
 use Rattle.machine.specs.Machine.{no-cpu}
-use Rattle.image.specs.Ranges.{within, gone-most, context-most-to, wake-marked, key-marked, context-in-range, context-in-range-to, block-most-to, array-most-to}
-use Rattle.image.proofs.Checked.{within-at}
-use Rattle.image.proofs.InRange.{BlockInRange, context-at-most}
+use Rattle.image_ranges.specs.Ranges.{within, gone-most, context-most-to, wake-marked, key-marked, context-in-range, context-in-range-to, block-most-to, array-most-to}
+use Rattle.image_ranges.proofs.Checked.{within-at}
+use Rattle.image_ranges.proofs.InRange.{BlockInRange, context-at-most}
 use Rattle.model_leaves.proofs.WellFormed.{gone-context, ContextFormed, present}
 use Rattle.numbers.specs.Limits.{max-number, max-word}
 use Rattle.weights.specs.Weights.{full-slice}

@@ -14,10 +14,10 @@ use Rattle.columns.proofs.Tests.{by-test, every-at, and-both}
 use Rattle.columns.proofs.Tabulate.{part-get}
 use Rattle.percpu.specs.Layout.{counter}
 use Rattle.machine.specs.Encode.{context-place, cpu-place}
-use Rattle.image.specs.Ranges.{within, context-most-to, context-in-range-to, block-most-to, array-least, array-most-to, used, unused, array-in-range-to, block-in-range-to, contexts-in-range-to, blocks-in-range-to}
+use Rattle.image_ranges.specs.Ranges.{within, context-most-to, context-in-range-to, block-most-to, array-least, array-most-to, used, unused, array-in-range-to, block-in-range-to, contexts-in-range-to, blocks-in-range-to}
 use Rattle.image.specs.Refusal.{size-c, size-n, ranges-to}
 use Rattle.image.specs.Raised.{context-raised, block-raised, array-raised, RaisedAtMost}
-use Rattle.image.proofs.Checked.{within-at, count-most}
+use Rattle.image_ranges.proofs.Checked.{within-at, count-most}
 use Rattle.model.specs.Steal.{member}
 use Rattle.model.proofs.Cases.{or-either}
 use Rattle.model.proofs.Lists.{all-at}

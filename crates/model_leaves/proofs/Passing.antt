@@ -21,7 +21,7 @@ use Rattle.percpu.proofs.Read.{column-get}
 use Rattle.machine.specs.Machine.{Machine, context-at, cpu-at, no-cpu}
 use Rattle.machine.specs.Encode.{encode, context-place, cpu-place}
 use Rattle.machine.proofs.Places.{length-encode, size-cpus, size-contexts}
-use Rattle.image.specs.Ranges.{context-in-range-to, block-in-range-to, contexts-in-range-to, blocks-in-range-to}
+use Rattle.image_ranges.specs.Ranges.{context-in-range-to, block-in-range-to, contexts-in-range-to, blocks-in-range-to}
 use Rattle.image.specs.Refusal.{size-c, size-n, in-bounds, ranges-to, ranges, sized-refusal, image-refusal}
 use Rattle.image.specs.Raised.{block-raised, array-raised, RaisedAtMost}
 use Rattle.stages.proofs.Fitting.{all-of}

@@ -21,7 +21,7 @@ use Rattle.machine.specs.Machine.{Machine, context-at, cpu-at, set-context, set
 use Rattle.machine.specs.Encode.{decode}
 use Rattle.machine.specs.Outcome.{Outcome}
 use Rattle.machine.proofs.Steps.{getD-set}
-use Rattle.image.specs.Ranges.{block-most-to}
+use Rattle.image_ranges.specs.Ranges.{block-most-to}
 use Rattle.image.specs.Refusal.{size-c, size-n}
 use Rattle.image.proofs.Admitted.{Passed, a-block}
 use Rattle.model.proofs.Cases.{pick}

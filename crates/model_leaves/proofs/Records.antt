@@ -11,7 +11,7 @@ use Rattle.columns.proofs.Tests.{by-test}
 use Rattle.context.specs.declared.Context.{Context}
 use Rattle.context.specs.Status.{status-of}
 use Rattle.context.specs.Words.{context-words, context-of, record-size}
-use Rattle.image.specs.Ranges.{within, gone-most, context-most-to, wake-marked, key-marked, context-in-range-to}
+use Rattle.image_ranges.specs.Ranges.{within, gone-most, context-most-to, wake-marked, key-marked, context-in-range-to}
 use Rattle.model_leaves.proofs.WellFormed.{gone-context, ContextFormed}
 use Rattle.model_leaves.proofs.Words.{mark-most, status-most, within-front}
 use Rattle.numbers.specs.Limits.{max-id}

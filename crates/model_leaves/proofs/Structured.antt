@@ -23,7 +23,7 @@ use Rattle.table.proofs.Rising.{rises}
 use Rattle.machine.specs.Machine.{Machine, context-at, cpu-at, no-context, no-cpu}
 use Rattle.machine.specs.Encode.{encode, context-place, cpu-place}
 use Rattle.machine.proofs.Places.{context-part, cpu-part}
-use Rattle.image.specs.Structure.{id-of, is-live, is-new, ids-differ, names-live, entry-ids, keys-rise, timers-rise, block-structure, structure}
+use Rattle.image_structure.specs.Structure.{id-of, is-live, is-new, ids-differ, names-live, entry-ids, keys-rise, timers-rise, block-structure, structure}
 use Rattle.stages.proofs.Fitting.{of-all}
 use Rattle.model_leaves.proofs.WellFormed.{LiveName, EntryFormed, view, CpuFormed, Room, Stands, absent, present, WellFormed}
 use Rattle.model_leaves.proofs.Words.{every-of, present-word}

@@ -21,7 +21,7 @@ use Rattle.cpu_stats.specs.Words.{stats-words}
 use Rattle.percpu.specs.Cpu.{Cpu}
 use Rattle.percpu.specs.Words.{block-words}
 use Rattle.percpu.specs.Layout.{cpu-words}
-use Rattle.image.specs.Ranges.{within, used, unused}
+use Rattle.image_ranges.specs.Ranges.{within, used, unused}
 use Rattle.stages.proofs.Fitting.{of-all}
 
 pub every-of : (f : ℕ → Bool) (n : ℕ) → ((i : ℕ) → i < n → f i ≡ true) → every f n ≡ true

@@ -7,7 +7,7 @@ use native.Mathlib.Omega.{arith}
 use lib.Dec.{eqb}
 use lib.ListN.{length}
 use borrow.Author.Tests.{le-leb, le-ltb, lt-ltb, eq-eqb}
-use Rattle.image.specs.Structure.{structure}
+use Rattle.image_structure.specs.Structure.{structure}
 use Rattle.image.specs.Refusal.{size-c, size-n, in-bounds, ranges, sized-refusal, image-refusal}
 use Rattle.image.specs.Raised.{RaisedAtMost}
 use Rattle.image.proofs.Admitted as admitted

@@ -4,7 +4,7 @@ use mathlib.Core.Bool.{true}
 use mathlib.Core.List.{List}
 use Prim.Native.Nat.{ℕ}
 use lib.ListN.{length}
-use Rattle.image.specs.Structure.{structure}
+use Rattle.image_structure.specs.Structure.{structure}
 use Rattle.image.specs.Refusal.{size-c, size-n, ranges-to}
 use Rattle.machine.specs.Encode.{cpu-place}
 

@@ -31,7 +31,7 @@ use Rattle.stages.proofs.Kept.{ranged-stage}
 use Rattle.picked.specs.declared.Picked.{Picked}
 use Rattle.picked.specs.declared.Picked.the-variants.{Nobody, Somebody}
 use Rattle.picked.specs.Names.{picked-of}
-use Rattle.select.specs.Values.{winner-below}
+use Rattle.select_judge.specs.Values.{winner-below}
 use Rattle.select.proofs.Bounded.{below-chosen}
 use Rattle.steal.specs.Moves.{machine-of, StealsAt, Steals}
 use Rattle.steal.proofs.Bounded.{steal-ranged}

@@ -25,10 +25,10 @@ use Rattle.stages.specs.Read.{BlockFits}
 use Rattle.stages.proofs.Reading.{stage-none}
 use Rattle.stages.proofs.Compose.{stage-then, stage-as}
 use Rattle.picked.specs.declared.Picked.{Picked}
-use Rattle.select.specs.Values.{winner-below}
+use Rattle.select_judge.specs.Values.{winner-below}
 use Rattle.select.specs.Scanning.{key-at, keys-in}
 use Rattle.select.specs.Cleaning.{lightened, remove-keys, cleaned}
-use Rattle.select.proofs.Judging.{other}
+use Rattle.select_judge.proofs.Judging.{other}
 use Rattle.select.proofs.Walking.{fold-append}
 use Rattle.context.specs.Key.{queue-key, without-key}
 

@@ -1,6 +1,3 @@
-pub mod Judging
-pub mod Choosing
-pub mod Ruling
 pub mod Keys
 pub mod Visiting
 pub mod Visited

@@ -19,12 +19,12 @@ use Rattle.model.specs.Rule.{rule-of}
 use Rattle.model.specs.Schedule.{scanned}
 use Rattle.stages.specs.Stage.{put-state, Stage, Staged}
 use Rattle.stages.proofs.Compose.{staged, stage-then, stage-as}
-use Rattle.select.specs.declared.MinVtime.{MinVtime}
-use Rattle.select.specs.declared.Holder.{Holder}
-use Rattle.select.specs.declared.Scanner.{Scanner}
-use Rattle.select.specs.declared.Scanned.{Scanned}
-use Rattle.select.specs.Values.{vtime-of, cpu-with}
-use Rattle.select.specs.Holding.{Holding, Scanning, Chosen}
+use Rattle.select_judge.specs.declared.MinVtime.{MinVtime}
+use Rattle.select_judge.specs.declared.Holder.{Holder}
+use Rattle.select_judge.specs.declared.Scanner.{Scanner}
+use Rattle.select_judge.specs.declared.Scanned.{Scanned}
+use Rattle.select_judge.specs.Values.{vtime-of, cpu-with}
+use Rattle.select_judge.specs.Holding.{Holding, Scanning, Chosen}
 use Rattle.select.specs.Scanning.{scan-by, keys-in, found, Scans}
 use Rattle.select.specs.Cleaning.{cleaned, chosen-after}
 use Rattle.select.proofs.Cleaning.{put-contexts, cleaned-is}

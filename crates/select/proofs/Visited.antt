@@ -15,12 +15,12 @@ use Rattle.machine.specs.Encode.{encode}
 use Rattle.machine.specs.Shape.{Fits, Image, Went}
 use Rattle.model.specs.Scan.{Scan, below, ineligible-min-vtime, is-eligible, pass, gone, blocked, no-addr-space, ready, visited}
 use Rattle.model.specs.Scan as scan
-use Rattle.select.specs.declared.Best.{Best}
-use Rattle.select.specs.declared.Best.the-variants.{Nobody, Found}
-use Rattle.select.specs.declared.Visit.{Visit}
-use Rattle.select.specs.declared.Scanner.{Scanner}
-use Rattle.select.specs.declared.Scanned.{Scanned}
-use Rattle.select.specs.Values.{vtime-of, best-of, best-below, visit-of, scanner-cpu, picked}
+use Rattle.select_judge.specs.declared.Best.{Best}
+use Rattle.select_judge.specs.declared.Best.the-variants.{Nobody, Found}
+use Rattle.select_judge.specs.declared.Visit.{Visit}
+use Rattle.select_judge.specs.declared.Scanner.{Scanner}
+use Rattle.select_judge.specs.declared.Scanned.{Scanned}
+use Rattle.select_judge.specs.Values.{vtime-of, best-of, best-below, visit-of, scanner-cpu, picked}
 use Rattle.select.specs.Scanning.{visit-fits, visited-by, keys-in, found, ScansAt, Scans, given-up, Room, Grown}
 use Rattle.weights.specs.Weights.{max-weight}
 

@@ -22,11 +22,11 @@ use Rattle.machine.specs.Machine.{Machine, context-at}
 use Rattle.machine.specs.Encode.{encode}
 use Rattle.machine.specs.Shape.{ContextFits, Fits, Image}
 use Rattle.model.specs.Scan.{Scan, Visit, pass, gone, above, is-of, ineligible-min-vtime, is-eligible, by-update, judge, visit}
-use Rattle.select.specs.declared.Best.{Best}
-use Rattle.select.specs.declared.Scanner.{Scanner}
-use Rattle.select.specs.Values.{vtime-of, scanner-cpu}
+use Rattle.select_judge.specs.declared.Best.{Best}
+use Rattle.select_judge.specs.declared.Scanner.{Scanner}
+use Rattle.select_judge.specs.Values.{vtime-of, scanner-cpu}
 use Rattle.select.specs.Scanning.{visit-by, seen, visit-fits}
-use Rattle.select.proofs.Judging.{other}
+use Rattle.select_judge.proofs.Judging.{other}
 
 -- e is met by a scan s over the contexts of M
 module _ (k time : ℕ) (p : Cpu) (h : Option ℕ) (s : Scan) (e : Entry) where

@@ -20,11 +20,11 @@ use Rattle.machine.proofs.LookUps.{block-word}
 use Rattle.model.specs.State.{is-some}
 use Rattle.model.proofs.EarlyExit.{fold-still}
 use Rattle.model.specs.Scan.{Scan, Visit, visit, scan-step, scan-start, scan}
-use Rattle.select.specs.declared.Best.{Best}
-use Rattle.select.specs.declared.Best.the-variants.{Nobody, Found}
-use Rattle.select.specs.declared.Scanner.{Scanner}
-use Rattle.select.specs.declared.Scanned.{Scanned}
-use Rattle.select.specs.Values.{vtime-of, best-of, best-below, scanner-cpu}
+use Rattle.select_judge.specs.declared.Best.{Best}
+use Rattle.select_judge.specs.declared.Best.the-variants.{Nobody, Found}
+use Rattle.select_judge.specs.declared.Scanner.{Scanner}
+use Rattle.select_judge.specs.declared.Scanned.{Scanned}
+use Rattle.select_judge.specs.Values.{vtime-of, best-of, best-below, scanner-cpu}
 use Rattle.select.specs.Scanning.{visit-by, visited-by, step-by, scan-by, seen, keys-in, found, Scans, Room, Grown, key-words}
 use Rattle.select.proofs.Visited.{scans, at-as, scans-as}
 use Rattle.weights.specs.Weights.{max-weight}

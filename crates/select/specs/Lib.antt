@@ -1,4 +1,2 @@
-pub mod Values
-pub mod Holding
 pub mod Scanning
 pub mod Cleaning

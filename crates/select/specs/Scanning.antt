@@ -11,11 +11,11 @@ use Rattle.machine.specs.Machine.{Machine, with-contexts}
 use Rattle.machine.specs.Encode.{encode}
 use Rattle.machine.specs.Shape.{ContextFits, Fits, Image}
 use Rattle.model.specs.Scan.{Scan, Visit, pass, gone, blocked, no-addr-space, ready, visit, visited, scan-step, scan}
-use Rattle.select.specs.declared.Best.{Best}
-use Rattle.select.specs.declared.Best.the-variants.{Nobody}
-use Rattle.select.specs.declared.Scanner.{Scanner}
-use Rattle.select.specs.declared.Scanned.{Scanned}
-use Rattle.select.specs.Values.{vtime-of, best-of, best-below, scanner-cpu}
+use Rattle.select_judge.specs.declared.Best.{Best}
+use Rattle.select_judge.specs.declared.Best.the-variants.{Nobody}
+use Rattle.select_judge.specs.declared.Scanner.{Scanner}
+use Rattle.select_judge.specs.declared.Scanned.{Scanned}
+use Rattle.select_judge.specs.Values.{vtime-of, best-of, best-below, scanner-cpu}
 use Rattle.weights.specs.Weights.{max-weight}
 
 -- the scan by what the code goes by

@@ -9,7 +9,7 @@ ghost use Rattle.model.specs.State.{State};
 ghost use Rattle.model.specs.Choice.{dequeued, taken-out};
 ghost use Rattle.stages.specs.Stage.{Staged};
 ghost use Rattle.picked.specs.Names.{picked-of};
-ghost use Rattle.select.specs.Values.{winner-below};
+ghost use Rattle.select_judge.specs.Values.{winner-below};
 ghost use Rattle.select.specs.Scanning.{key-at, keys-in, key-words};
 ghost use Rattle.select.specs.Cleaning.{lightened, remove-keys, cleaned};
 ghost use Rattle.context.specs.Key.{queue-key};

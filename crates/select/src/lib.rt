@@ -2,14 +2,12 @@
 // In every function m is the image of a machine of c CPUs and n contexts.
 mod choice;
 mod clean_up;
-mod judge;
 mod read;
 mod scan;
 
-use answer::Rule;
-use context::Context;
-use entries::Entry;
-use picked::Picked;
+use select_judge::Holder;
+use select_judge::Scanned;
+use select_judge::Selected;
 ghost use mathlib.Core.Path.{_≡_};
 ghost use mathlib.Core.Bool.{false};
 ghost use Prim.Native.Nat.{_<_, _≤_};
@@ -22,73 +20,13 @@ ghost use Rattle.model.specs.Choice.{choice, chosen};
 ghost use Rattle.model.specs.Rule.{rule-of};
 ghost use Rattle.model.specs.Schedule.{scanned};
 ghost use Rattle.stages.specs.Stage.{Stage};
-ghost use Rattle.select.specs.Values.{choice-of, best-below, winner-below};
+ghost use Rattle.select_judge.specs.Values.{choice-of, best-below, winner-below};
 ghost use Rattle.select.specs.Scanning.{found, key-words};
-ghost use Rattle.select.specs.Holding.{Holding};
+ghost use Rattle.select_judge.specs.Holding.{Holding};
 ghost use Rattle.select.specs.Cleaning.{chosen-after};
 
 // the words of a scratch for the keys that the scan removes: 64 keys, three words each
 pub const KEY_WORDS: usize = 3 * 64;
-
-// A least vtime, if there is one.
-pub enum MinVtime {
-    Nobody,
-    At(u64),
-}
-
-// The best entry so far, if there is one.
-pub enum Best {
-    Nobody,
-    Found(Entry),
-}
-
-// What an entry is to the scan; the record that is stored, if it changes.
-pub enum Visit {
-    Pass,
-    Gone,
-    Blocked(Context),
-    NoAddrSpace(Context),
-    Ready(Context),
-}
-
-// What the scan goes by: the CPU, the time, words of the CPU's block, and the vtime of a runnable holder that is not eligible.
-pub struct Scanner {
-    pub cpu_id: u64,
-    pub time: u64,
-    pub idle_ctxt: u64,
-    pub sched_ctxt: u64,
-    pub current_ctxt: u64,
-    pub v: u64,
-    pub ineligible_holder: MinVtime,
-}
-
-// The context in charge before the decision, as the choice sees it.
-pub struct Holder {
-    pub runnable: bool,
-    pub eligible: bool,
-    pub vtime: u64,
-    pub vd: u64,
-    pub rem_slice: u64,
-    // V of the CPU
-    pub v: u64,
-}
-
-// What the scan has found; the keys to remove are in a scratch slice, three words a key, and counted here.
-pub struct Scanned {
-    pub eligible_best: Best,
-    pub ineligible_best: Best,
-    pub weight_change: u64,
-    pub contexts_to_remove: usize,
-}
-
-// Who won, V, the context that the decision keeps locked besides the holder and the winner, and the rule, which is Idle
-// where nobody waits.
-pub struct Selected {
-    pub winner: Picked,
-    pub v: u64,
-    pub locked: Picked,
-    pub rule: Rule,
-}
 
 // After the scan of CPU k's queue, which found w: the choice, the clean-up, and the winner's key out of the queue.
 fn apply_choice(

@@ -7,18 +7,17 @@ ghost use Rattle.machine.specs.Machine.{Machine, cpu-at};
 ghost use Rattle.machine.specs.Encode.{encode};
 ghost use Rattle.machine.specs.Shape.{ContextFits, EntryFits, Fits, Image};
 ghost use Rattle.model.specs.Scan.{blocked};
-ghost use Rattle.select.specs.Values.{best-below, visit-of};
+ghost use Rattle.select_judge.specs.Values.{best-below, visit-of};
 ghost use Rattle.select.specs.Scanning.{visit-by, visited-by, step-by, scan-by, seen, visit-fits, keys-in, found, Scans, given-up, Room, Grown, key-words};
 ghost use Rattle.weights.specs.Weights.{max-weight};
-use crate::Best;
-use crate::Scanned;
-use crate::Scanner;
-use crate::Visit;
-use crate::judge;
 use context::Context;
 use entries::Entry;
 use entries::Key;
 use machine::Lookup;
+use select_judge::Best;
+use select_judge::Scanned;
+use select_judge::Scanner;
+use select_judge::Visit;
 
 // An entry as the scan meets it.
 fn verdict(m: &[u64], c: usize, n: usize, t: Scanner, late: Best, e: Entry) -> Visit
@@ -26,18 +25,18 @@ fn verdict(m: &[u64], c: usize, n: usize, t: Scanner, late: Best, e: Entry) -> V
     requires { ⌜ (t .«cpu_id» < 64) × (e .«context_ref» < n) ⌝ }
     ensures { λ r. ⌜ ((M : Machine) → now (m .entry) ≡ encode M → Fits c n M → visit-of r ≡ visit-by t (seen (M .contexts) late) e) ⌝ }
 {
-    if judge::too_late(t, late, e) {
+    if select_judge::too_late(t, late, e) {
         return Visit::Pass;
     }
     let l = machine::look_up(m, c, n, e.context_ref);
     let Lookup::Live(x) = l else {
         return Visit::Gone;
     };
-    if judge::is_of(late, e.context_ref) {
+    if select_judge::is_of(late, e.context_ref) {
         return Visit::Pass;
     }
     let q = machine::load(m, c, n, x);
-    judge::judged(t, q, e)
+    select_judge::judged(t, q, e)
 }
 
 // A key put with those to remove, and its weight with what leaves the total.
@@ -81,7 +80,7 @@ fn give_up_blocked(
 {
     let x = numbers::index(e.context_ref);
     let old = machine::load(m, c, n, x);
-    let weight = judge::active_weight(old.is_active, e.weight);
+    let weight = select_judge::active_weight(old.is_active, e.weight);
     machine::store(m, c, n, x, q);
     let key = e.key;
     give_up(d, w, key, weight)
@@ -123,7 +122,7 @@ fn visited(
         }
         Visit::Ready(q) => {
             machine::store(m, c, n, x, q);
-            return judge::pick(t, w, e);
+            return select_judge::pick(t, w, e);
         }
     }
 }
@@ -170,7 +169,7 @@ pub fn scan_queue(m: &mut [u64], d: &mut [u64], c: usize, n: usize, k: usize, t:
         let e = stages::entry(m, c, n, k, i);
         w = scan_step(m, d, c, n, t, w, e);
         let best = w.eligible_best;
-        if judge::is_found(best) {
+        if select_judge::is_found(best) {
             return w;
         }
         i += 1;

@@ -1,5 +1,5 @@
-use Rattle.select.proofs.Ruling.{rule-none, rule-some}
-use Rattle.select.proofs.Choosing.{best-at, choice-none, choice-some, record-of}
+use Rattle.select_judge.proofs.Ruling.{rule-none, rule-some}
+use Rattle.select_judge.proofs.Choosing.{best-at, choice-none, choice-some, record-of}
 use native.Mathlib.Omega.{arith}
 use borrow.Author.Needs.{needs}
 use Rattle.select.proofs.choice.choose.Statement.{statement}

@@ -1,5 +1,5 @@
 use mathlib.Core.Path.{ap}
-use Rattle.select.specs.Values.{visit-of}
+use Rattle.select_judge.specs.Values.{visit-of}
 use Rattle.select.proofs.Visited.{visited-pass, visited-gone, visited-no-addr-space, visited-ready, visited-as, fits-as, grown-none, grown-given-up, grown-picked}
 use native.Mathlib.Omega.{arith}
 use borrow.Author.Needs.{needs}

@@ -1,0 +1,5 @@
+pub mod Checked
+pub mod Zeros
+pub mod Together
+pub mod Risen
+pub mod InRange
