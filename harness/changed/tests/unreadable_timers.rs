@@ -1,6 +1,6 @@
 //! Document 02, No. 2 on the changed build, and beside it what the kernel does.
 
-use image::{Answer, Call, ROOM, View, block as b, check, context as c, decision, length};
+use image::{Answer, Call, ROOM, View, block as b, check, context as c, decision, length, record};
 
 const CONTEXTS: usize = 6;
 const BLOCK: usize = 2 + CONTEXTS * c::WORDS;
@@ -11,10 +11,6 @@ const WRITER: usize = 2;
 const OTHER: usize = 3;
 const THIRD: usize = 4;
 const GONE: usize = 5;
-
-fn record(number: usize) -> usize {
-    2 + number * c::WORDS
-}
 
 /// One CPU. Context 1 is in charge and runs on; 2, 3 and 4 sleep until the time of the call; 5 is gone.
 fn machine() -> Vec<u64> {

@@ -89,7 +89,12 @@ pub const OPERATIONS: [&str; 7] = [
 ];
 
 pub fn length(cpus: usize, contexts: usize) -> usize {
-    2 + context::WORDS * contexts + block::WORDS * cpus
+    record(contexts) + block::WORDS * cpus
+}
+
+/// Where the record of a context begins.
+pub const fn record(number: usize) -> usize {
+    2 + context::WORDS * number
 }
 
 /// An image whose sizes and length agree.
@@ -110,10 +115,10 @@ impl View<'_> {
         self.0[self.block_at(cpu) + word]
     }
     pub fn context_at(self, number: usize) -> usize {
-        2 + context::WORDS * number
+        record(number)
     }
     pub fn block_at(self, cpu: usize) -> usize {
-        2 + context::WORDS * self.contexts() + block::WORDS * cpu
+        record(self.contexts()) + block::WORDS * cpu
     }
     pub fn present(self, cpu: usize) -> bool {
         self.block(cpu, block::PRESENT) == 1

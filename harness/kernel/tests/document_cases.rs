@@ -1,6 +1,6 @@
 //! The single cases of document 01 that show in an image, run on the kernel.
 
-use image::{Call, SLICE_MAX, block as b, check, context as c, length};
+use image::{Call, SLICE_MAX, block as b, check, context as c, length, record};
 use kernel::oracle;
 
 const BLOCK: usize = 2 + 3 * c::WORDS;
@@ -29,10 +29,6 @@ fn machine(cpus: usize) -> Vec<u64> {
     image[BLOCK + b::TOTAL_WEIGHT] = 1024;
     image[BLOCK + b::STEAL_COUNTER] = 1;
     image
-}
-
-fn record(number: usize) -> usize {
-    2 + number * c::WORDS
 }
 
 fn switched(mut image: Vec<u64>, time: u64) -> Vec<u64> {

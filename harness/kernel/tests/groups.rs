@@ -1,13 +1,9 @@
 //! Groups on the kernel, with answers and words worked out by hand.
 
-use image::{Answer, Group, ROOM, block as b, check, context as c, length};
+use image::{Answer, Group, ROOM, block as b, check, context as c, length, record};
 use kernel::oracle;
 
 const CONTEXTS: usize = 6;
-
-fn record(number: usize) -> usize {
-    2 + number * c::WORDS
-}
 
 fn block(cpu: usize) -> usize {
     record(CONTEXTS) + cpu * b::WORDS

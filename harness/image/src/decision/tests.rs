@@ -1,12 +1,8 @@
 use super::{is_made, unreadable_due};
-use crate::{Call, View, block as b, context as c, length};
+use crate::{Call, View, block as b, context as c, length, record};
 
 const CONTEXTS: usize = 4;
 const BLOCK: usize = 2 + CONTEXTS * c::WORDS;
-
-fn record(number: usize) -> usize {
-    2 + number * c::WORDS
-}
 
 /// One CPU, idle in 0; 1 is in charge and current; 2 can run, 3 sleeps and is written by
 /// another CPU, its timer is set for 1001.

@@ -1,5 +1,5 @@
 use super::{judged, judges};
-use crate::{Call, SLICE_MAX, View, block as b, context as c, length};
+use crate::{Call, SLICE_MAX, View, block as b, context as c, length, record};
 
 const CONTEXTS: usize = 4;
 const HOLDER: usize = 2;
@@ -13,10 +13,6 @@ const SWITCH: Call = Call {
 };
 const TURN: u64 = 3 << 20;
 const LEFT: u64 = 6 << 30;
-
-fn record(number: usize) -> usize {
-    2 + number * c::WORDS
-}
 
 fn block(cpu: usize) -> usize {
     record(CONTEXTS) + cpu * b::WORDS
