@@ -1,6 +1,6 @@
 #!/usr/bin/env python3
 """Writes crates/cases/stdin and stdout. Where a case has not all of its changed words worked out by hand, they are
-those of the kernel's run (its changed build where a due timer is unreadable); what document 01 says of them stands
+those of the kernel's run (its changed build where the port departs from it); what document 01 says of them stands
 beside the case and is held to that run, and so is what is worked out by hand. Run it from the root of the repository,
 after harness/run has built the harness; RONTHUYAL_COMPARE names another build of its program."""
 import os
@@ -8,6 +8,7 @@ import subprocess
 
 import group_cases
 import image_cases
+import newest_cases
 import refused_cases
 import rule_cases
 import switch_cases
@@ -52,7 +53,7 @@ def check(case, line):
 
 def main():
     items = (image_cases.CASES + switch_cases.CASES + refused_cases.CASES + group_cases.CASES
-             + timer_cases.CASES + rule_cases.CASES)
+             + timer_cases.CASES + newest_cases.CASES + rule_cases.CASES)
     calls = list_of(items)
     answers = subprocess.run(KERNEL, input=calls, capture_output=True, text=True, check=True).stdout
     lines = [line for line in answers.splitlines() if not line.startswith("#")]

@@ -30,10 +30,10 @@ def queued(ident, weight=1024, context=1):
     return {**on(0, queue_count=1), **{SHAPE.on(0, "queue[0]." + field): value for field, value in fields.items()}}
 
 
-def timers(*pairs):
-    slots = {SHAPE.on(0, "timers[%d].%s" % (slot, field)): value for slot, pair in enumerate(pairs)
+def timers(*pairs, cpu=0):
+    slots = {SHAPE.on(cpu, "timers[%d].%s" % (slot, field)): value for slot, pair in enumerate(pairs)
              for field, value in zip(("wake", "context_ref"), pair)}
-    return {**on(0, timers_count=len(pairs)), **slots}
+    return {**on(cpu, timers_count=len(pairs)), **slots}
 
 
 def listed(cpu, name, count, *contexts, start=0):
@@ -116,11 +116,24 @@ CASES = [
     case("such ids, one gone", {**GONE, **writer(debug_id=7)}, refused(4)),
     case("such ids, and priority 40", writer(debug_id=7, prio=40), refused(3)),
     case("one in charge that is gone", {**GONE, **on(0, sched_ctxt=1)}, refused(4)),
+    case("context 0 gone, and an absent block, whose words are 0: it has no structure",
+         {**ABSENT, SHAPE.of(0, "gone"): 1, **on(0, current_ctxt=2, sched_ctxt=2, idle_ctxt=2)}, DONE),
     case("an entry with its context's id", queued(8), DONE),
     case("an entry with another id", queued(9), refused(4)),
     case("an entry with an id over 32 bits", queued(2**32), refused(3)),
     case("two timers that rise", timers((5, 0), (5, 1)), DONE),
     case("two equal timers", timers((5, 1), (5, 1)), refused(4)),
+    case("three timers of three contexts", timers((5, 2), (6, 1), (7, 0)), DONE),
+    case("two timers of one context, neighbours", timers((5, 1), (6, 1)), refused(4)),
+    case("with another between them", timers((5, 1), (6, 0), (7, 1)), refused(4)),
+    case("with two between them, the first and the last", timers((4, 2), (5, 1), (6, 0), (7, 2)), refused(4)),
+    case("two of a gone one", {**GONE, **timers((5, 1), (6, 0), (7, 1))}, refused(4), context=0),
+    case("one of a gone one", {**GONE, **timers((5, 1), (6, 0))}, (0, 1, 0, {SHAPE.of(0, "status"): 1}), context=0),
+    case("one in the set of each CPU", {**timers((5, 1)), **timers((6, 1), cpu=1)}, DONE),
+    case("two in the set of the other CPU", timers((5, 1), (6, 0), (7, 1), cpu=1), refused(4)),
+    case("two in an absent block, whose words are 0", {**ABSENT, **timers((5, 1), (6, 1), cpu=1)}, refused(3)),
+    case("two timers of one context, and priority 40", {**timers((5, 1), (6, 1)), **writer(prio=40)}, refused(3)),
+    case("two timers of one context, and no such CPU", timers((5, 1), (6, 1)), refused(4), cpu=2),
     "refusals 5 and 6: the CPU and the context",
     case("CPU 2 of two", {}, refused(5), cpu=2),
     case("CPU 2^64 - 1", {}, refused(5), cpu=2**64 - 1),

@@ -119,6 +119,7 @@ class Array(NamedTuple):
 
 RISING_KEYS = "keys rise strictly: by `vd`, then the larger `rem_slice`, then `ctxt_id`"
 RISING_TIMERS = "pairs (wake, context) rise strictly"
+TIMED_ONCE = RISING_TIMERS + "; no context twice in a set"
 ARRAYS = [
     Array("key_vd", "queue[%d].key.vd", "queue_count", "virtual time", NUMBER, "deadline in the entry's key",
           RISING_KEYS),
@@ -133,7 +134,7 @@ ARRAYS = [
           "whose entry it is"),
     Array("timer_wake", "timers[%d].wake", "timers_count", "ns", NUMBER, "when it comes due", RISING_TIMERS),
     Array("timer_context_ref", "timers[%d].context_ref", "timers_count", "context", CONTEXT_NUMBER,
-          "whom it wakes", RISING_TIMERS),
+          "whom it wakes", TIMED_ONCE),
     Array("local_wakeup_list", "local_wakeup_list[%d]", "local_count", "context", CONTEXT_NUMBER,
           "woken here, for the next decision"),
     Array("ipi_context_wakeup_list", "ipi_context_wakeup_list[%d]", "ipi_count", "context", CONTEXT_NUMBER,

@@ -31,12 +31,6 @@ def full_queue():
     return start().queue(0, *many(5)).record(3, **BLOCKED).local(0, 4)
 
 
-def full_timers():
-    """The holder has stopped with a wake, and the timers are full."""
-    machine = start().record(3, **BLOCKED).timers(0, *[(2**40 + slot, 4) for slot in range(FULL)])
-    return machine.record(2, **BLOCKED, has_wake=1, wake=9_000_000)
-
-
 def full_local():
     """Context 4, lent the CPU, goes on a full local list when it is left."""
     machine = start().record(2, running=0).record(4, running=1).block(0, current_ctxt=4)
@@ -103,11 +97,9 @@ CASES = flat([
     "refusal 9: no room",
     each("the queue, by a wake-up", full_queue(), 9),
     each("the queue, by the holder", keyless(), 9),
-    each("the timers", full_timers(), 9),
     each("the local list", full_local(), 9),
     accepted("an undue tick puts nothing in", full_queue(), 0, 1),
     accepted("a full queue that the winner leaves", start().queue(0, *many(5)), 1, 2),
-    accepted("full timers and a runnable holder", full_timers().record(2, status=0, has_wake=0, wake=0), 2, 2),
     accepted("a full local list of names that are dropped", start().local(0, *[0] * FULL), 2, 2),
     refused("a turn too long before it", full_queue(), 8, 2, time=2**52),
 ])

@@ -4,7 +4,7 @@ its slice, and a virtual time of a turn, or V where that is later."""
 from case import Case
 from group_cases import group, listed, start as blocked, woken
 from layout import SLICE_MAX
-from refused_cases import full_timers
+from refused_cases import full_queue
 from switch_cases import BLOCKED, TURN, TURN_VTIME, at_idle, lent, on, start, victim
 
 DEADLINE, LEFT = 1000, SLICE_MAX - 3 * 2**30
@@ -144,6 +144,6 @@ CASES = [
     nothing("operation 6", start(), 6, context=3),
     nothing("operation 7", start(), 7, context=3),
     group("a group", blocked(), [1, 2], 2, 0, woken(1, 2), listed(1, 2))._replace(rule=0),
-    Case("a refused switch: 9", (2, 0, TURN, 0), full_timers().length(), full_timers().words, (9, 0, 0), {}, True, 0),
+    Case("a refused switch: 9", (2, 0, TURN, 0), full_queue().length(), full_queue().words, (9, 0, 0), {}, True, 0),
     Case("8", (2, 0, 2**52, 0), start().length(), start().words, (8, 0, 0), {}, True, 0),
 ]

@@ -10,11 +10,11 @@ SHAPE = Machine(2, 6)
 of, on = SHAPE.of, SHAPE.on
 
 
-def start():
+def start(contexts=6):
     """Two CPUs, whose idle contexts are 0 and 1. Context 2, the holder, is in charge and current on CPU 0 with a whole
     slice; 3, 4 and 5 are runnable and not queued. The next decision does not steal."""
-    machine = Machine(2, 6)
-    for context in range(6):
+    machine = Machine(2, contexts)
+    for context in range(contexts):
         machine = machine.record(context, debug_id=10 + context, prio=20, sched_affinity=2**64 - 1,
                                  userspace=int(context > 1), addr_space=int(context > 1))
     machine = machine.record(1, running=1, currently_scheduled=1)

@@ -1,8 +1,8 @@
 """Due timers whose context cannot be read (document 02, No. 2), and beside them those that can. Beside each case stands
 what is said of its answer: the timers here after the call, in their order, and who is woken."""
 from case import Case
-from refused_cases import FULL, NAMES, READ, WRITTEN
-from switch_cases import BLOCKED, TURN, TURN_VTIME, at_idle, lent, of, on, start
+from refused_cases import FULL, READ, WRITTEN
+from switch_cases import BLOCKED, SHAPE, TURN, TURN_VTIME, at_idle, lent, of, on, start
 
 LATER = 9_000_000  # not due
 SOON = TURN + 1  # the last that is due
@@ -21,36 +21,17 @@ def sleeps(context, wake=TURN):
     return {of(context, "status"): 1, of(context, "has_wake"): 1, of(context, "wake"): wake}
 
 
-def left(*timers):
+def left(*timers, shape=SHAPE):
     """The set of CPU 0 after the call; the slot behind its last is empty."""
-    words = {on(0, "timers_count"): len(timers)}
+    words = {shape.on(0, "timers_count"): len(timers)}
     for slot, (wake, context) in enumerate(timers + ((0, 0),)[:FULL - len(timers)]):
-        words |= {on(0, "timers[%d].wake" % slot): wake, on(0, "timers[%d].context_ref" % slot): context}
+        words |= {shape.on(0, "timers[%d].wake" % slot): wake, shape.on(0, "timers[%d].context_ref" % slot): context}
     return words
 
 
-def case(title, machine, result, after, operation=2, context=0, whole=False):
-    call = (operation, 0, TURN, context)
+def case(title, machine, result, after, operation=2, time=TURN, context=0, whole=False):
+    call = (operation, 0, time, context)
     return Case(title, call, machine.length(), machine.words, (0, result, 0), after, whole)
-
-
-def refused(title, machine, operation):
-    """With 9; the tick is due, the direct switch goes to context 3, which cannot run."""
-    due = machine.block(0, pit_ticks=2)
-    return Case("%s: %s" % (title, NAMES[operation]), (operation, 0, TURN, 3), due.length(), due.words, (9, 0, 0), {},
-                True)
-
-
-def rest(count=FULL - 1):
-    """Timers that are not due."""
-    return [(2**40 + slot, 5) for slot in range(count)]
-
-
-def full(context, lock=0):
-    """64 timers, of which one is due, of a context that waits for it; the holder stops with a wake that is not among
-    them. Context 3 is blocked."""
-    machine = asleep(start().record(3, **BLOCKED), context, lock=lock)
-    return asleep(machine, 2, LATER).timers(0, (TURN, context), *rest())
 
 
 # The holder, alone, runs on: charged for its turn, V moved to its vtime and then by the turn over its weight.
@@ -76,8 +57,8 @@ CASES = [
     case("the holder runs on while its timer is due", start().timers(0, (TURN, 2)), 2, left((TURN, 2)) | STAYS),
     case("the holder stops, with that wake", asleep(start(), 2).timers(0, (TURN, 2)), 1,
          left((TURN, 2)) | sleeps(2) | LEAVES),
-    case("with another wake", asleep(start(), 2, LATER).timers(0, (TURN, 2)), 1,
-         left((TURN, 2), (LATER, 2)) | sleeps(2, LATER) | LEAVES),
+    case("with another wake, which supersedes it", asleep(start(), 2, LATER).timers(0, (TURN, 2)), 1,
+         left((LATER, 2)) | sleeps(2, LATER) | LEAVES),
     case("with none", start().record(2, **BLOCKED).timers(0, (TURN, 2)), 1, left((TURN, 2)) | LEAVES),
     case("idle in charge", at_idle().timers(0, (TURN, 0)), 2, left((TURN, 0)) | {on(0, "sched_ctxt"): 0}),
     case("and it is left for another", at_idle().queue(0, (3, 10, 0)).timers(0, (TURN, 0)), 1,
@@ -106,8 +87,6 @@ CASES = [
     case("a gone one between them",
          asleep(start(), 3, **WRITTEN).timers(0, (TURN - 2, 2), (TURN - 1, 4), (TURN, 3)).gone(4), 2,
          left((TURN - 2, 2), (TURN, 3)) | sleeps(3) | STAYS),
-    case("three of one context", start().record(3, **WRITTEN).timers(0, (1, 3), (2, 3), (3, 3)), 2,
-         left((1, 3), (2, 3), (3, 3)) | STAYS),
     "due timers: other calls",
     case("a due tick", start().block(0, pit_ticks=2).timers(0, (TURN, 2)), 2, left((TURN, 2)) | STAYS, operation=1),
     case("a direct switch that cannot be made", start().record(4, **BLOCKED).timers(0, (TURN, 2)), 2,
@@ -118,18 +97,4 @@ CASES = [
          left((TURN, 2), (TURN, 4)) | {on(0, "current_ctxt"): 2}),
     case("the timers of another CPU stay", start().timers(1, (1, 2), (2, 3)), 2,
          {on(1, "timers_count"): 2} | STAYS),
-    "due timers: no room for the holder's wake",
-    *[refused("63 and one that is written", full(4, 2), operation) for operation in (1, 2, 3)],
-    *[refused("63 and the holder's own, of another wake", full(2), operation) for operation in (1, 2, 3)],
-    refused("63 and one that is read", full(4, 1), 2),
-    case("the holder's own has just that wake", asleep(full(2), 2), 1, left((TURN, 2), *rest()) | LEAVES),
-    case("the one due is free: it is served", full(4), 1,
-         left((LATER, 2), *rest()) | awake(4) | {on(0, "sched_ctxt"): 4}),
-    case("it is gone", full(4).gone(4), 1, left((LATER, 2), *rest()) | LEAVES),
-    case("it is read, and has another wake", full(4, 1).record(4, wake=LATER), 1, left((LATER, 2), *rest()) | LEAVES),
-    case("62 and one that is written", full(4, 2).timers(0, (TURN, 4), *rest(FULL - 2))
-         .put({on(0, "timers[63].wake"): 0, on(0, "timers[63].context_ref"): 0}), 1,
-         left((TURN, 4), (LATER, 2), *rest(FULL - 2)) | LEAVES),
-    case("a holder that runs on", full(4, 2).record(2, status=0, has_wake=0, wake=0), 2,
-         left((TURN, 4), *rest()) | STAYS),
 ]

@@ -1,3 +1,4 @@
 pub mod Tests
 pub mod Tabulate
 pub mod Keep
+pub mod Thinned

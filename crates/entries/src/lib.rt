@@ -1,6 +1,6 @@
 // What a CPU's run queue holds (context/mod.rs): `ContextQueueKey`, an entry of the queue, and a timer.
 ghost use mathlib.Core.Path.{_≡_};
-ghost use Rattle.entries.specs.Order.{before, sooner};
+ghost use Rattle.entries.specs.Order.{before, sooner, superseded};
 
 pub struct Key {
     pub vd: u64,
@@ -44,5 +44,15 @@ impl Timer {
             return self.context_ref < other.context_ref;
         }
         self.wake < other.wake
+    }
+
+    // The other one is of the same context and has another wake.
+    pub fn supersedes(self, other: Timer) -> bool
+        ensures { λ r. ⌜ r ≡ superseded self other ⌝ }
+    {
+        if other.context_ref == self.context_ref {
+            return other.wake != self.wake;
+        }
+        false
     }
 }

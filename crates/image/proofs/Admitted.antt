@@ -21,7 +21,7 @@ use Rattle.machine.specs.Encode.{encode, decode, context-place, cpu-place}
 use Rattle.machine.specs.Shape.{ContextFits, CpuFits, Fits, Image}
 use Rattle.machine.proofs.Encoded.{WholeImage, encode-decode}
 use Rattle.image_ranges.specs.Ranges.{context-in-range, block-in-range, contexts-in-range, blocks-in-range, blocks-in-range-to, contexts-in-range-to}
-use Rattle.image_structure.specs.Structure.{structure, block-structure, ids-differ, names-live, entry-ids, keys-rise, timers-rise}
+use Rattle.image_structure.specs.Structure.{structure, block-structure, ids-differ, names-live, entry-ids, keys-rise, timers-rise, timers-differ}
 use Rattle.image.specs.Refusal.{size-c, size-n, in-bounds, ranges, sized-refusal, image-refusal, ranges-to}
 use Rattle.image_ranges.proofs.InRange.{whole-context, context-fits, Rising, BlockInRange, in-range, whole-block, cpu-fits}
 use Rattle.percpu.specs.Places.{block-size}
@@ -117,14 +117,16 @@ pub record BlockStructure (m b : List ℕ) : Type 0 where
   pub ids : entry-ids m b ≡ true
   pub keys : keys-rise b ≡ true
   pub timers : timers-rise b ≡ true
+  pub alone : timers-differ b ≡ true
 
 block-structured : (m b : List ℕ) → eqb (getD b 0 0) 0 ≡ false → block-structure m b ≡ true → BlockStructure m b
 unfolding block-structure
 block-structured m b t e =
-    let p = and-both (names-live m b) (entry-ids m b && (keys-rise b && timers-rise b)) (rw t at e)
-    in let q = and-both (entry-ids m b) (keys-rise b && timers-rise b) (p .1)
-    in let r = and-both (keys-rise b) (timers-rise b) (q .1)
-    in record { names = p .0; ids = q .0; keys = r .0; timers = r .1 }
+    let p = and-both (names-live m b) (entry-ids m b && (keys-rise b && (timers-rise b && timers-differ b))) (rw t at e)
+    in let q = and-both (entry-ids m b) (keys-rise b && (timers-rise b && timers-differ b)) (p .1)
+    in let r = and-both (keys-rise b) (timers-rise b && timers-differ b) (q .1)
+    in let u = and-both (timers-rise b) (timers-differ b) (r .1)
+    in record { names = p .0; ids = q .0; keys = r .0; timers = u .0; alone = u .1 }
 
 rising : {m : List ℕ} (b : List ℕ) → BlockStructure m b → Rising b
 unfolding keys-rise timers-rise

@@ -25,7 +25,7 @@ use Rattle.machine.proofs.Encoded.{WholeContext}
 use Rattle.image_ranges.specs.Ranges.{within, zero-words, context-most, gone-most, context-in-range, block-most, array-least, array-most, used, unused, array-in-range, block-in-range, array-in-range-to, array-most-to, block-in-range-to, block-most-to, context-in-range-to, context-most-to}
 use Rattle.image_ranges.proofs.Checked.{within-at, counter-small}
 use Rattle.image_ranges.proofs.Risen.{sorted-tabulate}
-use Rattle.percpu.specs.Places.{entry-context-ref-column, local-wakeup-list-column, ipi-context-wakeup-list-column, block-size}
+use Rattle.percpu.specs.Places.{local-wakeup-list-column, ipi-context-wakeup-list-column, block-size}
 
 -- a gone record's table is below a live one's
 below : (c : ℕ) → every (λ (i : ℕ). leb (getD gone-most i 0) (getD (context-most c) i 0)) record-size ≡ true
@@ -184,29 +184,3 @@ cpu-fits n b p k r =
       keys-rise = sorted-tabulate entry-before (λ x y z. before-trans (x .key) (y .key) (z .key)) (getD b 21 0) (entry-at b) (r .keys);
       timers-rise = sorted-tabulate sooner sooner-trans (getD b 22 0) (timer-at b) (r .timers);
     }
-
--- names in a block are below n
-module _ (n : ℕ) (b : List ℕ) (p : 1 ≤ n) (e : block-in-range n b ≡ true) where
-  pub current-name : getD b 1 0 < n
-  unfolding block-most-to
-  current-name = omega (arith, in-range n b e .scalar 1 (omega arith))
-
-  pub sched-name : getD b 2 0 < n
-  unfolding block-most-to
-  sched-name = omega (arith, in-range n b e .scalar 2 (omega arith))
-
-  pub idle-name : getD b 3 0 < n
-  unfolding block-most-to
-  idle-name = omega (arith, in-range n b e .scalar 3 (omega arith))
-
-  pub queue-count : getD b 21 0 ≤ 64
-  unfolding block-most-to
-  queue-count = in-range n b e .scalar 21 (omega arith)
-
-  pub timer-count : getD b 22 0 ≤ 64
-  unfolding block-most-to
-  timer-count = in-range n b e .scalar 22 (omega arith)
-
-  pub entry-name : (i : ℕ) → i < getD b 21 0 → getD b (entry-context-ref-column + i) 0 < n
-  unfolding counter array-most-to
-  entry-name i h = omega (arith, in-range n b e .high 5 i (omega arith) h)

@@ -3,3 +3,4 @@ pub mod Zeros
 pub mod Together
 pub mod Risen
 pub mod InRange
+pub mod Named

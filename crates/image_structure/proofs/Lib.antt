@@ -1,1 +1,2 @@
 pub mod Structured
+pub mod Marks

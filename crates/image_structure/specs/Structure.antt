@@ -40,10 +40,18 @@ keys-rise b = every (λ (i : ℕ). before (entry-at b i .key) (entry-at b (i + 1
 unfoldable pub timers-rise : List ℕ → Bool
 timers-rise b = every (λ (i : ℕ). sooner (timer-at b i) (timer-at b (i + 1))) (getD b timers-count 0 - 1)
 
+-- the context of timer i is that of no timer before it
+unfoldable pub is-first-timer : List ℕ → ℕ → Bool
+is-first-timer b i = every (λ (j : ℕ). not (eqb (timer-at b j .«context_ref») (timer-at b i .«context_ref»))) i
+
+-- no context has two timers
+unfoldable pub timers-differ : List ℕ → Bool
+timers-differ b = every (is-first-timer b) (getD b timers-count 0)
+
 -- an absent block has no structure
 unfoldable pub block-structure : List ℕ → List ℕ → Bool
 block-structure m b =
-    if eqb (getD b 0 0) 0 then true else names-live m b && (entry-ids m b && (keys-rise b && timers-rise b))
+    if eqb (getD b 0 0) 0 then true else names-live m b && (entry-ids m b && (keys-rise b && (timers-rise b && timers-differ b)))
 
 unfoldable pub structure : ℕ → ℕ → List ℕ → Bool
 structure c n m = ids-differ m n && every (λ (k : ℕ). block-structure m (part m (cpu-place n k) block-size)) c

@@ -1,4 +1,6 @@
 // The structure of an image whose words are in their ranges.
+mod ids;
+
 use percpu::places;
 ghost use mathlib.Core.Path.{_≡_};
 ghost use mathlib.Core.Bool.{Bool, true, false};
@@ -6,18 +8,10 @@ ghost use Prim.Native.Nat.{ℕ, _+_, _-_, _*_, _<_, _≤_};
 ghost use lib.ListN.{length, getD};
 ghost use Rattle.image_structure.specs.Rises.{rises};
 ghost use Rattle.image_ranges.specs.Ranges.{block-in-range, blocks-in-range};
-ghost use Rattle.image_structure.specs.Structure.{id-of, is-live, is-new, ids-differ, names-live, entry-ids, block-structure, structure};
+ghost use Rattle.image_structure.specs.Structure.{is-live, names-live, entry-ids, timers-differ, block-structure, structure};
 ghost use Rattle.context.specs.Words.{record-size};
 ghost use Rattle.percpu.specs.Places.{block-size};
 ghost use Rattle.machine.specs.Encode.{context-place, cpu-place};
-
-fn id_of(m: &[u64], x: usize) -> u64
-    requires { ⌜ (context-place x + record-size ≤ length (now m)) × (x < 64) ⌝ }
-    ensures { λ r. ⌜ r ≡ id-of (now (m .entry)) x ⌝ }
-{
-    let at = machine::context_place(x) + context::places::DEBUG_ID;
-    m[at]
-}
 
 fn is_live(m: &[u64], x: u64) -> bool
     requires { ⌜ (context-place x + record-size ≤ length (now m)) × (x < 64) ⌝ }
@@ -26,53 +20,6 @@ fn is_live(m: &[u64], x: u64) -> bool
     let i = numbers::index(x);
     let at = machine::context_place(i);
     m[at] == 0
-}
-
-// The id of context y is no id of one before it.
-fn is_new(m: &[u64], y: usize) -> bool
-    requires { ⌜ (context-place y + record-size ≤ length (now m)) × (y < 64) ⌝ }
-    ensures { λ r. ⌜ r ≡ is-new (now (m .entry)) y ⌝ }
-{
-    let id = id_of(m, y);
-    let mut x = 0;
-    while x < y {
-        if id_of(m, x) == id {
-            return false;
-        }
-        x += 1;
-    }
-    true
-}
-
-// Compares with the ids before it only where one of them may be the same.
-fn is_new_if(m: &[u64], y: usize, compare: bool) -> bool
-    requires { ⌜ (context-place y + record-size ≤ length (now m)) × (y < 64) ⌝ }
-    requires { ⌜ (compare ≡ false → true ≡ is-new (now m) y) ⌝ }
-    ensures { λ r. ⌜ r ≡ is-new (now (m .entry)) y ⌝ }
-{
-    if compare {
-        return is_new(m, y);
-    }
-    true
-}
-
-// Ids that leave different remainders differ: only equal remainders are looked at further.
-fn ids_differ(m: &[u64], n: usize) -> bool
-    requires { ⌜ (context-place n ≤ length (now m)) × (n ≤ 64) ⌝ }
-    ensures { λ r. ⌜ r ≡ ids-differ (now (m .entry)) n ⌝ }
-{
-    let mut seen = [0u8; 64];
-    let mut y = 0;
-    while y < n {
-        let id = id_of(m, y);
-        let h = numbers::index(id % 64);
-        if !is_new_if(m, y, seen[h] != 0) {
-            return false;
-        }
-        seen[h] = 1;
-        y += 1;
-    }
-    true
 }
 
 // Of k rows whose keys lie in the columns at s, t and u each stands before the next.
@@ -116,9 +63,29 @@ fn entry_ids(m: &[u64], b: &[u64], n: u64) -> bool
     let mut i = 0;
     while i < k {
         let x = numbers::index(b[places::ENTRY_CONTEXT_REF + i]);
-        if b[places::KEY_CTXT_ID + i] != id_of(m, x) {
+        if b[places::KEY_CTXT_ID + i] != ids::id_of(m, x) {
             return false;
         }
+        i += 1;
+    }
+    true
+}
+
+// No context has two timers: a mark for each context.
+fn timers_differ(b: &[u64], n: u64) -> bool
+    requires { ⌜ (1 ≤ n) × (n ≤ 64) × (length (now b) ≡ block-size) ⌝ }
+    requires { ⌜ block-in-range n (now b) ≡ true ⌝ }
+    ensures { λ r. ⌜ r ≡ timers-differ (now (b .entry)) ⌝ }
+{
+    let k = numbers::index(b[places::TIMERS_COUNT]);
+    let mut seen = [0u8; 64];
+    let mut i = 0;
+    while i < k {
+        let x = numbers::index(b[places::TIMER_CONTEXT_REF + i]);
+        if seen[x] != 0 {
+            return false;
+        }
+        seen[x] = 1;
         i += 1;
     }
     true
@@ -150,13 +117,16 @@ fn block_structure(m: &[u64], b: &[u64], n: u64) -> bool
     }
     // a timer's key is its wake, twice, and its context
     let timers = numbers::index(b[places::TIMERS_COUNT]);
-    rises(
+    if !rises(
         b,
         places::TIMER_WAKE,
         places::TIMER_WAKE,
         places::TIMER_CONTEXT_REF,
         timers,
-    )
+    ) {
+        return false;
+    }
+    timers_differ(b, n)
 }
 
 pub fn structure(m: &[u64], c: usize, n: usize) -> bool
@@ -164,7 +134,7 @@ pub fn structure(m: &[u64], c: usize, n: usize) -> bool
     requires { ⌜ blocks-in-range c n (now m) ≡ true ⌝ }
     ensures { λ r. ⌜ r ≡ structure c n (now (m .entry)) ⌝ }
 {
-    if !ids_differ(m, n) {
+    if !ids::ids_differ(m, n) {
         return false;
     }
     let names = numbers::word(n);

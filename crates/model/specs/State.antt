@@ -10,7 +10,7 @@ use Rattle.context.specs.Status.{is-runnable}
 use Rattle.entries.specs.declared.Key.{Key}
 use Rattle.entries.specs.declared.Entry.{Entry}
 use Rattle.entries.specs.declared.Timer.{Timer}
-use Rattle.entries.specs.Queue.{queue-insert, queue-remove, timer-insert}
+use Rattle.entries.specs.Queue.{queue-insert, queue-remove, timer-insert, without-superseded}
 use Rattle.percpu.specs.Cpu.{Cpu}
 use Rattle.percpu.specs.With.{cpu-queue, cpu-timers, cpu-queue-len}
 use Rattle.machine.specs.Machine.{Machine, context-at, cpu-at}
@@ -48,6 +48,10 @@ abbrev pub insert-timer : Timer → State → State
 insert-timer t s =
     let l = timer-insert t (s .cpu .timers) in
     record { contexts = s .contexts; cpu = cpu-timers l (s .cpu); no-room = s .no-room || too-many l }
+
+-- a timer that is put in, not back: it removes first every other of its context
+abbrev pub insert-newest-timer : Timer → State → State
+insert-newest-timer t s = insert-timer t (on-cpu (λ p. cpu-timers (without-superseded t (p .timers)) p) s)
 
 abbrev pub push-local : ℕ → State → State
 push-local x s =

@@ -12,7 +12,7 @@ use Rattle.weights.specs.Weights.{weight}
 use Rattle.charging.specs.Charge.{charged, stopped}
 use Rattle.percpu.specs.Cpu.{Cpu}
 use Rattle.percpu.specs.With.{cpu-pit-ticks, cpu-stats, cpu-schedule-time, cpu-total-weight}
-use Rattle.model.specs.State.{State, put-context, on-cpu, insert-timer, holder, is-idle}
+use Rattle.model.specs.State.{State, put-context, on-cpu, insert-newest-timer, holder, is-idle}
 use Rattle.model.specs.Wakeup.{serve-wakeups}
 use Rattle.numbers.specs.Limits.{nanos-per-millisecond}
 use Rattle.cpu_stats.specs.Counted.{time-added, switch-added}
@@ -43,7 +43,7 @@ inactive s =
 unfoldable pub holder-stopped : State → State
 holder-stopped s =
     if (holder s) .«has_wake»
-    then insert-timer (record { wake = (holder s) .wake; «context_ref» = s .cpu .block .«sched_ctxt» }) (inactive s)
+    then insert-newest-timer (record { wake = (holder s) .wake; «context_ref» = s .cpu .block .«sched_ctxt» }) (inactive s)
     else inactive s
 
 unfoldable pub charge-holder : ℕ → State → State

@@ -12,7 +12,7 @@ use Rattle.model.specs.State.{State, on-cpu, holder, is-idle}
 use Rattle.model.specs.Turn.{count-switch, times, inactive, holder-stopped, charge-holder, before-selection}
 use Rattle.model.proofs.Cases.{pick}
 use Rattle.model_leaves.proofs.WellFormed.{fixed, changing, FixedFormed, ChangingFormed, LiveName}
-use Rattle.model_leaves.proofs.Kept.{KeptState, put-kept, live-formed, timer-kept, scalars-kept}
+use Rattle.model_leaves.proofs.Kept.{KeptState, put-kept, live-formed, newest-kept, scalars-kept}
 use Rattle.model_leaves.proofs.Waking.{wakeups-kept}
 use Rattle.numbers.specs.Limits.{max-number}
 
@@ -68,7 +68,7 @@ module _ (c n : ℕ) (cs₀ : List Context) where
     unfolding holder-stopped
     stopped-kept =
         pick Good ((holder s) .«has_wake»)
-        (λ e. timer-kept c n cs₀ (inactive s) inactive-kept (record { wake = (holder s) .wake; «context_ref» = x })
+        (λ e. newest-kept c n cs₀ (inactive s) inactive-kept (record { wake = (holder s) .wake; «context_ref» = x })
         (record { name = o .cpu .scalars .sched .below; wake = live-formed c n cs₀ s o x (o .cpu .scalars .sched) .wake }))
         (λ e. inactive-kept)
 

@@ -23,6 +23,8 @@ use Rattle.model.specs.SwitchTo.{try-direct-switch-back}
 use Rattle.model.specs.Schedule.{finish, finish-by, scanned, locks, choose-and-steal, selected, select-next-context, picked-as, schedule, switch-as, after-schedule, switch-inner-by, switch-inner, ticked, tick, switch, direct-switch-or, direct-switch-to}
 use Rattle.model.specs.Accepted.{Call, by-tick, by-switch, by-direct-switch, outcome}
 use Rattle.model.proofs.Cases.{by-test, pick}
+use Rattle.model_timers.specs.Timers.{Alone}
+use Rattle.model_leaves.proofs.TimersAlone.{decision-alone}
 use Rattle.model_leaves.proofs.WellFormed.{Fixed, fixed, FixedFormed, ContextFormed, gone-context, LiveName, Stands, absent, present, WellFormed}
 use Rattle.model_leaves.proofs.Lists.{stands-over, present-formed}
 use Rattle.model_leaves.proofs.Kept.{ContextKept, Contexts, KeptState}
@@ -66,9 +68,9 @@ module _ (c n : ℕ) (M : Machine) (W : WellFormed c n M) where
 
   -- the machine after, from its contexts and CPUs
   pub machine-formed : (cs : List Context) (ps : List Cpu) → length cs ≡ n → Contexts c n (M .contexts) cs → length ps ≡ c → ((j : ℕ) → Stands n (M .contexts) (getD ps j no-cpu))
-      → WellFormed c n (record { contexts = cs; cpus = ps })
+      → ((j : ℕ) → Alone ((getD ps j no-cpu) .timers)) → WellFormed c n (record { contexts = cs; cpus = ps })
   unfolding cpu-at
-  machine-formed cs ps l o q a =
+  machine-formed cs ps l o q a t =
       let id : (x : ℕ) → x < n → (context-at cs x) .«debug_id» ≡ (context-at (M .contexts) x) .«debug_id» = λ x h. ap (λ (y : Fixed). y .debug-id) (o x h .same) in
       record {
         bounds = W .bounds;
@@ -77,6 +79,7 @@ module _ (c n : ℕ) (M : Machine) (W : WellFormed c n M) where
         context = λ x h. context-after (context-at (M .contexts) x) (context-at cs x) (W .context x h) (o x h);
         ids-differ = λ x y h g e. W .ids-differ x y h g (sym (id x h) ∙ e ∙ id y g);
         cpu = λ j h. stands-over (M .contexts) cs (λ x g. o x g .same) (getD ps j no-cpu) (a j);
+        alone = t;
       }
 
   module _ (k time : ℕ) (here : k < c) (is-present : cpu-at M k .block .present ≡ true) (soon : time ≤ max-number) where
@@ -88,14 +91,15 @@ module _ (c n : ℕ) (M : Machine) (W : WellFormed c n M) where
         let (f, r) = present-formed (cpu-at M k) is-present (W .cpu k here) in
         record { count = W .contexts; context = contexts-start; cpu = f; room = λ z. r }
 
-    -- the outcome, if there was room
+    -- the outcome, if there was room; that each context has one timer is shown by itself
     abbrev Leaves : Outcome → Type 0
-    Leaves o = o .no-room ≡ false → WellFormed c n (o .machine)
+    Leaves o = o .no-room ≡ false → ((j : ℕ) → Alone (cpu-at (o .machine) j .timers)) → WellFormed c n (o .machine)
 
     finished : (rule : ℕ) (cpus : List Cpu) (r : ℕ) (s : State) → length cpus ≡ c → ((j : ℕ) → Stands n (M .contexts) (getD cpus j no-cpu)) → Good s → Leaves (finish-by rule k cpus r s)
-    finished rule cpus r s l a o z =
+    unfolding cpu-at
+    finished rule cpus r s l a o z t =
         machine-formed (s .contexts) (set cpus k (s .cpu)) (o .count) (o .context) (length-set cpus k (s .cpu) ∙ l)
-        (λ j. getD-set cpus k j (s .cpu) no-cpu (Stands n (M .contexts)) (present (o .cpu) (o .room z)) (a j))
+        (λ j. getD-set cpus k j (s .cpu) no-cpu (Stands n (M .contexts)) (present (o .cpu) (o .room z)) (a j)) t
 
     switched : (rule : ℕ) (s : State) (cpus : List Cpu) (w : Option ℕ) → length cpus ≡ c → ((j : ℕ) → Stands n (M .contexts) (getD cpus j no-cpu)) → WinnerFormed c n (M .contexts) w → Good s
         → Leaves (switch-as k time rule s cpus w)
@@ -151,13 +155,16 @@ module _ (c n : ℕ) (M : Machine) (W : WellFormed c n M) where
     direct-or s none o g = inner s o
     direct-or s (some u) o g = finished 0 (M .cpus) 1 u (W .cpus) each-stands g
 
-    pub decision-leaves : (call : Call) → TargetFormed n (M .contexts) call → (outcome call k time M) .no-room ≡ false → WellFormed c n ((outcome call k time M) .machine)
+    call-leaves : (call : Call) → TargetFormed n (M .contexts) call → Leaves (outcome call k time M)
     unfolding tick switch direct-switch-to
-    decision-leaves by-tick a =
+    call-leaves by-tick a =
         let s : State = ticked (state-of k M) in
         pick Leaves (ltb (s .cpu .block .«pit_ticks») 3) (λ z. finished 0 (M .cpus) 0 s (W .cpus) each-stands start-kept) (λ z. inner s start-kept)
-    decision-leaves by-switch a = inner (state-of k M) start-kept
-    decision-leaves (by-direct-switch x) a =
+    call-leaves by-switch a = inner (state-of k M) start-kept
+    call-leaves (by-direct-switch x) a =
         let s : State = state-of k M in
         pick Leaves (eqb (s .cpu .block .«current_ctxt») x) (λ z. finished 0 (M .cpus) 1 s (W .cpus) each-stands start-kept)
         (λ z. direct-or s _ start-kept (directly-kept c n (M .contexts) time soon k here (eqb (s .cpu .block .«sched_ctxt») x) false x s a start-kept))
+
+    pub decision-leaves : (call : Call) → TargetFormed n (M .contexts) call → (outcome call k time M) .no-room ≡ false → WellFormed c n ((outcome call k time M) .machine)
+    decision-leaves call a z = call-leaves call a z (decision-alone call k time M (omega (arith, W .cpus)) (W .alone))

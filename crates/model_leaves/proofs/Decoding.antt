@@ -5,20 +5,20 @@ use mathlib.Core.List.{List}
 use Prim.Native.Nat.{ℕ, _<_}
 use native.Mathlib.Omega.{arith}
 use native.Mathlib.Nat.{add-zero}
-use lib.Dec.{eqb}
+use lib.Dec.{eqb, ltb}
 use lib.ListN.{getD}
-use borrow.Author.Tests.{eqb-true, eqb-false}
-use Rattle.columns.specs.Common.{In}
+use borrow.Author.Tests.{eqb-true, eqb-false, ltb-true, ltb-false}
+use Rattle.columns.specs.Common.{In, tabulate}
 use Rattle.columns.specs.Blocks.{part}
 use Rattle.columns.proofs.Tests.{by-test, and-both}
-use Rattle.columns.proofs.Tabulate.{part-get}
+use Rattle.columns.proofs.Tabulate.{part-get, getD-past}
 use Rattle.context.specs.declared.Context.{Context}
 use Rattle.context.specs.Words.{context-of, record-size}
 use Rattle.entries.specs.declared.Entry.{Entry}
 use Rattle.percpu.specs.Cpu.{Cpu}
 use Rattle.percpu.specs.Words.{block-of}
 use Rattle.percpu.specs.Layout.{cpu-of, no-entry, no-timer}
-use Rattle.machine.specs.Machine.{Machine, cpu-at}
+use Rattle.machine.specs.Machine.{Machine, cpu-at, no-cpu}
 use Rattle.machine.specs.Encode.{decode, context-place, cpu-place}
 use Rattle.machine.specs.Shape.{CpuFits, Fits}
 use Rattle.image_structure.specs.Structure.{is-live, names-live}
@@ -29,6 +29,8 @@ use Rattle.stages.proofs.Fitting.{all-of}
 use Rattle.admission.proofs.Soundness.{in-at, contexts-are, cpus-are, sound}
 use Rattle.admission.proofs.Bounds.{decoded-below}
 use Rattle.model_leaves.proofs.WellFormed.{ContextFormed, LiveName, EntryFormed, TimerFormed, view, ScalarsFormed, Stands, absent, present, WellFormed}
+use Rattle.model_timers.specs.Timers.{Alone}
+use Rattle.model_leaves.proofs.TimersAlone.{found-alone}
 use Rattle.model_leaves.proofs.Found.{context-formed, absent-is, WordsFormed, words-formed}
 use Rattle.percpu.specs.Places.{block-size}
 
@@ -118,6 +120,21 @@ module _ {time : ℕ} (m : List ℕ) (p : Passed time m) where
     cpu-stands =
         by-test (eqb (getD b 0 0) 0) (λ t. absent (is ∙ absent-is b (a-block m p k h .absent (eqb-true _ 0 t)))) (λ t. stands t)
 
+    -- an absent block has no timers
+    cpu-alone : Alone (q .timers)
+    unfolding cpu-of tabulate
+    cpu-alone =
+        by-test (eqb (getD b 0 0) 0)
+        (λ t. let z : getD b 22 0 ≡ 0 = a-block m p k h .absent (eqb-true _ 0 t) 22 (omega arith) in subst (λ (y : Cpu). Alone (y .timers)) (sym is) (rw z (λ x y i j e. absurd i)))
+        (λ t. subst (λ (y : Cpu). Alone (y .timers)) (sym is) (found-alone b (block-structure-of m p k h t .alone)))
+
+  -- and past the last CPU there are none
+  timers-alone : (k : ℕ) → Alone (cpu-at M k .timers)
+  unfolding cpu-at no-cpu
+  timers-alone k =
+      by-test (ltb k (size-c m)) (λ t. cpu-alone k (ltb-true k _ t))
+      (λ t. subst (λ (y : Cpu). Alone (y .timers)) (sym (getD-past (M .cpus) k no-cpu (omega (arith, fits .cpus, ltb-false k _ t)))) (λ x y i j e. absurd i))
+
   pub well-formed : WellFormed (size-c m) n M
   well-formed =
       record {
@@ -127,4 +144,5 @@ module _ {time : ℕ} (m : List ℕ) (p : Passed time m) where
         context = λ x h. subst (ContextFormed (size-c m)) (sym (contexts-are m p x h)) (context-formed (size-c m) _ (a-context m p x h));
         ids-differ = λ x y h g. sound m p .ids-differ x y (omega (arith, fits .contexts)) (omega (arith, fits .contexts));
         cpu = cpu-stands;
+        alone = timers-alone;
       }

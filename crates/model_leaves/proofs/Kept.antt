@@ -1,6 +1,6 @@
 -- What every stage of a decision keeps: cs₀ are the contexts before the call. Assumes nothing.
 use mathlib.Core.Path.{_≡_, sym, ap, _∙_, subst}
-use mathlib.Core.Bool.{Bool, true, false}
+use mathlib.Core.Bool.{Bool, true, false, not}
 use mathlib.Core.List.{List, [], _∷_, _++_}
 use Prim.Native.Nat.{ℕ, _<_, _≤_}
 use native.Mathlib.Omega.{arith}
@@ -10,18 +10,18 @@ use Rattle.context.specs.declared.Context.{Context}
 use Rattle.entries.specs.declared.Key.{Key}
 use Rattle.entries.specs.declared.Entry.{Entry}
 use Rattle.entries.specs.declared.Timer.{Timer}
-use Rattle.entries.specs.Order.{entry-before}
-use Rattle.entries.specs.Queue.{keyed, queue-insert, queue-remove, timer-insert}
+use Rattle.entries.specs.Order.{entry-before, superseded}
+use Rattle.entries.specs.Queue.{keyed, queue-insert, queue-remove, timer-insert, without-superseded}
 use Rattle.percpu.specs.Cpu.{Cpu}
 use Rattle.percpu.specs.With.{cpu-queue, cpu-queue-len}
 use Rattle.machine.specs.Machine.{context-at}
-use Rattle.model.specs.State.{State, at, put-context, on-cpu, insert-entry, insert-timer, push-local, remove-key, too-many}
+use Rattle.model.specs.State.{State, at, put-context, on-cpu, insert-entry, insert-timer, insert-newest-timer, push-local, remove-key, too-many}
 use Rattle.model.proofs.Cases.{never, or-neither}
 use Rattle.model.proofs.Queues.{at-set}
 use Rattle.model.proofs.Ordered.{insert-ordered, remove-ordered}
 use Rattle.model_room.proofs.Lengths.{length-remove}
 use Rattle.model_leaves.proofs.WellFormed.{Fixed, fixed, changing, ChangingFormed, LiveName, EntryFormed, QueueFormed, TimerFormed, Lists, View, view, ScalarsFormed, ListsFormed, CpuFormed, Room}
-use Rattle.model_leaves.proofs.Lists.{names-more, timer-inserted}
+use Rattle.model_leaves.proofs.Lists.{names-more, timer-inserted, timers-left}
 
 -- a: a context before the call; x: the same context now. A gone one keeps every word
 pub record ContextKept (c : ℕ) (a x : Context) : Type 0 where
@@ -97,6 +97,17 @@ module _ (c n : ℕ) (cs₀ : List Context) where
         let l = timer-insert t (s .cpu .timers) in
         let k = o .cpu .lists in
         lists-kept (record { queue = k .queue; timers = timer-inserted t (s .cpu .timers) f (k .timers); local = k .local; ipi = k .ipi })
+        (λ z.
+        let (a, b) = or-neither (s .no-room) (too-many l) z in
+        let r = o .room a in
+        record { queue = r .queue; timers = ltb-false 64 (length l) b; local = r .local; ipi = r .ipi; queue-len = r .queue-len })
+
+    pub newest-kept : (t : Timer) → TimerFormed n t → KeptState (insert-newest-timer t s)
+    newest-kept t f =
+        let d = without-superseded t (s .cpu .timers) in
+        let l = timer-insert t d in
+        let k = o .cpu .lists in
+        lists-kept (record { queue = k .queue; timers = timer-inserted t d f (timers-left (λ (u : Timer). not (superseded t u)) (s .cpu .timers) (k .timers)); local = k .local; ipi = k .ipi })
         (λ z.
         let (a, b) = or-neither (s .no-room) (too-many l) z in
         let r = o .room a in

@@ -18,3 +18,5 @@ pub mod Structured
 pub mod Passing
 pub mod Raising
 pub mod Lowering
+pub mod TimersAlone
+pub mod TimerRoom

@@ -24,6 +24,7 @@ use Rattle.machine.proofs.LookUps as look-ups
 use Rattle.model.proofs.Cases.{by-test, pick}
 use Rattle.context_ops.specs.Wakeup.{other-cpu, push-local, push-ipi, wakeup-on, wakeup-context}
 use Rattle.context_ops.specs.Operations.{unblock-context, drain-ipi-context-wakeups, block-with}
+use Rattle.model_timers.specs.Timers.{Alone}
 use Rattle.model_leaves.proofs.WellFormed.{fixed, changing, LiveName, view, CpuFormed, Room, Stands, present, WellFormed}
 use Rattle.model_leaves.proofs.Lists.{names-more, present-formed}
 use Rattle.model_leaves.proofs.Kept.{set-kept}
@@ -55,14 +56,17 @@ other-present k w t M e =
 
 module _ (c n : ℕ) (M : Machine) (W : WellFormed c n M) where
   context-leaves : (x : ℕ) (q : Context) → LiveName n (M .contexts) x → SameViews (context-at (M .contexts) x) q → WellFormed c n (set-context x q M)
+  unfolding cpu-at
   context-leaves x q a e =
       machine-formed c n M W (set (M .contexts) x q) (M .cpus) (length-set (M .contexts) x q ∙ W .contexts)
-      (set-kept c n (M .contexts) (M .contexts) x q (W .contexts) (contexts-start c n M W) a (e .same-fixed) (λ z. rw (e .same-changing) z)) (W .cpus) (each-stands c n M W)
+      (set-kept c n (M .contexts) (M .contexts) x q (W .contexts) (contexts-start c n M W) a (e .same-fixed) (λ z. rw (e .same-changing) z)) (W .cpus) (each-stands c n M W) (W .alone)
 
-  cpu-leaves : (k : ℕ) (p : Cpu) → CpuFormed n (M .contexts) (view p) → Room (view p .lists) → WellFormed c n (set-cpu k p M)
-  cpu-leaves k p f r =
+  cpu-leaves : (k : ℕ) (p : Cpu) → CpuFormed n (M .contexts) (view p) → Room (view p .lists) → Alone (p .timers) → WellFormed c n (set-cpu k p M)
+  unfolding cpu-at
+  cpu-leaves k p f r a =
       machine-formed c n M W (M .contexts) (set (M .cpus) k p) (W .contexts) (contexts-start c n M W) (length-set (M .cpus) k p ∙ W .cpus)
       (λ j. getD-set (M .cpus) k j p no-cpu (Stands n (M .contexts)) (present f r) (each-stands c n M W j))
+      (λ j. getD-set (M .cpus) k j p no-cpu (λ (y : Cpu). Alone (y .timers)) a (W .alone j))
 
   module _ (k : ℕ) (here : k < c) (is : cpu-at M k .block .present ≡ true) where
     abbrev p : Cpu
@@ -79,7 +83,7 @@ module _ (c n : ℕ) (M : Machine) (W : WellFormed c n M) where
         let b : length (p .«local_wakeup_list») < 64 = leb-false 64 _ z in
         cpu-leaves k (cpu-local-wakeup-list (p .«local_wakeup_list» ++ (x ∷ [])) p)
         (record { scalars = f .scalars; lists = record { queue = l .queue; timers = l .timers; local = names-more n (p .«local_wakeup_list») (x ∷ []) (l .local) (h, tt); ipi = l .ipi } })
-        (record { queue = r .queue; timers = r .timers; local = rw length-append (omega arith); ipi = r .ipi; queue-len = r .queue-len })
+        (record { queue = r .queue; timers = r .timers; local = rw length-append (omega arith); ipi = r .ipi; queue-len = r .queue-len }) (W .alone k)
 
     ipi-leaves : (x : ℕ) → x < n → leb 64 (length (p .«ipi_context_wakeup_list»)) ≡ false → WellFormed c n (push-ipi k x M)
     unfolding push-ipi
@@ -89,7 +93,7 @@ module _ (c n : ℕ) (M : Machine) (W : WellFormed c n M) where
         let b : length (p .«ipi_context_wakeup_list») < 64 = leb-false 64 _ z in
         cpu-leaves k (cpu-ipi-context-wakeup-list (p .«ipi_context_wakeup_list» ++ (x ∷ [])) p)
         (record { scalars = f .scalars; lists = record { queue = l .queue; timers = l .timers; local = l .local; ipi = names-more n (p .«ipi_context_wakeup_list») (x ∷ []) (l .ipi) (h, tt) } })
-        (record { queue = r .queue; timers = r .timers; local = r .local; ipi = rw length-append (omega arith); queue-len = r .queue-len })
+        (record { queue = r .queue; timers = r .timers; local = r .local; ipi = rw length-append (omega arith); queue-len = r .queue-len }) (W .alone k)
 
     -- operation 5
     pub drain-leaves : (drain-ipi-context-wakeups k M) .no-room ≡ false → WellFormed c n ((drain-ipi-context-wakeups k M) .machine)
@@ -99,7 +103,7 @@ module _ (c n : ℕ) (M : Machine) (W : WellFormed c n M) where
         let l = f .lists in
         cpu-leaves k (cpu-local-wakeup-list (p .«local_wakeup_list» ++ p .«ipi_context_wakeup_list») (cpu-ipi-context-wakeup-list [] p))
         (record { scalars = f .scalars; lists = record { queue = l .queue; timers = l .timers; local = names-more n (p .«local_wakeup_list») (p .«ipi_context_wakeup_list») (l .local) (l .ipi); ipi = tt } })
-        (record { queue = r .queue; timers = r .timers; local = ltb-false 64 _ z; ipi = omega arith; queue-len = r .queue-len })
+        (record { queue = r .queue; timers = r .timers; local = ltb-false 64 _ z; ipi = omega arith; queue-len = r .queue-len }) (W .alone k)
 
   -- operations 6 and 7
   pub block-leaves : (s : Status) (x : ℕ) → LiveName n (M .contexts) x → WellFormed c n ((block-with s x M) .machine)

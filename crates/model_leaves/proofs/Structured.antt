@@ -23,10 +23,12 @@ use Rattle.table.proofs.Rising.{rises}
 use Rattle.machine.specs.Machine.{Machine, context-at, cpu-at, no-context, no-cpu}
 use Rattle.machine.specs.Encode.{encode, context-place, cpu-place}
 use Rattle.machine.proofs.Places.{context-part, cpu-part}
-use Rattle.image_structure.specs.Structure.{id-of, is-live, is-new, ids-differ, names-live, entry-ids, keys-rise, timers-rise, block-structure, structure}
+use Rattle.image_structure.specs.Structure.{id-of, is-live, is-new, ids-differ, names-live, entry-ids, keys-rise, timers-rise, timers-differ, block-structure, structure}
 use Rattle.stages.proofs.Fitting.{of-all}
 use Rattle.model_leaves.proofs.WellFormed.{LiveName, EntryFormed, view, CpuFormed, Room, Stands, absent, present, WellFormed}
+use Rattle.model_timers.specs.Timers.{Alone}
 use Rattle.model_leaves.proofs.Words.{every-of, present-word}
+use Rattle.model_leaves.proofs.TimersAlone.{words-differ}
 use Rattle.percpu.specs.Places.{block-size, entry-context-ref-column, key-ctxt-id-column}
 
 module _ (c n : ℕ) (M : Machine) (W : WellFormed c n M) where
@@ -64,7 +66,7 @@ module _ (c n : ℕ) (M : Machine) (W : WellFormed c n M) where
       rw e)
 
   -- a present CPU
-  module _ (p : Cpu) (o : CpuFormed n (M .contexts) (view p)) (r : Room (view p .lists)) where
+  module _ (p : Cpu) (o : CpuFormed n (M .contexts) (view p)) (r : Room (view p .lists)) (a : Alone (p .timers)) where
     abbrev b : List ℕ
     b = cpu-words p
 
@@ -110,17 +112,17 @@ module _ (c n : ℕ) (M : Machine) (W : WellFormed c n M) where
 
     present-structure : block-structure m b ≡ true
     unfolding block-structure
-    present-structure = rw (present-word p (o .scalars .present), names, ids, keys, timers)
+    present-structure = rw (present-word p (o .scalars .present), names, ids, keys, timers, words-differ p (r .timers) (o .lists .timers .rise) a)
 
-  stands-structure : (p : Cpu) → Stands n (M .contexts) p → block-structure m (cpu-words p) ≡ true
+  stands-structure : (p : Cpu) → Stands n (M .contexts) p → Alone (p .timers) → block-structure m (cpu-words p) ≡ true
   unfolding block-structure cpu-words block-words stats-words no-cpu block-of
-  stands-structure p (absent e) = rw e
-  stands-structure p (present o r) = present-structure p o r
+  stands-structure p (absent e) a = rw e
+  stands-structure p (present o r) a = present-structure p o r a
 
   pub structured : structure c n m ≡ true
   unfolding structure ids-differ
   structured =
       rw (
         every-of (is-new m) n new-is,
-        every-of (λ (k : ℕ). block-structure m (part m (cpu-place n k) block-size)) c (λ k h. rw (block-is k h) (stands-structure (cpu-at M k) (W .cpu k h))),
+        every-of (λ (k : ℕ). block-structure m (part m (cpu-place n k) block-size)) c (λ k h. rw (block-is k h) (stands-structure (cpu-at M k) (W .cpu k h) (W .alone k))),
       )

@@ -14,6 +14,7 @@ use Rattle.entries.specs.Sorted.{Sorted}
 use Rattle.percpu.specs.Cpu.{Cpu}
 use Rattle.machine.specs.Machine.{Machine, context-at, cpu-at, no-cpu}
 use Rattle.model.proofs.Ordered.{Ordered}
+use Rattle.model_timers.specs.Timers.{Alone}
 use Rattle.numbers.specs.Limits.{max-id, max-number, max-word}
 use Rattle.weights.specs.Weights.{full-slice, min-weight, max-weight}
 
@@ -199,3 +200,4 @@ pub record WellFormed (c n : ℕ) (M : Machine) : Type 0 where
   pub context : (x : ℕ) → x < n → ContextFormed c (context-at (M .contexts) x)
   pub ids-differ : (x y : ℕ) → x < n → y < n → (context-at (M .contexts) x) .«debug_id» ≡ (context-at (M .contexts) y) .«debug_id» → x ≡ y
   pub cpu : (k : ℕ) → k < c → Stands n (M .contexts) (cpu-at M k)
+  pub alone : (k : ℕ) → Alone (cpu-at M k .timers)

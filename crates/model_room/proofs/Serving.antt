@@ -9,14 +9,15 @@ use lib.ListN.{length, length-append, length-map}
 use lib.Dec.{eqb}
 use Rattle.columns.specs.Common.{fold, keep}
 use Rattle.columns.proofs.Tests.{and-both}
+use Rattle.columns.proofs.Keep.{length-keep}
 use Rattle.context.specs.declared.Context.{Context}
 use Rattle.context.specs.Status.{is-runnable}
 use Rattle.weights.specs.Weights.{weight}
 use Rattle.entries.specs.declared.Entry.{Entry}
 use Rattle.entries.specs.declared.Timer.{Timer}
-use Rattle.entries.specs.Order.{entry-before, is-due}
-use Rattle.entries.specs.Queue.{keyed}
-use Rattle.percpu.specs.With.{cpu-queue}
+use Rattle.entries.specs.Order.{entry-before, superseded, is-due}
+use Rattle.entries.specs.Queue.{keyed, without-superseded}
+use Rattle.percpu.specs.With.{cpu-queue, cpu-timers}
 use Rattle.model.specs.State.{State, at, on-cpu, put-context, holder, is-idle}
 use Rattle.model.specs.Wakeup.{Wakeup, can-read, waits-for, is-live-timer, timer-wakeup, local-wakeup, wakeups, is-unreadable, stays, drained, put-back, without-old-key, activated, entering, enter, wake-as, serve-wakeup, serve-wakeups}
 use Rattle.model.specs.Turn.{count-switch, times, holder-stopped, charge-holder, before-selection, inactive}
@@ -92,7 +93,12 @@ unfolding charge-holder holder-stopped
 charge-within {q} {t} {l} n s h a =
     let same : Within q (t + 1) l s = weaker (omega arith) (omega arith) (omega arith) h in
     pick (Within q (t + 1) l) (is-idle s) (λ z. same)
-    (λ z. pick (Within q (t + 1) l) (is-runnable ((holder s) .status)) (λ y. same) (λ y. pick (Within q (t + 1) l) ((holder s) .«has_wake») (λ x. timer-inserted (inactive s) h _ a) (λ x. same)))
+    (λ z. pick (Within q (t + 1) l) (is-runnable ((holder s) .status)) (λ y. same) (λ y. pick (Within q (t + 1) l) ((holder s) .«has_wake»)
+    (λ x.
+    let u : Timer = record { wake = (holder s) .wake; «context_ref» = s .cpu .block .«sched_ctxt» } in
+    let f = length-keep (λ (y : Timer). not (superseded u y)) (s .cpu .timers) in
+    timer-inserted (on-cpu (λ p. cpu-timers (without-superseded u (p .timers)) p) (inactive s)) (record { room = h .room; queue = h .queue; timers = omega (arith, h .timers); local = h .local }) u a)
+    (λ x. same)))
 
 pub before-selection-within : {q t l : ℕ} (time : ℕ) (s : State) → Within q t l s → q + t + l < 64 → Within (q + t + l) (q + t + l) (q + t + l) (before-selection time s)
 unfolding before-selection times

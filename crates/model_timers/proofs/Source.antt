@@ -1,4 +1,4 @@
--- The calls that decide as the source has them: every due timer is taken out. Assumes nothing.
+-- The calls that decide as the source has them: every due timer is taken out, and one put in removes none. Assumes nothing.
 use mathlib.Core.Bool.{not, false}
 use mathlib.Core.List.{List, []}
 use mathlib.Core.Option.{Option, none, some}
@@ -8,34 +8,52 @@ use Rattle.columns.specs.Common.{if_then_else_, fold, keep}
 use Rattle.ticks.specs.Ticks.{tick-interval}
 use Rattle.answer.specs.declared.SwitchResult.the-variants.{Switched}
 use Rattle.answer.specs.Number.{result-number}
+use Rattle.context.specs.Status.{is-runnable}
+use Rattle.charging.specs.Charge.{charged}
 use Rattle.entries.specs.Order.{is-due}
 use Rattle.runnable.specs.Runnable.{update-runnable}
 use Rattle.percpu.specs.Cpu.{Cpu}
 use Rattle.percpu.specs.With.{cpu-timers, cpu-local-wakeup-list}
 use Rattle.machine.specs.Machine.{Machine}
-use Rattle.model.specs.State.{State, at, on-cpu, state-of}
+use Rattle.model.specs.State.{State, at, on-cpu, put-context, insert-timer, state-of, holder, is-idle}
 use Rattle.model.specs.Wakeup.{wakeups, serve-wakeup}
-use Rattle.model.specs.Turn.{count-switch, times, elapsed, was-idle}
+use Rattle.model.specs.Turn.{count-switch, times, elapsed, was-idle, inactive}
 use Rattle.model.specs.SwitchTo.{direct-switch-by, try-direct-switch-back}
-use Rattle.model.specs.Schedule.{Outcome, Scheduled, finish, ticked, select-next-context, picked-as, after-schedule}
+use Rattle.model.specs.Schedule.{Outcome, Scheduled, Selected, finish, ticked, selected, picked-as, after-schedule}
 use Rattle.model.specs.Accepted.{Call, by-tick, by-switch, by-direct-switch}
 
--- `drained`, the one place in which they differ
+-- `drained` and `holder-stopped`, the two places in which they differ
 abbrev pub source-drained : ℕ → State → State
 source-drained time s =
     on-cpu (λ p. cpu-timers (keep (λ t. not (is-due time t)) (p .timers)) (cpu-local-wakeup-list [] p)) s
 
+unfoldable pub source-holder-stopped : State → State
+source-holder-stopped s =
+    if (holder s) .«has_wake»
+    then insert-timer (record { wake = (holder s) .wake; «context_ref» = s .cpu .block .«sched_ctxt» }) (inactive s)
+    else inactive s
+
+-- from here on as in model/specs/Wakeup, Turn and Schedule
 unfoldable pub source-serve-wakeups : ℕ → State → State
 source-serve-wakeups time s = fold serve-wakeup (source-drained time s) (wakeups time s)
 
--- from here on as in model/specs/Turn and Schedule
 unfoldable pub source-before-selection : ℕ → State → State
 source-before-selection time s = on-cpu (times time) (source-serve-wakeups time (on-cpu count-switch s))
 
+unfoldable pub source-charge-holder : ℕ → State → State
+source-charge-holder elapsed s =
+    if is-idle s then s else
+    if is-runnable ((holder s) .status)
+    then put-context (s .cpu .block .«sched_ctxt») (charged (s .cpu .block .v) elapsed (holder s)) s
+    else source-holder-stopped s
+
 module _ (k time : ℕ) where
+  unfoldable pub source-select-next-context : ℕ → List Cpu → State → Selected
+  source-select-next-context elapsed cpus s = selected k time elapsed cpus (source-charge-holder elapsed s)
+
   unfoldable pub source-schedule : List Cpu → State → Scheduled
   source-schedule cpus s =
-      let d = select-next-context k time (elapsed time (s .cpu)) cpus (source-before-selection time s) in
+      let d = source-select-next-context (elapsed time (s .cpu)) cpus (source-before-selection time s) in
       picked-as time (was-idle (s .cpu)) (d .rule) (d .cpus) (d .next) (d .state)
 
   unfoldable pub source-switch-inner-by : List Cpu → State → Option State → Outcome

@@ -1,4 +1,4 @@
-// The kernel's answers to recorded and generated calls of every operation, to generated groups, and to decisions with a due timer that cannot be read (harness/lists).
+// The kernel's answers to recorded and generated calls of every operation, to generated groups, and to decisions with timers that cannot be read or are superseded (harness/lists).
 fn main() {
     replay::run();
 }

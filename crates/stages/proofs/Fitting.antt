@@ -7,7 +7,8 @@ use mathlib.Core.List.{List, [], _∷_, _++_}
 use lib.Dec.{ltb}
 use lib.ListN.{length, getD}
 use borrow.Author.Tests.{ltb-false}
-use Rattle.columns.specs.Common.{All}
+use Rattle.columns.specs.Common.{All, keep}
+use Rattle.columns.proofs.Keep.{length-keep, all-keep}
 use Rattle.columns.proofs.Tests.{by-test}
 use Rattle.entries.specs.declared.Entry.{Entry}
 use Rattle.entries.specs.declared.Key.{Key}
@@ -21,7 +22,7 @@ use Rattle.percpu.specs.With.{cpu-block, cpu-queue, cpu-queue-len, cpu-timers, 
 use Rattle.percpu.specs.Layout.{no-entry, no-timer}
 use Rattle.machine.specs.Shape.{EntryFits, CpuFits}
 use Rattle.model.proofs.Sorted.{all-insert, all-remove, insert-sorted, remove-sorted}
-use Rattle.entries.proofs.Ordered.{entries-ordered, timers-ordered}
+use Rattle.entries.proofs.Ordered.{entries-ordered, timers-ordered, sorted-keep}
 use Rattle.stages.specs.Read.{BlockFits}
 
 module _ {A : Type 0} (P : A → Type 0) (d : A) where
@@ -111,11 +112,19 @@ fits-timers n l p o b a s =
       timers-rise = s;
     }
 
+timer-names : (n : ℕ) (p : Cpu) → CpuFits n p → All (λ (t : Timer). t .«context_ref» < n) (p .timers)
+timer-names n p o = all-of (λ (t : Timer). t .«context_ref» < n) no-timer (p .timers) (o .timer)
+
+pub fits-timers-left : (n : ℕ) (f : Timer → Bool) (p : Cpu) → CpuFits n p → CpuFits n (cpu-timers (keep f (p .timers)) p)
+fits-timers-left n f p o =
+    fits-timers n (keep f (p .timers)) p o (omega (arith, o .timers, length-keep f (p .timers)))
+    (all-keep f (λ (t : Timer). t .«context_ref» < n) (p .timers) (timer-names n p o)) (sorted-keep f sooner (p .timers) (o .timers-rise))
+
 pub fits-timer-inserted : (n : ℕ) (t : Timer) (p : Cpu) → t .«context_ref» < n → CpuFits n p → ltb 64 (length (timer-insert t (p .timers))) ≡ false
     → CpuFits n (cpu-timers (timer-insert t (p .timers)) p)
 fits-timer-inserted n t p f o z =
     fits-timers n (timer-insert t (p .timers)) p o (ltb-false 64 _ z)
-    (all-insert sooner (λ (t : Timer). t .«context_ref» < n) t (p .timers) f (all-of (λ (t : Timer). t .«context_ref» < n) no-timer (p .timers) (o .timer)))
+    (all-insert sooner (λ (t : Timer). t .«context_ref» < n) t (p .timers) f (timer-names n p o))
     (insert-sorted timers-ordered t (p .timers) (o .timers-rise))
 
 pub fits-local : (n x : ℕ) (p : Cpu) → x < n → ltb 64 (length (p .«local_wakeup_list» ++ (x ∷ []))) ≡ false → CpuFits n p

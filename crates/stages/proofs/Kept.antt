@@ -1,17 +1,18 @@
 -- Bounds for what grows, through the parts of a stage and through a stage. Assumes nothing.
 use mathlib.Core.Path.{_≡_, refl, sym, ap, _∙_, subst}
-use mathlib.Core.Bool.{Bool, true, false}
+use mathlib.Core.Bool.{Bool, true, false, not}
 use Prim.Native.Nat.{ℕ, zero, suc, _+_, _<_, _≤_}
 use native.Mathlib.Omega.{arith}
 use mathlib.Core.List.{List, [], _∷_, _++_}
 use lib.ListN.{length, getD, set}
 use Rattle.columns.specs.Common.{All}
+use Rattle.columns.proofs.Keep.{all-keep}
 use Rattle.context.specs.declared.Context.{Context}
 use Rattle.entries.specs.declared.Entry.{Entry}
 use Rattle.entries.specs.declared.Key.{Key}
 use Rattle.entries.specs.declared.Timer.{Timer}
-use Rattle.entries.specs.Order.{entry-before, sooner}
-use Rattle.entries.specs.Queue.{queue-insert, queue-remove, timer-insert, keyed}
+use Rattle.entries.specs.Order.{entry-before, sooner, superseded}
+use Rattle.entries.specs.Queue.{queue-insert, queue-remove, timer-insert, without-superseded, keyed}
 use Rattle.percpu.specs.declared.PercpuBlock.{PercpuBlock}
 use Rattle.percpu.specs.Cpu.{Cpu}
 use Rattle.percpu.specs.With.{cpu-block, cpu-queue, cpu-queue-len, cpu-timers}
@@ -20,7 +21,7 @@ use Rattle.machine.specs.Machine.{Machine, context-at, cpu-at, no-context, no-c
 use Rattle.machine.specs.Encode.{encode}
 use Rattle.machine.specs.Shape.{Fits}
 use Rattle.machine.proofs.Steps.{getD-set}
-use Rattle.model.specs.State.{State, state-of, put-context, insert-entry, insert-timer, push-local, remove-key}
+use Rattle.model.specs.State.{State, state-of, put-context, insert-entry, insert-timer, insert-newest-timer, push-local, remove-key}
 use Rattle.model.proofs.Sorted.{all-insert, all-remove}
 use Rattle.stages.specs.Stage.{put-state, Stage, ContextBelow, CpuBelow, StateBelow, Below, Ranged}
 use Rattle.stages.proofs.Fitting.{all-of, of-all}
@@ -131,24 +132,36 @@ module _ {n t b : ℕ} (s : State) (o : StateBelow n t b s) where
         cpu = queue-kept (queue-remove k (s .cpu .queue)) _ (all-remove entry-before (λ (e : Entry). e .vtime ≤ b) (keyed k) (s .cpu .queue) vtimes) (all-remove entry-before (λ (e : Entry). e .key .vd ≤ b) (keyed k) (s .cpu .queue) deadlines);
       }
 
+  timers-kept : (l : List Timer) → All (λ (y : Timer). y .wake ≤ t) l → CpuBelow t b (cpu-timers l (s .cpu))
+  timers-kept l w =
+      record {
+        schedule-time = o .cpu .schedule-time;
+        pit-ticks = o .cpu .pit-ticks;
+        user = o .cpu .user;
+        kernel = o .cpu .kernel;
+        idle = o .cpu .idle;
+        context-switches = o .cpu .context-switches;
+        syscall-switches = o .cpu .syscall-switches;
+        v = o .cpu .v;
+        total-weight = o .cpu .total-weight;
+        entry-vtime = o .cpu .entry-vtime;
+        entry-vd = o .cpu .entry-vd;
+        timer-wake = of-all (λ (y : Timer). y .wake ≤ t) no-timer l w;
+      }
+
+  wakes : All (λ (y : Timer). y .wake ≤ t) (s .cpu .timers)
+  wakes = all-of (λ (y : Timer). y .wake ≤ t) no-timer (s .cpu .timers) (o .cpu .timer-wake)
+
   pub timer-kept : (x : Timer) → x .wake ≤ t → StateBelow n t b (insert-timer x s)
   timer-kept x u =
-      record {
+      record { context = o .context; cpu = timers-kept (timer-insert x (s .cpu .timers)) (all-insert sooner (λ (y : Timer). y .wake ≤ t) x (s .cpu .timers) u wakes) }
+
+  pub newest-kept : (x : Timer) → x .wake ≤ t → StateBelow n t b (insert-newest-timer x s)
+  newest-kept x u =
+      let l : List Timer = without-superseded x (s .cpu .timers)
+      in record {
         context = o .context;
-        cpu = record {
-          schedule-time = o .cpu .schedule-time;
-          pit-ticks = o .cpu .pit-ticks;
-          user = o .cpu .user;
-          kernel = o .cpu .kernel;
-          idle = o .cpu .idle;
-          context-switches = o .cpu .context-switches;
-          syscall-switches = o .cpu .syscall-switches;
-          v = o .cpu .v;
-          total-weight = o .cpu .total-weight;
-          entry-vtime = o .cpu .entry-vtime;
-          entry-vd = o .cpu .entry-vd;
-          timer-wake = of-all (λ (y : Timer). y .wake ≤ t) no-timer (timer-insert x (s .cpu .timers)) (all-insert sooner (λ (y : Timer). y .wake ≤ t) x (s .cpu .timers) u (all-of (λ (y : Timer). y .wake ≤ t) no-timer (s .cpu .timers) (o .cpu .timer-wake)));
-        };
+        cpu = timers-kept (timer-insert x l) (all-insert sooner (λ (y : Timer). y .wake ≤ t) x l u (all-keep (λ (y : Timer). not (superseded x y)) (λ (y : Timer). y .wake ≤ t) (s .cpu .timers) wakes));
       }
 
   pub name-kept : (x : ℕ) → StateBelow n t b (push-local x s)

@@ -1,6 +1,6 @@
 -- The block of CPU k lent, and back: what a change of the block is as a stage. Assumes nothing.
 use mathlib.Core.Path.{_≡_, refl, sym, ap, _∙_, subst}
-use mathlib.Core.Bool.{Bool, true, false, _&&_, _||_}
+use mathlib.Core.Bool.{Bool, true, false, not, _&&_, _||_}
 use Prim.Native.Nat.{ℕ, zero, suc, _+_, _-_, _*_, _<_, _≤_}
 use native.Mathlib.Omega.{arith}
 use mathlib.Core.List.{List, [], _∷_, _++_}
@@ -18,7 +18,7 @@ use Rattle.context.specs.declared.Context.{Context}
 use Rattle.entries.specs.declared.Entry.{Entry}
 use Rattle.entries.specs.declared.Key.{Key}
 use Rattle.entries.specs.declared.Timer.{Timer}
-use Rattle.entries.specs.Order.{entry-before, sooner}
+use Rattle.entries.specs.Order.{entry-before, sooner, superseded}
 use Rattle.entries.specs.Queue.{queue-insert, queue-remove, timer-insert}
 use Rattle.entries.specs.Sorted.{Sorted}
 use Rattle.percpu.specs.declared.PercpuBlock.{PercpuBlock}
@@ -28,18 +28,18 @@ use Rattle.percpu.specs.With.{cpu-block, cpu-queue, cpu-queue-len, cpu-timers, 
 use Rattle.percpu.specs.Layout.{cpu-words, counts, entry-at, no-entry}
 use Rattle.percpu.proofs.Read.{entry-is}
 use Rattle.run_queue.specs.Put.{no-room}
-use Rattle.timers.specs.Put.{timer-put, no-room as no-timer-room}
+use Rattle.timers.specs.Put.{timer-put, newest, no-room as no-timer-room}
 use Rattle.machine.specs.Machine.{Machine, cpu-at, no-cpu, set-context, set-cpu}
 use Rattle.machine.specs.Encode.{encode, cpu-place}
 use Rattle.machine.specs.Shape.{ContextFits, EntryFits, CpuFits, Fits, Image, Went}
 use Rattle.machine.proofs.Places.{lent-is, back-is}
 use Rattle.machine.proofs.Steps.{fits-cpu, fits-context}
 use Rattle.machine.proofs.LookUps.{block-word}
-use Rattle.model.specs.State.{State, state-of, put-context, on-cpu, insert-entry, insert-timer, push-local, remove-key}
+use Rattle.model.specs.State.{State, state-of, put-context, on-cpu, insert-entry, insert-timer, insert-newest-timer, push-local, remove-key}
 use Rattle.stages.specs.Stage.{put-state, StageAt, Stage, Staged}
 use Rattle.stages.specs.Read.{BlockFits, EntryRead}
 use Rattle.stages.proofs.Compose.{staged}
-use Rattle.stages.proofs.Fitting.{fits-inserted, fits-removed, fits-block, fits-timer-inserted, fits-local}
+use Rattle.stages.proofs.Fitting.{fits-inserted, fits-removed, fits-block, fits-timers-left, fits-timer-inserted, fits-local}
 use Rattle.percpu.specs.Places.{queue-count, timers-count, block-size}
 
 -- the count of the queue
@@ -121,6 +121,16 @@ module _ {c n : ℕ} {m : List ℕ} (i : Image c n m) (k : ℕ) {at : ℕ} (z : 
       let a = f p z (o .timers) (o .timers-rise)
       in (a .0, λ y. let w : no-timer-room t p ≡ false = sym (a .0) ∙ y in a .1 ∙ rw w))
       (λ p o w. fits-timer-inserted n t p q o w)
+
+  pub staged-newest : (r : Bool) (t : Timer) → t .«context_ref» < n
+      → ((p : Cpu) → lent ≡ cpu-words p → length (p .timers) ≤ 64 → Sorted sooner (p .timers) → (r ≡ no-timer-room t (newest t p)) × (l ≡ cpu-words (timer-put t (newest t p))))
+      → Staged c n k m back r (λ (s : State). insert-newest-timer t s)
+  staged-newest r t q f =
+      staged-insert r (λ (p : Cpu). cpu-timers (timer-insert t (newest t p .timers)) p) (λ (p : Cpu). no-timer-room t (newest t p))
+      (λ p o z.
+      let a = f p z (o .timers) (o .timers-rise)
+      in (a .0, λ y. let w : no-timer-room t (newest t p) ≡ false = sym (a .0) ∙ y in a .1 ∙ rw w))
+      (λ p o w. fits-timer-inserted n t (newest t p) q (fits-timers-left n (λ (u : Timer). not (superseded t u)) p o) w)
 
   pub staged-name : (r : Bool) (x name : ℕ) → x < n → name ≡ x
       → ((p : Cpu) → lent ≡ cpu-words p → (r ≡ leb 64 (length (p .«local_wakeup_list»))) × (r ≡ false → l ≡ cpu-words (cpu-local-wakeup-list (p .«local_wakeup_list» ++ (name ∷ [])) p)))

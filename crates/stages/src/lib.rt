@@ -18,7 +18,7 @@ ghost use Rattle.percpu.specs.Layout.{no-entry};
 ghost use Rattle.machine.specs.Machine.{Machine, cpu-at};
 ghost use Rattle.machine.specs.Encode.{encode, cpu-place};
 ghost use Rattle.machine.specs.Shape.{ContextFits, EntryFits, Image, Fits};
-ghost use Rattle.model.specs.State.{State, put-context, on-cpu, insert-entry, insert-timer, push-local, remove-key};
+ghost use Rattle.model.specs.State.{State, put-context, on-cpu, insert-entry, insert-timer, insert-newest-timer, push-local, remove-key};
 ghost use Rattle.stages.specs.Stage.{Staged};
 ghost use Rattle.stages.specs.Read.{BlockFits, EntryRead};
 ghost use Rattle.percpu.specs.Places.{queue-count};
@@ -84,6 +84,17 @@ pub fn insert_timer(m: &mut [u64], c: usize, n: usize, k: usize, t: Timer) -> bo
     let at = machine::cpu_place(n, k);
     let end = at + places::BLOCK_SIZE;
     timers::insert(&mut m[at..end], t)
+}
+
+// True if there is no room.
+pub fn insert_newest_timer(m: &mut [u64], c: usize, n: usize, k: usize, t: Timer) -> bool
+    requires { ⌜ Image c n (now m) ⌝ }
+    requires { ⌜ (k < c) × (t .«context_ref» < n) ⌝ }
+    ensures { λ r. ⌜ Staged c n k (now (m .entry)) (now (m .exit)) r (λ (s : State). insert-newest-timer t s) ⌝ }
+{
+    let at = machine::cpu_place(n, k);
+    let end = at + places::BLOCK_SIZE;
+    timers::insert_newest(&mut m[at..end], t)
 }
 
 // True if there is no room.

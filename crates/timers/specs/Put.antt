@@ -5,7 +5,7 @@ use lib.ListN.{length}
 use Rattle.columns.specs.Common.{if_then_else_}
 use Rattle.entries.specs.declared.Key.{Key}
 use Rattle.entries.specs.declared.Timer.{Timer}
-use Rattle.entries.specs.Queue.{timer-insert}
+use Rattle.entries.specs.Queue.{timer-insert, without-superseded}
 use Rattle.percpu.specs.Cpu.{Cpu}
 use Rattle.percpu.specs.With.{cpu-timers}
 
@@ -15,6 +15,10 @@ no-room t c = ltb 64 (length (timer-insert t (c .timers)))
 
 abbrev pub timer-put : Timer → Cpu → Cpu
 timer-put t c = if no-room t c then c else cpu-timers (timer-insert t (c .timers)) c
+
+-- the set without the other timers of t's context
+abbrev pub newest : Timer → Cpu → Cpu
+newest t c = cpu-timers (without-superseded t (c .timers)) c
 
 -- a timer as a key of the queue's order
 abbrev pub timer-key : Timer → Key

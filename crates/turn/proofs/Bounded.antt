@@ -25,7 +25,7 @@ use Rattle.model.specs.State.{State, at, on-cpu, holder, is-idle}
 use Rattle.model.specs.Turn.{count-switch, elapsed, times, inactive, holder-stopped, charge-holder}
 use Rattle.model.proofs.Cases.{pick}
 use Rattle.stages.specs.Stage.{ContextBelow, CpuBelow, StateBelow}
-use Rattle.stages.proofs.Kept.{context-more, cpu-more, state-more, context-kept, timer-kept}
+use Rattle.stages.proofs.Kept.{context-more, cpu-more, state-more, context-kept, newest-kept}
 use Rattle.numbers.specs.Limits.{max-elapsed, nanos-per-millisecond}
 use Rattle.cpu_stats.specs.Counted.{time-to, time-added}
 
@@ -174,7 +174,7 @@ module _ {c n t b : ℕ} (s : State) (f : CpuFits n (s .cpu)) (g : (x : ℕ) →
 
   stop-below : StateBelow n t b (holder-stopped s)
   unfolding holder-stopped
-  stop-below = pick (StateBelow n t b) ((holder s) .«has_wake») (λ e. timer-kept (inactive s) inactive-below _ (held .wake)) (λ e. inactive-below)
+  stop-below = pick (StateBelow n t b) ((holder s) .«has_wake») (λ e. newest-kept (inactive s) inactive-below _ (held .wake)) (λ e. inactive-below)
 
   pub charge-below : (e : ℕ) → e ≤ max-elapsed → StateBelow n t (b + 288230376151711744) (charge-holder e s)
   unfolding charge-holder

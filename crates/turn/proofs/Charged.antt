@@ -19,7 +19,7 @@ use Rattle.percpu.specs.With.{block-total-weight, cpu-block}
 use Rattle.machine.specs.Machine.{Machine, context-at, cpu-at}
 use Rattle.machine.specs.Encode.{encode}
 use Rattle.machine.specs.Shape.{ContextFits, CpuFits, Fits, Image}
-use Rattle.model.specs.State.{State, state-of, put-context, on-cpu, insert-timer}
+use Rattle.model.specs.State.{State, state-of, put-context, on-cpu, insert-newest-timer}
 use Rattle.model.specs.Turn.{holder-stopped, charge-holder}
 use Rattle.stages.specs.Stage.{Stage, Staged, Ranged}
 use Rattle.stages.specs.Read.{BlockFits}
@@ -54,7 +54,7 @@ module _ {c n k : ℕ} {m m' : List ℕ} (x : ℕ) (b : PercpuBlock) (q : Contex
 
   -- the timer of a holder that stopped
   pub stopped-timer : {m'' : List ℕ} {r : Bool} (y : ℕ) → k < c → q .«has_wake» ≡ true → y ≡ x → Staged c n k m m' false (λ (s : State). left x b q s)
-      → Staged c n k m' m'' r (λ (s : State). insert-timer (record { wake = q .wake; «context_ref» = y }) s) → Staged c n k m m'' r (λ (s : State). stopped-by x b q s)
+      → Staged c n k m' m'' r (λ (s : State). insert-newest-timer (record { wake = q .wake; «context_ref» = y }) s) → Staged c n k m m'' r (λ (s : State). stopped-by x b q s)
   unfolding stopped-by
   stopped-timer y h w e t u = stage-as (stage-then h t u) (λ M z o. (rw (w, e), λ a d. refl))
 

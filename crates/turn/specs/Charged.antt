@@ -9,7 +9,7 @@ use Rattle.charging.specs.Charge.{charged, stopped}
 use Rattle.percpu.specs.declared.PercpuBlock.{PercpuBlock}
 use Rattle.percpu.specs.Cpu.{Cpu}
 use Rattle.percpu.specs.With.{block-total-weight, cpu-block}
-use Rattle.model.specs.State.{State, put-context, on-cpu, insert-timer}
+use Rattle.model.specs.State.{State, put-context, on-cpu, insert-newest-timer}
 
 -- the total weight without a context that stops
 abbrev pub weight-left : PercpuBlock → Context → PercpuBlock
@@ -19,7 +19,7 @@ abbrev pub left : ℕ → PercpuBlock → Context → State → State
 left x b q s = put-context x (stopped q) (on-cpu (λ (p : Cpu). cpu-block (weight-left b q) p) s)
 
 unfoldable pub stopped-by : ℕ → PercpuBlock → Context → State → State
-stopped-by x b q s = if q .«has_wake» then insert-timer (record { wake = q .wake; «context_ref» = x }) (left x b q s) else left x b q s
+stopped-by x b q s = if q .«has_wake» then insert-newest-timer (record { wake = q .wake; «context_ref» = x }) (left x b q s) else left x b q s
 
 unfoldable pub charged-by : ℕ → ℕ → PercpuBlock → Context → State → State
 charged-by elapsed x b q s =

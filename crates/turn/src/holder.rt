@@ -63,7 +63,7 @@ fn stop_holder(
             wake: q.wake,
             context_ref: numbers::word(x),
         };
-        return stages::insert_timer(m, c, n, k, t);
+        return stages::insert_newest_timer(m, c, n, k, t);
     }
     false
 }

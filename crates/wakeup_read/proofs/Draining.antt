@@ -30,7 +30,8 @@ use Rattle.stages.proofs.Lent.{staged-cpu, timers-counted}
 use Rattle.stages.proofs.Reading.{unchanged}
 use Rattle.wakeup_judge.specs.Judge.{unreadable-at}
 use Rattle.wakeup_read.specs.Read.{TimerRead, timer-taken, timers-drained}
-use Rattle.wakeup_read.proofs.Thinned.{length-out, all-out, sorted-out, thinned, thinned-long, thinned-item, thinned-stays, thinned-out, thinned-none, lead-passes}
+use Rattle.columns.proofs.Thinned.{length-out, all-out, thinned, thinned-long, thinned-item, thinned-stays, thinned-out}
+use Rattle.wakeup_read.proofs.Thinned.{sorted-out, thinned-none, lead-passes}
 
 -- a timer out of the block, as the code lends it from its place `at`
 module _ {c n : ℕ} {m : List ℕ} (i : Image c n m) (k : ℕ) {at : ℕ} (z : at ≡ cpu-place n k) (h : k < c) (l : List ℕ) where

@@ -1,6 +1,8 @@
 //! Document 02, No. 2 on the changed build, and beside it what the kernel does.
 
-use image::{Answer, Call, ROOM, View, block as b, check, context as c, decision, length, record};
+use image::{
+    Answer, Call, View, block as b, check, context as c, decision, length, put_timers, record,
+};
 
 const CONTEXTS: usize = 6;
 const BLOCK: usize = 2 + CONTEXTS * c::WORDS;
@@ -48,21 +50,13 @@ fn seat(image: &mut [u64], context: usize) {
 }
 
 fn put(image: &mut [u64], timers: &[(u64, usize)]) {
-    image[BLOCK + b::TIMERS_COUNT] = timers.len() as u64;
-    for (slot, (wake, context)) in timers.iter().enumerate() {
-        image[BLOCK + b::TIMER_WAKE + slot] = *wake;
-        image[BLOCK + b::TIMER_CONTEXT_REF + slot] = *context as u64;
-    }
+    let timers: Vec<(u64, u64)> = timers.iter().map(|(w, x)| (*w, *x as u64)).collect();
+    put_timers(image, BLOCK, &timers);
 }
 
 fn timers(image: &[u64]) -> Vec<(u64, usize)> {
-    let word = |place| image[BLOCK + place];
-    (0..word(b::TIMERS_COUNT) as usize)
-        .map(|slot| {
-            let context = word(b::TIMER_CONTEXT_REF + slot);
-            (word(b::TIMER_WAKE + slot), context as usize)
-        })
-        .collect()
+    let timers = View(image).timers(0);
+    timers.map(|(wake, x)| (wake, x as usize)).collect()
 }
 
 const SWITCH: Call = Call {
@@ -134,46 +128,11 @@ fn among_others() {
         (TIME - 1, GONE),
         (TIME, WRITER),
         (TIME, OTHER),
-        (TIME, GONE),
-        (TIME + 1, HOLDER),
         (TIME + 2, THIRD),
-        (TIME + 2, GONE),
     ];
     put(&mut image, &set);
-    let kept = [set[0], set[2], set[5], set[6], set[7]];
-    assert_eq!(left(&image), [kept.to_vec(), set[6..].to_vec()]);
-}
-
-/// 64 timers, one of them due, and a holder that stops with a wake that is not among them.
-fn no_room() {
-    let mut set = vec![(TIME, WRITER)];
-    set.extend((1..ROOM as u64).map(|later| (TIME + 1 + later, THIRD)));
-    let mut image = machine();
-    put(&mut image, &set);
-    image[record(HOLDER) + c::STATUS] = c::BLOCKED;
-    image[record(HOLDER) + c::HAS_WAKE] = 1;
-    image[record(HOLDER) + c::WAKE] = TIME;
-    assert_eq!(left(&image).map(|timers| timers.len()), [ROOM, ROOM]);
-    image[record(WRITER) + c::LOCK] = 2;
-    let mut after = image.clone();
-    let answer = changed::oracle::call(&mut after, &SWITCH).unwrap();
-    assert_eq!((answer, &after), (Answer::refused(9), &image));
-    assert_eq!(
-        decision::with_unreadable(View(&image), &SWITCH, &kernel_after(&image)),
-        None
-    );
-    // Its own timer with that wake is in the set: there it needs no room.
-    image[BLOCK + b::TIMER_CONTEXT_REF] = HOLDER as u64;
-    assert_eq!(left(&image).map(|timers| timers.len()), [ROOM, ROOM]);
-}
-
-fn kernel_after(image: &[u64]) -> Vec<u64> {
-    let mut after = image.to_vec();
-    assert_eq!(
-        kernel::oracle::call(&mut after, &SWITCH).unwrap().refusal,
-        0
-    );
-    after
+    let kept = [set[0], set[2], set[4]];
+    assert_eq!(left(&image), [kept.to_vec(), set[4..].to_vec()]);
 }
 
 /// The kernel's CPUs are global: one test at a time.
@@ -183,5 +142,4 @@ fn unreadable_timers() {
     no_longer_fits();
     in_charge();
     among_others();
-    no_room();
 }

@@ -6,7 +6,9 @@ use crate::{
     list::{case, group_case, line, nonzero},
     recorded,
 };
-use image::{Answer, MAX_CONTEXTS, MAX_CPUS, OPERATIONS, RULES, View, check, decision, length};
+use image::{
+    Answer, Call, MAX_CONTEXTS, MAX_CPUS, OPERATIONS, RULES, View, check, decision, length, newest,
+};
 
 /// How many words of a generated image may be other than 0: the list stays short.
 const WORDS: usize = 160;
@@ -21,7 +23,8 @@ fn short(image: &[u64]) -> bool {
 }
 
 /// Prints the calls of a recorded list, and `each` generated ones of every operation, of
-/// groups, and of decisions with an unreadable due timer; a twentieth as many of each rule.
+/// groups, of decisions with an unreadable due timer and of those that remove one; a twentieth
+/// as many of each rule.
 pub fn calls(list: &str, seed: u64, each: u64) -> bool {
     let mut number = 0;
     let mut print = |text: String| {
@@ -54,16 +57,8 @@ pub fn calls(list: &str, seed: u64, each: u64) -> bool {
             print(format!("g {}", line(group_case(&next.call, &next.image))));
         }
     }
-    let mut left = each;
-    take(Stream::timers(seed), |next, _| {
-        let (call, image) = (&next.call, &next.image);
-        let passes = || check::refusal(image, call) == 0;
-        if short(image) && passes() && decision::unreadable_due(View(image), call) {
-            left -= 1;
-            print(line(case(call, image)));
-        }
-        left > 0
-    });
+    decisions(seed, each, decision::unreadable_due, &mut print);
+    decisions(seed, each, newest::supersedes, &mut print);
     let mut left = [each / 20; RULES.len()];
     left[0] = 0;
     take(Stream::rules(seed), |next, answer| {
@@ -75,6 +70,20 @@ pub fn calls(list: &str, seed: u64, each: u64) -> bool {
         left.iter().any(|left| *left > 0)
     });
     true
+}
+
+/// So many decisions with timers of this sort, of short images.
+fn decisions(seed: u64, each: u64, which: fn(View, &Call) -> bool, print: &mut impl FnMut(String)) {
+    let mut left = each;
+    take(Stream::timers(seed), |next, _| {
+        let (call, image) = (&next.call, &next.image);
+        let passes = || check::refusal(image, call) == 0;
+        if short(image) && passes() && which(View(image), call) {
+            left -= 1;
+            print(line(case(call, image)));
+        }
+        left > 0
+    });
 }
 
 /// Goes through the cases of a stream and their answers for as long as more are wanted.

@@ -1,34 +1,34 @@
-//! How many decisions had which sorts of due timers.
+//! How many decisions had which sorts of due timers, and of timers of the holder.
 
 use image::{
     Call, ROOM, View, block as b, context as c,
     decision::{self, Due, Record},
+    newest,
 };
 
-/// Sorts of decisions, by their due timers; one may be of several.
-const SORTS: [&str; 11] = [
-    "written by another CPU",
-    "  and no longer fits",
-    "of the holder, which runs on",
-    "of the holder, which stops",
-    "of idle in charge",
-    "two unreadable and more",
-    "a readable or gone one between",
-    "62 timers and more, and a wake to put in",
-    "  64, and none of them dropped: no room",
-    "of all, read by another CPU and fits",
-    "of all, read and no longer fits",
+/// Sorts of decisions; one may be of several. The indented ones depart from the kernel.
+const SORTS: [&str; 17] = [
+    "held to the changed build",
+    "  due timers that cannot be read",
+    "    written by another CPU",
+    "    written by another CPU, no longer fits",
+    "    of the holder, which runs on",
+    "    of the holder, which stops",
+    "    of idle in charge",
+    "    two and more",
+    "    a readable or gone one between two",
+    "  a timer of the holder is superseded",
+    "    due",
+    "    not due, by a later wake",
+    "    by an earlier wake",
+    "    not due, one of 64: no room in the source",
+    "a timer of the holder has just its wake",
+    "a due timer fits, and is read by another CPU",
+    "a due timer is read and no longer fits",
 ];
 
-/// Those before have an unreadable timer, those from here on need none.
-const READ: usize = 9;
-
 #[derive(Default)]
-pub struct Sorts {
-    /// Decisions with an unreadable due timer: held to the changed build.
-    unreadable: u64,
-    sorts: [u64; SORTS.len()],
-}
+pub struct Sorts([u64; SORTS.len()]);
 
 impl Sorts {
     /// Of a call that rows 1 to 8 let pass.
@@ -37,48 +37,43 @@ impl Sorts {
             return;
         }
         let due: Vec<Due> = decision::due(image, call).collect();
-        let unreadable = due.iter().any(Due::unreadable);
-        self.unreadable += u64::from(unreadable);
-        for (number, holds) in sorts(image, call, &due).into_iter().enumerate() {
-            self.sorts[number] += u64::from(holds && (unreadable || number >= READ));
+        let departs = decision::departs(image, call);
+        let sorts = [departs]
+            .into_iter()
+            .chain(unreadable(image, call, &due))
+            .chain(newer(image, call))
+            .chain(readable(image, &due));
+        for (count, holds) in self.0.iter_mut().zip(sorts) {
+            *count += u64::from(holds);
         }
     }
     pub fn print(&self) {
-        let name = match cfg!(feature = "oracle") {
-            true => "held to the changed build",
-            false => "decisions with an unreadable due timer",
-        };
-        println!("{name:46} {:8}", self.unreadable);
-        for (number, cases) in self.sorts.iter().enumerate() {
-            let indent = if number < READ { "  " } else { "" };
-            println!("{:46} {cases:8}", format!("{indent}{}", SORTS[number]));
+        for (name, cases) in SORTS.iter().zip(self.0) {
+            let name = match (*name, cfg!(feature = "oracle")) {
+                ("held to the changed build", false) => "decisions that depart from the kernel",
+                (name, _) => name,
+            };
+            println!("{name:46} {cases:8}");
         }
     }
 }
 
-fn sorts(image: View, call: &Call, due: &[Due]) -> [bool; SORTS.len()] {
+fn unreadable(image: View, call: &Call, due: &[Due]) -> [bool; 8] {
     let at = |word| image.block(call.cpu as usize, word);
-    let holder = |word| image.context(at(b::SCHED_CTXT) as usize, word);
     let any = |record, which: &dyn Fn(&Due) -> bool| {
         due.iter()
             .any(|timer| timer.record == record && which(timer))
     };
     let idle = at(b::SCHED_CTXT) == at(b::IDLE_CTXT);
-    let runs_on = holder(c::STATUS) == c::RUNNABLE;
+    let runs_on = image.context(at(b::SCHED_CTXT) as usize, c::STATUS) == c::RUNNABLE;
     let charged = any(Record::InCharge, &|_| true);
     let places: Vec<usize> = (0..due.len()).filter(|n| due[*n].unreadable()).collect();
     let between = match places[..] {
         [first, .., last] => last - first >= places.len(),
         _ => false,
     };
-    let timers = at(b::TIMERS_COUNT) as usize;
-    let own = (holder(c::WAKE), at(b::SCHED_CTXT));
-    let new =
-        (0..timers).all(|slot| (at(b::TIMER_WAKE + slot), at(b::TIMER_CONTEXT_REF + slot)) != own);
-    let puts = timers + 2 >= ROOM && !idle && !runs_on && holder(c::HAS_WAKE) == 1 && new;
-    let read = |timer: &Due| image.context(timer.context as usize, c::LOCK) == 1;
-    let stays = |timer: &Due| timer.unreadable() || read(timer) && timer.fits;
     [
+        !places.is_empty(),
         any(Record::Written, &|_| true),
         any(Record::Written, &|timer| !timer.fits),
         charged && !idle && runs_on,
@@ -86,9 +81,29 @@ fn sorts(image: View, call: &Call, due: &[Due]) -> [bool; SORTS.len()] {
         charged && idle,
         places.len() >= 2,
         between,
-        puts,
-        puts && timers == ROOM && due.iter().all(stays),
-        any(Record::Readable, &|timer| read(timer) && timer.fits),
-        any(Record::Readable, &|timer| read(timer) && !timer.fits),
+    ]
+}
+
+fn newer(image: View, call: &Call) -> [bool; 6] {
+    let put = newest::put_in(image, call);
+    let itself = put.is_some_and(|put| image.timers(call.cpu as usize).any(|timer| timer == put));
+    let Some(((wake, _), (old, _))) = put.zip(newest::superseded(image, call)) else {
+        return [false, false, false, false, false, itself];
+    };
+    let due = old <= call.time + 1;
+    let mut stays = image.timers(call.cpu as usize).map(|timer| timer.0);
+    let full = image.block(call.cpu as usize, b::TIMERS_COUNT) as usize == ROOM
+        && stays.all(|wake| wake > call.time + 1);
+    [true, due, !due && old < wake, old > wake, full, itself]
+}
+
+fn readable(image: View, due: &[Due]) -> [bool; 2] {
+    let read = |timer: &&Due| {
+        timer.record == Record::Readable && image.context(timer.context as usize, c::LOCK) == 1
+    };
+    let read: Vec<&Due> = due.iter().filter(read).collect();
+    [
+        read.iter().any(|timer| timer.fits),
+        read.iter().any(|timer| !timer.fits),
     ]
 }

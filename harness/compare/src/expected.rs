@@ -1,13 +1,14 @@
 //! What a call must answer: rows 1 to 8 by the own reading of the table, the rest by
-//! the kernel's run: by the changed build where a due timer is unreadable, else by the
-//! unchanged one. The rule of a decision is the one that the marks in the changed build note.
+//! the kernel's run: by the changed build where a due timer is unreadable or a timer put in
+//! removes another, else by the unchanged one. The rule of a decision is the one that the marks
+//! in the changed build note.
 
 use crate::ask::Ask;
 use image::Answer;
 #[cfg(feature = "oracle")]
 use {
     crate::generate::weight,
-    image::{Call, Fault, View, block, decision, rule},
+    image::{Call, Fault, View, block, decision, newest, rule, structure},
 };
 
 pub enum Expected {
@@ -33,31 +34,87 @@ pub fn expected(image: &[u64], call: &impl Ask) -> Result<Expected, Contradictio
 }
 
 /// Both builds of the kernel are run on what may be a decision. The changed one must leave
-/// what the unchanged one leaves, but for the unreadable timers.
+/// what the unchanged one leaves, but for the unreadable and the superseded timers.
 #[cfg(feature = "oracle")]
 fn run(image: &[u64], ask: &impl Ask) -> Result<Expected, Contradiction> {
     let mut after = image.to_vec();
     let answer = known(ask.kernel(&mut after))?;
     let Some(call) = ask.decision() else {
+        whole(&answer, &after)?;
         return Ok(Expected::Known(answer, after));
     };
     counted(image, call, &answer, &after)?;
-    let want = match decision::with_unreadable(View(image), call, &after) {
-        _ if answer.refusal != 0 => (answer, after),
-        Some(after) => (answer, after),
-        None => (Answer::refused(9), image.to_vec()),
-    };
+    doubled(image, call, &answer, &after)?;
+    let want = by_the_source(image, call)?;
     let mut after = image.to_vec();
     let answer = known(changed::oracle::call(&mut after, call))?;
     // Only the changed text notes a rule.
     let unnamed = Answer { rule: 0, ..answer };
     if (unnamed, &after) != (want.0, &want.1) {
         return Err(Contradiction(
-            "the changed build departs from the kernel in more than the unreadable timers".into(),
+            "the changed build departs from the kernel in more than the unreadable and the superseded timers".into(),
         ));
     }
+    roomy()?;
     ruled(image, call, &answer, &after)?;
+    whole(&answer, &after)?;
     Ok(Expected::Known(answer, after))
+}
+
+/// No timer finds its set full, which has one of each context at most.
+#[cfg(feature = "oracle")]
+fn roomy() -> Result<(), Contradiction> {
+    let full = changed::branches::take_no_room().map(|which| changed::branches::FULL[which]);
+    match full == Some("timers") {
+        true => Err(Contradiction("there is no room for a timer".into())),
+        false => Ok(()),
+    }
+}
+
+/// No accepted call leaves a broken structure: no two timers of one context in a set.
+#[cfg(feature = "oracle")]
+fn whole(answer: &Answer, after: &[u64]) -> Result<(), Contradiction> {
+    match answer.refusal == 0 && !structure::holds(View(after)) {
+        true => Err(Contradiction(
+            "an accepted call breaks the structure".into(),
+        )),
+        false => Ok(()),
+    }
+}
+
+/// The changed build's answer, worked out from the source's own: the source finds the set
+/// without the timer that is superseded, and the unreadable ones are put back after it.
+#[cfg(feature = "oracle")]
+fn by_the_source(image: &[u64], call: &Call) -> Result<(Answer, Vec<u64>), Contradiction> {
+    let before = newest::without_superseded(View(image), call);
+    let mut after = before.clone();
+    let answer = known(kernel::oracle::call(&mut after, call))?;
+    match answer.refusal {
+        0 => {
+            let after = decision::with_unreadable(View(&before), call, &after);
+            Ok((answer, after))
+        }
+        _ => Ok((answer, image.to_vec())),
+    }
+}
+
+/// The source leaves two timers of one context exactly where one that is not due is superseded.
+#[cfg(feature = "oracle")]
+fn doubled(
+    image: &[u64],
+    call: &Call,
+    answer: &Answer,
+    after: &[u64],
+) -> Result<(), Contradiction> {
+    let superseded = newest::superseded(View(image), call);
+    let read = superseded.is_some_and(|(wake, _)| wake > call.time + 1);
+    let leaves = !structure::timers_differ(View(after), call.cpu as usize);
+    if answer.refusal == 0 && leaves != read {
+        return Err(Contradiction(format!(
+            "the source leaves two timers of one context: {leaves}, and is read otherwise"
+        )));
+    }
+    Ok(())
 }
 
 /// A rule is noted exactly where a decision is accepted; on a tidy machine it is that of the

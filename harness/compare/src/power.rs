@@ -13,7 +13,7 @@ fn answered(case: &Case) -> Option<(Answer, Vec<u64>)> {
     if refusal != 0 {
         return Some((Answer::refused(refusal), after));
     }
-    let answer = match decision::unreadable_due(View(&case.image), &case.call) {
+    let answer = match decision::departs(View(&case.image), &case.call) {
         true => changed::oracle::call(&mut after, &case.call),
         false => kernel::oracle::call(&mut after, &case.call),
     };

@@ -1,7 +1,7 @@
 //! Which calls make a decision, and the timers that come due in it: an own reading of
 //! document 01 and of the source, of images and calls that rows 1 to 8 let pass.
 
-use crate::{Call, ROOM, View, block as b, context as c};
+use crate::{Call, View, block as b, context as c, newest, put_timers};
 use std::collections::BTreeSet;
 
 /// Whether the call runs `schedule`.
@@ -64,10 +64,8 @@ impl Due {
 pub fn due(image: View, call: &Call) -> impl Iterator<Item = Due> {
     let (cpu, time) = (call.cpu as usize, call.time);
     let at = move |word| image.block(cpu, word);
-    let due = move |slot: &usize| at(b::TIMER_WAKE + slot) <= time + 1;
-    let slots = 0..at(b::TIMERS_COUNT) as usize;
-    slots.filter(due).map(move |slot| {
-        let (wake, context) = (at(b::TIMER_WAKE + slot), at(b::TIMER_CONTEXT_REF + slot));
+    let due = image.timers(cpu).filter(move |(wake, _)| *wake <= time + 1);
+    due.map(move |(wake, context)| {
         let word = |place| image.context(context as usize, place);
         let record = if image.gone(context as usize) {
             Record::Gone
@@ -93,33 +91,28 @@ pub fn unreadable_due(image: View, call: &Call) -> bool {
     is_made(image, call) && due(image, call).any(|timer| timer.unreadable())
 }
 
-/// The image that the source leaves, with the unreadable timers in the set that it has lost;
-/// nothing if there is no room for them (document 02, No. 2).
-pub fn with_unreadable(before: View, call: &Call, after: &[u64]) -> Option<Vec<u64>> {
+/// Whether the call's answer is that of the changed build: a due timer is unreadable, or the
+/// timer put in removes another. Elsewhere the source itself decides: it then leaves at most
+/// one timer of each context.
+pub fn departs(image: View, call: &Call) -> bool {
+    unreadable_due(image, call) || newest::supersedes(image, call)
+}
+
+/// The image that the source leaves, with the unreadable timers in the set that it has lost
+/// (document 02, No. 2). With one timer to a context there is room for them.
+pub fn with_unreadable(before: View, call: &Call, after: &[u64]) -> Vec<u64> {
     let mut image = after.to_vec();
     if !unreadable_due(before, call) {
-        return Some(image);
+        return image;
     }
-    let block = before.block_at(call.cpu as usize);
-    let count = after[block + b::TIMERS_COUNT] as usize;
-    let left = (0..count).map(|slot| {
-        let word = |column| after[block + column + slot];
-        (word(b::TIMER_WAKE), word(b::TIMER_CONTEXT_REF))
-    });
     let unreadable = due(before, call).filter(Due::unreadable);
     let set: BTreeSet<(u64, u64)> = unreadable
         .map(|timer| (timer.wake, timer.context))
-        .chain(left)
+        .chain(View(after).timers(call.cpu as usize))
         .collect();
-    if set.len() > ROOM {
-        return None;
-    }
-    image[block + b::TIMERS_COUNT] = set.len() as u64;
-    for (slot, (wake, context)) in set.into_iter().enumerate() {
-        image[block + b::TIMER_WAKE + slot] = wake;
-        image[block + b::TIMER_CONTEXT_REF + slot] = context;
-    }
-    Some(image)
+    let set: Vec<(u64, u64)> = set.into_iter().collect();
+    put_timers(&mut image, before.block_at(call.cpu as usize), &set);
+    image
 }
 
 #[cfg(test)]

@@ -4,10 +4,11 @@
 pub mod check;
 pub mod decision;
 pub mod name;
+pub mod newest;
 mod places;
 pub mod ranges;
 pub mod rule;
-mod structure;
+pub mod structure;
 pub mod tidy;
 
 pub use places::{RULES, block, context};
@@ -125,5 +126,26 @@ impl View<'_> {
     }
     pub fn gone(self, number: usize) -> bool {
         self.context(number, context::GONE) == 1
+    }
+}
+
+impl<'a> View<'a> {
+    /// The timers of a CPU, wake and context, in their order.
+    pub fn timers(self, cpu: usize) -> impl Iterator<Item = (u64, u64)> + 'a {
+        let at = move |word| self.block(cpu, word);
+        (0..at(block::TIMERS_COUNT) as usize).map(move |slot| {
+            let context = at(block::TIMER_CONTEXT_REF + slot);
+            (at(block::TIMER_WAKE + slot), context)
+        })
+    }
+}
+
+/// Writes the timers of the block that begins there anew.
+pub fn put_timers(image: &mut [u64], block: usize, timers: &[(u64, u64)]) {
+    image[block + block::TIMERS_COUNT] = timers.len() as u64;
+    for slot in 0..ROOM {
+        let (wake, context) = timers.get(slot).copied().unwrap_or_default();
+        image[block + block::TIMER_WAKE + slot] = wake;
+        image[block + block::TIMER_CONTEXT_REF + slot] = context;
     }
 }

@@ -12,6 +12,7 @@ pub fn holds(image: View) -> bool {
                     && ids_agree(image, cpu)
                     && keys_rise(image, cpu)
                     && timers_rise(image, cpu)
+                    && timers_differ(image, cpu)
             })
 }
 
@@ -48,11 +49,17 @@ fn keys_rise(image: View, cpu: usize) -> bool {
 }
 
 fn timers_rise(image: View, cpu: usize) -> bool {
-    let timer = |slot| {
-        (
-            image.block(cpu, block::TIMER_WAKE + slot),
-            image.block(cpu, block::TIMER_CONTEXT_REF + slot),
-        )
-    };
-    (1..image.block(cpu, block::TIMERS_COUNT) as usize).all(|slot| timer(slot - 1) < timer(slot))
+    let timers: Vec<(u64, u64)> = image.timers(cpu).collect();
+    timers.windows(2).all(|pair| pair[0] < pair[1])
+}
+
+/// No context twice in the timer set of a CPU (document 02, No. 4).
+pub fn timers_differ(image: View, cpu: usize) -> bool {
+    let mut marks = 0_u64;
+    image.timers(cpu).all(|(_, context)| {
+        let mark = 1 << context;
+        let new = marks & mark == 0;
+        marks |= mark;
+        new
+    })
 }

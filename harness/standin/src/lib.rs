@@ -1,5 +1,5 @@
-//! Stands in for the port: the table, the kernel and, for the rule and where a due timer is
-//! unreadable, its changed build behind the port's interface. The comparison is tried on it, and edits of
+//! Stands in for the port: the table, the kernel and, for the rule and where the port departs from
+//! it, its changed build behind the port's interface. The comparison is tried on it, and edits of
 //! the table show whether it would see a port that reads the table otherwise.
 
 mod group;
@@ -29,7 +29,7 @@ pub unsafe extern "C" fn ronthuyal_call(
         return Answer::refused(refusal);
     }
     let rule = rule(words, &call);
-    let answer = match decision::unreadable_due(View(words), &call) {
+    let answer = match decision::departs(View(words), &call) {
         true => changed::oracle::call(words, &call),
         false => kernel::oracle::call(words, &call),
     };

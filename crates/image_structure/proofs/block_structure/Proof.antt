@@ -1,5 +1,5 @@
 use Rattle.image_structure.proofs.Structured.{keys-are, timers-are}
-use Rattle.image_ranges.proofs.InRange.{queue-count, timer-count}
+use Rattle.image_ranges.proofs.Named.{queue-count, timer-count}
 use Rattle.image_structure.specs.Structure.{block-structure}
 use borrow.Author.Tests.{eq-eqb, ne-eqb, not-true, not-false}
 use Prim.Native.Nat.{_-_}
@@ -54,10 +54,17 @@ rises-requires-2 c κs = (omega arith, omega arith, omega arith, omega (arith, t
 
 returns-5 : tie.Need-returns-5
 unfolding block-structure
-returns-5 c = rw (ne-eqb _ 0 (c .before .before .before .before .before .before .before .before .before .before .before .if1 .left), sym (c .before .before .before .before .before .before .before .before .before .before .names-live .ensures) ∙ not-false _ (c .before .before .before .before .before .before .before .before .before .if2 .left), sym (c .before .before .before .before .before .before .before .before .entry-ids .ensures) ∙ not-false _ (c .before .before .before .before .before .before .before .if3 .left), sym (keys-are _ _ (c .before .before .before .before .before .index .ensures) (c .before .before .before .before .rises .ensures)) ∙ not-false _ (c .before .before .before .if4 .left)) (timers-are _ _ (c .before .index2 .ensures) (c .rises2 .ensures))
+returns-5 c = rw (ne-eqb _ 0 (c .before .before .before .before .before .before .before .before .before .before .before .before .if1 .left), sym (c .before .before .before .before .before .before .before .before .before .before .before .names-live .ensures) ∙ not-false _ (c .before .before .before .before .before .before .before .before .before .before .if2 .left), sym (c .before .before .before .before .before .before .before .before .before .entry-ids .ensures) ∙ not-false _ (c .before .before .before .before .before .before .before .before .if3 .left), sym (keys-are _ _ (c .before .before .before .before .before .before .index .ensures) (c .before .before .before .before .before .rises .ensures)) ∙ not-false _ (c .before .before .before .before .if4 .left), sym (timers-are _ _ (c .before .before .index2 .ensures) (c .before .rises2 .ensures)) ∙ not-true _ (c .if5 .taken))
+
+timers-differ-requires : tie.Need-timers-differ-requires
+timers-differ-requires c κs = search needs
+
+returns-6 : tie.Need-returns-6
+unfolding block-structure
+returns-6 c = rw (ne-eqb _ 0 (c .before .before .before .before .before .before .before .before .before .before .before .before .before .if1 .left), sym (c .before .before .before .before .before .before .before .before .before .before .before .before .names-live .ensures) ∙ not-false _ (c .before .before .before .before .before .before .before .before .before .before .before .if2 .left), sym (c .before .before .before .before .before .before .before .before .before .before .entry-ids .ensures) ∙ not-false _ (c .before .before .before .before .before .before .before .before .before .if3 .left), sym (keys-are _ _ (c .before .before .before .before .before .before .before .index .ensures) (c .before .before .before .before .before .before .rises .ensures)) ∙ not-false _ (c .before .before .before .before .before .if4 .left), sym (timers-are _ _ (c .before .before .before .index2 .ensures) (c .before .before .rises2 .ensures)) ∙ not-false _ (c .before .if5 .left)) (c .timers-differ .ensures)
 
 pub block-structure-spec : {M : Type 1} → statement M
 block-structure-spec =
     tie.close
     (tie.spec
-    shared-slice-read-if1 returns names-live-requires returns-2 entry-ids-requires returns-3 shared-slice-read-index index-requires rises-requires returns-4 shared-slice-read-index-2 index-requires-2 rises-requires-2 returns-5)
+    shared-slice-read-if1 returns names-live-requires returns-2 entry-ids-requires returns-3 shared-slice-read-index index-requires rises-requires returns-4 shared-slice-read-index-2 index-requires-2 rises-requires-2 returns-5 timers-differ-requires returns-6)

@@ -1,4 +1,4 @@
-use Rattle.image_ranges.proofs.InRange.{queue-count, entry-name}
+use Rattle.image_ranges.proofs.Named.{queue-count, entry-name}
 use Rattle.image_structure.specs.Structure.{id-of, entry-ids}
 use Rattle.columns.proofs.Tests.{every-none, every-next, every-no, every-end}
 use Rattle.columns.specs.Common.{every}

@@ -1,4 +1,4 @@
-use Rattle.image_ranges.proofs.InRange.{current-name, sched-name, idle-name}
+use Rattle.image_ranges.proofs.Named.{current-name, sched-name, idle-name}
 use Rattle.image_structure.specs.Structure.{names-live}
 use borrow.Author.Tests.{not-true, not-false}
 use Prim.Native.Nat.{_-_}

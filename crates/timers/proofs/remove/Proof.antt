@@ -1,3 +1,4 @@
+use lib.Seq.{getD-set-same}
 -- `timers::remove` meets its contract. Assumes nothing.
 use mathlib.Core.Path.{refl}
 use native.Mathlib.Omega.{arith}
@@ -24,7 +25,7 @@ same-length c = search needs
 
 returns : tie.Need-returns
 unfolding row
-returns c = timer-out _ _ _ (c .before .before .before .before .before .before .pre .2) (c .before .before .remove-row .ensures)
+returns c = (getD-set-same (c .before .before .remove-row .last .0) 22 _ 0 (search needs), timer-out _ _ _ (c .before .before .before .before .before .before .pre .2) (c .before .before .remove-row .ensures))
 
 pub remove-spec : {M : Type 1} → statement M
 remove-spec = tie.close (tie.spec slice-read-n remove-row-requires sub-b slice-write-b same-length returns)

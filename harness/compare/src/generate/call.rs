@@ -1,7 +1,7 @@
 //! A call on an image: its operation, CPU and context.
 
 use super::{Stream, case::Choice};
-use image::{Call, View, block as b};
+use image::{Call, View, block as b, context as c};
 
 impl Stream {
     pub fn call(&mut self, image: &[u64], time: u64) -> Call {
@@ -25,6 +25,12 @@ impl Stream {
             operation = 4;
         }
         let mut context = rng.below(view.contexts());
+        if self.choice == Choice::Chains && operation == 4 {
+            // Somebody who sleeps is woken before its timer is due.
+            let sleeps = |x: &usize| view.context(*x, c::STATUS) == c::BLOCKED;
+            let mut from = (context..view.contexts()).chain(0..context);
+            context = from.find(sleeps).unwrap_or(context);
+        }
         let current = view.block(cpu, b::CURRENT_CTXT);
         if operation == 3 && rng.once_in(6) {
             context = current as usize;

@@ -19,7 +19,9 @@ pub fn fill(rng: &mut Rng, scale: &Scale, machine: &mut Machine, aimed: usize) -
     };
     let to = ROOM - rng.pick(&[0, 0, 0, 0, 1, 1, 2]);
     let contexts = machine.record.len();
-    match rng.below(8) {
+    // A timer set is full only with one timer of each of 64 contexts.
+    let kinds = if contexts == ROOM { 12 } else { 8 };
+    match rng.below(kinds) {
         0 | 1 => {
             queue(rng, scale, machine, at, to);
             newcomer(rng, machine, at);
@@ -28,7 +30,10 @@ pub fn fill(rng: &mut Rng, scale: &Scale, machine: &mut Machine, aimed: usize) -
             queue(rng, scale, machine, at, to);
             keyless(rng, machine, at);
         }
-        3 | 4 => {
+        3 | 4 | 8.. => {
+            if rng.once_in(2) {
+                machine.cpu[at].timers.clear();
+            }
             timers(rng, scale, machine, at, to);
             departing(rng, scale, machine, at);
         }
@@ -133,6 +138,7 @@ fn queue(rng: &mut Rng, scale: &Scale, machine: &mut Machine, at: usize, to: usi
     machine.cpu[at].word[b::STEALABLE] = 1;
 }
 
+/// Timers of contexts that have none here, in any order, up to so many in all.
 pub fn timers(rng: &mut Rng, scale: &Scale, machine: &mut Machine, at: usize, to: usize) {
     let far = !rng.once_in(4);
     let mut wake = if far {
@@ -140,27 +146,31 @@ pub fn timers(rng: &mut Rng, scale: &Scale, machine: &mut Machine, at: usize, to
     } else {
         scale.time.saturating_sub(40)
     };
-    while machine.cpu[at].timers.len() < to {
-        let context = rng.below(machine.record.len());
-        machine.cpu[at]
-            .timers
-            .push((wake.min(image::NUMBER_MAX), context));
-        wake += rng.below(3) as u64;
-        if machine.cpu[at].timers.len() == to {
-            machine.settle();
-            wake += 1;
-        }
-        if wake > image::NUMBER_MAX + 200 {
-            return;
+    let contexts = machine.record.len();
+    let (turn, step) = (rng.below(contexts), rng.pick(&[1, contexts - 1]));
+    for number in 0..contexts {
+        let context = (turn + number * step) % contexts;
+        let timers = &mut machine.cpu[at].timers;
+        let timed = timers.iter().any(|(_, other)| *other == context);
+        if !timed && timers.len() < to {
+            timers.push((wake.min(image::NUMBER_MAX), context));
+            wake += rng.below(3) as u64;
         }
     }
+    machine.settle();
 }
 
-/// A holder that has just stopped with a wake, whose timer must go in.
+/// A holder that has just stopped with a wake, whose timer must go in: now and then it has a
+/// timer of just this wake.
 pub fn departing(rng: &mut Rng, scale: &Scale, machine: &mut Machine, at: usize) {
     let sched = machine.cpu[at].sched();
+    let mut timers = machine.cpu[at].timers.iter();
+    let own = timers.find(|(_, context)| *context == sched);
     let record = &mut machine.record[sched];
     record[c::STATUS] = rng.pick(&[c::BLOCKED, c::BLOCKED, c::STOPPED, c::DEAD]);
     record[c::HAS_WAKE] = 1;
-    record[c::WAKE] = scale.wake(rng);
+    record[c::WAKE] = match own {
+        Some((wake, _)) if rng.once_in(4) => *wake,
+        _ => scale.wake(rng),
+    };
 }

@@ -1,7 +1,7 @@
 //! A machine in parts, before it is laid out as an image.
 
 use image::{ROOM, block as b, context as c, length};
-use std::cmp::Reverse;
+use std::{cmp::Reverse, collections::BTreeSet};
 
 #[derive(Clone, Copy)]
 pub struct Entry {
@@ -56,7 +56,8 @@ impl Machine {
     pub fn live(&self, context: usize) -> bool {
         self.record[context][c::GONE] == 0
     }
-    /// Sorts queue and timers, drops equal keys and what is over the room.
+    /// Sorts queue and timers, drops equal keys, all timers of a context but the one that came
+    /// last, and what is over the room.
     pub fn settle(&mut self) {
         let ids: Vec<u64> = self.record.iter().map(|r| r[c::DEBUG_ID]).collect();
         for cpu in &mut self.cpu {
@@ -64,9 +65,10 @@ impl Machine {
             cpu.queue.sort_by_key(key);
             cpu.queue.dedup_by_key(|e| key(e));
             cpu.queue.truncate(ROOM);
+            cpu.timers.reverse();
+            let mut timed = BTreeSet::new();
+            cpu.timers.retain(|(_, context)| timed.insert(*context));
             cpu.timers.sort_unstable();
-            cpu.timers.dedup();
-            cpu.timers.truncate(ROOM);
             cpu.local.truncate(ROOM);
             cpu.ipi.truncate(ROOM);
         }

@@ -106,6 +106,9 @@ impl Stream {
             if self.choice == Choice::Timers {
                 timers::relock(&mut self.rng, image);
             }
+            if matches!(self.choice, Choice::Timers | Choice::Chains) {
+                timers::resleep(&mut self.rng, scale, image);
+            }
         }
     }
 
@@ -114,6 +117,7 @@ impl Stream {
         let scale = Scale::new(rng);
         let size = match self.choice {
             Choice::Small => Size::small(rng),
+            _ if kind == Kind::Full && rng.once_in(3) => Size::most(rng),
             _ => Size::any(rng),
         };
         let mut machine = tidy::machine(rng, &size, &scale);
@@ -144,6 +148,8 @@ impl Stream {
         };
         if self.choice == Choice::Timers {
             timers::put(rng, &scale, &mut machine, aimed);
+        } else if rng.once_in(12) {
+            timers::sleeps_again(rng, &scale, &mut machine, aimed);
         }
         let mut image = machine.image();
         let mut call = self.call(&image, scale.time);

@@ -21,6 +21,13 @@ impl Size {
             contexts: rng.within(cpus + 1, 6),
         }
     }
+    /// With so many contexts a timer set can be full.
+    pub fn most(rng: &mut Rng) -> Self {
+        Self {
+            cpus: rng.pick(&[1, 2, 4]),
+            contexts: rng.pick(&[62, 63, 64, 64, 64, 64]),
+        }
+    }
     pub fn any(rng: &mut Rng) -> Self {
         let cpus = rng.pick(&[1, 1, 1, 2, 2, 2, 2, 3, 4]);
         let most = rng.pick(&[4, 6, 8, 8, 12, 12, 20, 64]);

@@ -1,5 +1,6 @@
 //! Timers that come due and cannot be read: of a context that another CPU writes, of the
-//! one in charge, of idle in charge. Beside them readable and gone ones, in any order.
+//! one in charge, of idle in charge. Beside them readable and gone ones, in any order. And
+//! timers of a holder that stops with a wake, of another wake or of this one.
 
 use super::{full, machine::Machine, rng::Rng, values::Scale};
 use image::{Call, NUMBER_MAX, ROOM, View, block as b, context as c};
@@ -23,8 +24,10 @@ pub fn put(rng: &mut Rng, scale: &Scale, machine: &mut Machine, at: usize) {
         let written = crowded || rng.once_in(2);
         one(rng, scale, machine, at, written);
     }
-    if rng.once_in(2) {
-        of_holder(rng, scale, machine, at);
+    match rng.below(4) {
+        0 => sleeps_again(rng, scale, machine, at),
+        1 | 2 => of_holder(rng, scale, machine, at),
+        _ => {}
     }
     if crowded {
         let to = ROOM - rng.pick(&[0, 0, 0, 1, 2]);
@@ -34,6 +37,15 @@ pub fn put(rng: &mut Rng, scale: &Scale, machine: &mut Machine, at: usize) {
         }
     }
     machine.settle();
+}
+
+/// A holder that stops with a wake while a timer of it is in the set: of an earlier wake or of
+/// a later one, due or not, or of just this wake.
+pub fn sleeps_again(rng: &mut Rng, scale: &Scale, machine: &mut Machine, at: usize) {
+    let (wake, sched) = (scale.wake(rng), machine.cpu[at].sched());
+    machine.cpu[at].timers.push((wake, sched));
+    machine.settle();
+    full::departing(rng, scale, machine, at);
 }
 
 const SEATS: [usize; 3] = [b::CURRENT_CTXT, b::SCHED_CTXT, b::IDLE_CTXT];
@@ -100,6 +112,28 @@ pub fn call(rng: &mut Rng, call: &mut Call, at: usize) {
     call.cpu = at as u64;
     if call.operation > 3 && !rng.once_in(4) {
         call.operation = rng.pick(&[1, 2, 2]);
+    }
+}
+
+/// Between two calls of a chain somebody in charge sleeps again: it stores its wake and blocks,
+/// or blocks by a later call. Its timer from before may still be in the set.
+pub fn resleep(rng: &mut Rng, scale: &Scale, image: &mut [u64]) {
+    let view = View(image);
+    let charged = |cpu: usize| view.block(cpu, b::SCHED_CTXT);
+    let busy = |cpu: &usize| view.present(*cpu) && charged(*cpu) != view.block(*cpu, b::IDLE_CTXT);
+    let busy: Vec<usize> = (0..view.cpus()).filter(busy).collect();
+    if busy.is_empty() || !rng.once_in(3) {
+        return;
+    }
+    let at = view.context_at(charged(rng.pick(&busy)) as usize);
+    let later = scale.time + rng.pick(&[20_000_000, 60_000_000, 500_000_000]);
+    image[at + c::HAS_WAKE] = 1;
+    image[at + c::WAKE] = match rng.once_in(3) {
+        true => scale.wake(rng),
+        false => later.min(NUMBER_MAX),
+    };
+    if image[at + c::STATUS] == c::RUNNABLE && rng.once_in(2) {
+        image[at + c::STATUS] = c::BLOCKED;
     }
 }
 

@@ -185,6 +185,7 @@ fn names(rng: &mut Rng, scale: &Scale, machine: &mut Machine, at: usize, context
     };
     let cpu = &mut machine.cpu[at];
     match rng.below(3) {
+        // A timer of it may be in another CPU's set too.
         0 => cpu.timers.push((wake, context)),
         1 => cpu.local.push(context),
         _ => cpu.ipi.push(context),

@@ -84,6 +84,26 @@ pub fn woken(size: &Size) -> Machine {
     machine
 }
 
+/// Every context has a timer, on these CPUs; none is due.
+pub fn timed(size: &Size, cpus: usize) -> Machine {
+    let mut machine = last_wins(size);
+    for cpu in &mut machine.cpu[..cpus] {
+        let later = |context| (TIME + 2 + context as u64, context);
+        cpu.timers = (0..size.contexts).map(later).collect();
+    }
+    machine
+}
+
+/// The same, and the holder has stopped with another wake than that of its timer.
+pub fn superseded(size: &Size) -> Machine {
+    let mut machine = timed(size, 1);
+    let holder = &mut machine.record[size.holder()];
+    holder[c::STATUS] = c::BLOCKED;
+    holder[c::HAS_WAKE] = 1;
+    holder[c::WAKE] = TIME + TURN;
+    machine
+}
+
 /// Idle is in charge, its queue is empty, and it steals from the next CPU's queue.
 pub fn stolen(size: &Size) -> Machine {
     let mut machine = last_wins(size);

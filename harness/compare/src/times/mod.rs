@@ -163,6 +163,12 @@ pub fn times() -> bool {
         ("the first entry wins", images::first_wins(&size)),
         ("8 wake-ups before it", images::woken(&size)),
         ("idle steals from the next CPU", images::stolen(&size)),
+        ("64 timers, none due", images::timed(&size, 1)),
+        ("64 timers on each CPU, none due", images::timed(&size, 4)),
+        (
+            "64 timers, the holder's superseded",
+            images::superseded(&size),
+        ),
     ];
     good && others
         .iter()

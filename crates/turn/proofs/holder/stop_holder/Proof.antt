@@ -12,14 +12,14 @@ deactivate-requires c κs = search needs
 word-requires : tie.Need-word-requires
 word-requires c κs = search needs
 
-insert-timer-requires : tie.Need-insert-timer-requires
-insert-timer-requires c κs = (c .before .before .before .before .before .deactivate .ensures .image refl, (c .before .before .before .before .before .before .before .before .pre .1 .0 .0, omega (arith, c .before .word .ensures, c .before .before .before .before .before .before .before .before .pre .1 .0 .1)))
+insert-newest-timer-requires : tie.Need-insert-newest-timer-requires
+insert-newest-timer-requires c κs = (c .before .before .before .before .before .deactivate .ensures .image refl, (c .before .before .before .before .before .before .before .before .pre .1 .0 .0, omega (arith, c .before .word .ensures, c .before .before .before .before .before .before .before .before .pre .1 .0 .1)))
 
 same-length : tie.Need-same-length
 same-length c = search needs
 
 returns : tie.Need-returns
-returns c = stopped-timer (c .before .before .before .before .before .before .before .before .before .before .before .args .x) (c .before .before .before .before .before .before .before .before .before .before .before .args .b) (c .before .before .before .before .before .before .before .before .before .before .before .args .q) _ (c .before .before .before .before .before .before .before .before .before .before .before .pre .1 .0 .0) (c .before .before .before .before .before .if1 .taken) (c .before .before .before .before .word .ensures) (c .before .before .before .before .before .before .before .before .deactivate .ensures) (c .before .before .insert-timer .ensures)
+returns c = stopped-timer (c .before .before .before .before .before .before .before .before .before .before .before .args .x) (c .before .before .before .before .before .before .before .before .before .before .before .args .b) (c .before .before .before .before .before .before .before .before .before .before .before .args .q) _ (c .before .before .before .before .before .before .before .before .before .before .before .pre .1 .0 .0) (c .before .before .before .before .before .if1 .taken) (c .before .before .before .before .word .ensures) (c .before .before .before .before .before .before .before .before .deactivate .ensures) (c .before .before .insert-newest-timer .ensures)
 
 same-length-2 : tie.Need-same-length-2
 same-length-2 c = search needs
@@ -31,4 +31,4 @@ pub stop-holder-spec : {M : Type 1} → statement M
 stop-holder-spec =
     tie.close
     (tie.spec
-    deactivate-requires word-requires insert-timer-requires same-length returns same-length-2 returns-2)
+    deactivate-requires word-requires insert-newest-timer-requires same-length returns same-length-2 returns-2)

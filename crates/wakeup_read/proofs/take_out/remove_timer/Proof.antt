@@ -35,7 +35,7 @@ same-length : tie.Need-same-length
 same-length c = search needs
 
 returns : tie.Need-returns
-returns c = removal-staged (c .before .before .before .before .before .before .pre .0) _ (c .before .before .before .before .cpu-place .ensures) (c .before .before .before .before .before .before .pre .1 .0) _ _ (c .before .before .remove .ensures)
+returns c = removal-staged (c .before .before .before .before .before .before .pre .0) _ (c .before .before .before .before .cpu-place .ensures) (c .before .before .before .before .before .before .pre .1 .0) _ _ (c .before .before .remove .ensures .1)
 
 pub remove-timer-spec : {M : Type 1} → statement M
 remove-timer-spec =

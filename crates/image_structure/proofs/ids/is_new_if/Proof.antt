@@ -1,6 +1,6 @@
 use borrow.Author.Needs.{needs}
-use Rattle.image_structure.proofs.is_new_if.Statement.{statement}
-use Rattle.image_structure.proofs.is_new_if.Tie as tie
+use Rattle.image_structure.proofs.ids.is_new_if.Statement.{statement}
+use Rattle.image_structure.proofs.ids.is_new_if.Tie as tie
 
 is-new-requires : tie.Need-is-new-requires
 is-new-requires c κs = search needs

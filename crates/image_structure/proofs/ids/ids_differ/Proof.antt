@@ -11,8 +11,8 @@ use mathlib.Core.Bool.{true}
 use mathlib.Core.Path.{_≡_, refl, sym, _∙_}
 use borrow.Author.Needs.{needs}
 use native.Mathlib.Omega.{arith}
-use Rattle.image_structure.proofs.ids_differ.Statement.{statement}
-use Rattle.image_structure.proofs.ids_differ.Tie as tie
+use Rattle.image_structure.proofs.ids.ids_differ.Statement.{statement}
+use Rattle.image_structure.proofs.ids.ids_differ.Tie as tie
 
 abbrev Inv-loop : tie.InvT-loop
 Inv-loop m n seen₀ y₀ seen y = (y ≤ n) × (length seen ≡ 64) × ((x : ℕ) → x < y → getD seen (id-of m x % 64) 0 ≡ 1) × (every (is-new m) y ≡ true)

@@ -8,8 +8,8 @@ use mathlib.Core.Bool.{true, not}
 use mathlib.Core.Path.{_≡_, sym, _∙_}
 use borrow.Author.Needs.{needs}
 use native.Mathlib.Omega.{arith}
-use Rattle.image_structure.proofs.is_new.Statement.{statement}
-use Rattle.image_structure.proofs.is_new.Tie as tie
+use Rattle.image_structure.proofs.ids.is_new.Statement.{statement}
+use Rattle.image_structure.proofs.ids.is_new.Tie as tie
 
 abbrev Inv-loop : tie.InvT-loop
 Inv-loop m y id x₀ x = (x ≤ y) × (every (λ (z : ℕ). not (eqb (id-of m z) (id-of m y))) x ≡ true)

@@ -1,8 +1,8 @@
 use Rattle.image_structure.specs.Structure.{id-of}
 use mathlib.Core.Path.{refl}
 use borrow.Author.Needs.{needs}
-use Rattle.image_structure.proofs.id_of.Statement.{statement}
-use Rattle.image_structure.proofs.id_of.Tie as tie
+use Rattle.image_structure.proofs.ids.id_of.Statement.{statement}
+use Rattle.image_structure.proofs.ids.id_of.Tie as tie
 
 context-place-requires : tie.Need-context-place-requires
 context-place-requires c κs = search needs
