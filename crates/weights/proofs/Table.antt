@@ -1,33 +1,27 @@
--- The two tables of the code against the definitions: one test over all 40 entries, which antt computes. Assumes nothing.
-use mathlib.Core.Path.{_≡_, refl}
-use mathlib.Core.List.{List, [], _∷_}
-use Prim.Native.Nat.{ℕ, _<_, _≤_}
-use lib.Dec.{eqb, leb}
-use lib.ListN.{getD}
-use borrow.Author.Tests.{eqb-true, leb-true}
+-- What holds of every weight and every whole slice: one test over all 40, which antt computes. Assumes nothing.
+use mathlib.Core.Path.{_≡_, refl, ap}
+use Prim.Native.Nat.{ℕ, _<_, _≤_, _/_}
+use lib.Dec.{leb}
+use borrow.Author.Tests.{leb-true}
 use Rattle.columns.specs.Common.{every}
 use Rattle.columns.proofs.Tests.{every-at}
-use Rattle.weights.specs.Weights.{weights, weight, whole-slice}
+use Rattle.weights.specs.Weights.{weights, weight, min-weight, max-weight, full-slice, whole-slice, max-whole-slice}
 
--- the table of slices in the code
-unfoldable pub slices : List ℕ
-slices =
-    108873 ∷ 134676 ∷ 171089 ∷ 208840 ∷ 266283 ∷ 331470 ∷ 415570 ∷ 516636 ∷ 646443 ∷ 810983 ∷ 1012115 ∷ 1268199 ∷ 1584209 ∷ 1970570 ∷ 2474059 ∷ 3096339 ∷ 3863924 ∷ 4853679 ∷ 6093112 ∷ 7567483 ∷ 9437184 ∷ 11784971 ∷ 14753704 ∷ 18372008 ∷ 22845570 ∷ 28846795 ∷ 35528222 ∷ 44947332 ∷ 56184165 ∷ 70537784 ∷ 87851603 ∷ 111076740 ∷ 138052520 ∷ 172565650 ∷ 214748364 ∷ 268435456 ∷ 333230221 ∷ 420159844 ∷ 536870912 ∷ 644245094 ∷ []
+module _ (prio : ℕ) where
+  -- a full slice over a number that is the weight
+  pub slice-is : {w : ℕ} → w ≡ weight prio → full-slice / w ≡ whole-slice prio
+  unfolding whole-slice
+  slice-is e = ap (λ (w : ℕ). full-slice / w) e
 
-module _ (i : ℕ) (h : i < 40) where
-  -- each entry is a full slice over the weight
-  pub slice-is : getD slices i 0 ≡ whole-slice i
-  unfolding every slices whole-slice weight weights
-  slice-is = eqb-true _ _ (every-at (λ (k : ℕ). eqb (getD slices k 0) (whole-slice k)) 40 i refl h)
+  module _ (h : prio < 40) where
+    pub weight-low : min-weight ≤ weight prio
+    unfolding every weight weights
+    weight-low = leb-true min-weight _ (every-at (λ (k : ℕ). leb min-weight (weight k)) 40 prio refl h)
 
-  pub weight-low : 15 ≤ weight i
-  unfolding every weight weights
-  weight-low = leb-true 15 _ (every-at (λ (k : ℕ). leb 15 (weight k)) 40 i refl h)
+    pub weight-high : weight prio ≤ max-weight
+    unfolding every weight weights
+    weight-high = leb-true _ max-weight (every-at (λ (k : ℕ). leb (weight k) max-weight) 40 prio refl h)
 
-  pub weight-high : weight i ≤ 88761
-  unfolding every weight weights
-  weight-high = leb-true _ _ (every-at (λ (k : ℕ). leb (weight k) 88761) 40 i refl h)
-
-  pub whole-slice-high : whole-slice i ≤ 644245094
-  unfolding every whole-slice weight weights
-  whole-slice-high = leb-true _ _ (every-at (λ (k : ℕ). leb (whole-slice k) 644245094) 40 i refl h)
+    pub whole-slice-high : whole-slice prio ≤ max-whole-slice
+    unfolding every whole-slice weight weights
+    whole-slice-high = leb-true _ max-whole-slice (every-at (λ (k : ℕ). leb (whole-slice k) max-whole-slice) 40 prio refl h)

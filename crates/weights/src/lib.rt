@@ -46,50 +46,6 @@ const SCHED_PRIO_TO_WEIGHT: [u64; 40] = [
     15,
 ];
 
-// A full slice over the weight.
-const PRIO_TO_SLICE: [u64; 40] = [
-    108873,
-    134676,
-    171089,
-    208840,
-    266283,
-    331470,
-    415570,
-    516636,
-    646443,
-    810983,
-    1012115,
-    1268199,
-    1584209,
-    1970570,
-    2474059,
-    3096339,
-    3863924,
-    4853679,
-    6093112,
-    7567483,
-    9437184,
-    11784971,
-    14753704,
-    18372008,
-    22845570,
-    28846795,
-    35528222,
-    44947332,
-    56184165,
-    70537784,
-    87851603,
-    111076740,
-    138052520,
-    172565650,
-    214748364,
-    268435456,
-    333230221,
-    420159844,
-    536870912,
-    644245094,
-];
-
 // the least and the greatest of the weights
 pub const MIN_WEIGHT: u64 = 15;
 
@@ -111,5 +67,5 @@ pub fn slice_of(prio: u64) -> u64
     requires { ⌜ prio < 40 ⌝ }
     ensures { λ r. ⌜ (r ≡ whole-slice prio) × (r ≤ max-whole-slice) ⌝ }
 {
-    PRIO_TO_SLICE[prio as usize]
+    FULL_SLICE / weight_of(prio)
 }
