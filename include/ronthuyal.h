@@ -3,7 +3,7 @@
 #ifndef RONTHUYAL_H
 #define RONTHUYAL_H
 
-#define RONTHUYAL_VERSION "0.6.0"
+#define RONTHUYAL_VERSION "0.7.0"
 
 #include <stddef.h>
 #include <stdint.h>

@@ -1,29 +1,30 @@
-//! Finds the port's archive, which becomes the `cfg` `port`. RONTHUYAL_PORT names another
-//! archive than the repository's own.
+//! Finds the port's two archives, which become the `cfg`s `port` and `cue_board`. RONTHUYAL_PORT
+//! names another archive than the repository's own; that of the cue board stands beside it.
 
 use std::{env, fs, path::PathBuf};
 
-/// The archive's index holds the names of its global symbols, ended by zeros.
+/// An archive's index holds the names of its global symbols, ended by zeros.
 const EXPORTS: [&str; 2] = ["ronthuyal_call\0", "ronthuyal_unblock_group\0"];
+const CUE_BOARD_EXPORTS: [&str; 2] = ["cue_board_add\0", "cue_board_next\0"];
 
 fn main() {
     let here = PathBuf::from(env::var("CARGO_MANIFEST_DIR").unwrap());
     let archive = env::var("RONTHUYAL_PORT")
         .map(PathBuf::from)
         .unwrap_or_else(|_| here.join("../../target/staticlib/libronthuyal.a"));
+    let board = archive.with_file_name("libcue_board.a");
     println!("cargo::rerun-if-env-changed=RONTHUYAL_PORT");
-    println!("cargo::rerun-if-changed={}", archive.display());
-    println!("cargo::rustc-check-cfg=cfg(port)");
+    println!("cargo::rustc-check-cfg=cfg(port, cue_board)");
+    for archive in [&archive, &board] {
+        println!("cargo::rerun-if-changed={}", archive.display());
+    }
     let Ok(bytes) = fs::read(&archive) else {
         return;
     };
     // Without it nothing would be compared, and nothing would be found to differ.
     for export in EXPORTS {
-        let exported = bytes
-            .windows(export.len())
-            .any(|window| window == export.as_bytes());
         assert!(
-            exported,
+            holds(&bytes, export),
             "{} does not export {}",
             archive.display(),
             export.trim_end_matches('\0')
@@ -31,4 +32,19 @@ fn main() {
     }
     println!("cargo::rustc-cfg=port");
     println!("cargo::rustc-link-arg={}", archive.display());
+    // A stand-in has the calls of both.
+    let has_board = |bytes: &[u8]| CUE_BOARD_EXPORTS.iter().all(|export| holds(bytes, export));
+    if has_board(&bytes) {
+        println!("cargo::rustc-cfg=cue_board");
+    } else if let Ok(bytes) = fs::read(&board) {
+        assert!(has_board(&bytes), "{} lacks a call", board.display());
+        println!("cargo::rustc-cfg=cue_board");
+        println!("cargo::rustc-link-arg={}", board.display());
+    }
+}
+
+fn holds(bytes: &[u8], export: &str) -> bool {
+    bytes
+        .windows(export.len())
+        .any(|window| window == export.as_bytes())
 }

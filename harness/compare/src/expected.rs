@@ -22,7 +22,13 @@ pub enum Expected {
 /// A case in which the table, the kernel and its changed build cannot all be right.
 pub struct Contradiction(pub String);
 
+/// The kernel's CPUs are global: tests that run it take turns.
+#[cfg(test)]
+static ALONE: std::sync::Mutex<()> = std::sync::Mutex::new(());
+
 pub fn expected(image: &[u64], call: &impl Ask) -> Result<Expected, Contradiction> {
+    #[cfg(test)]
+    let _alone = ALONE.lock();
     let refusal = call.refusal(image);
     if refusal == 7 {
         must_assert(image, call)?;

@@ -1,7 +1,8 @@
-//! The commands behind the scripts `run`, `lists`, `branches`, `power`, `power-table`, and
-//! `bench/switch`.
+//! The commands behind the scripts `run`, `lists`, `branches`, `power`, `power-table`,
+//! `bench/switch` and `bench/cue_board`.
 
 mod ask;
+mod boards;
 #[cfg(feature = "branches")]
 mod branches;
 mod calls;
@@ -44,6 +45,7 @@ fn main() -> ExitCode {
         ["timers", seed, count] => run::timers(number(seed), number(count)),
         ["rules", seed, count] => run::rules(number(seed), number(count)),
         ["groups", seed, count] => run::groups(number(seed), number(count)),
+        ["boards", seed, runs] => boards::boards(number(seed), number(runs)),
         ["replay", list] => replay::replay(list),
         ["calls", recorded, seed, each] => calls::calls(recorded, number(seed), number(each)),
         ["answers"] => list::answers(),
@@ -51,6 +53,8 @@ fn main() -> ExitCode {
         ["edit", list, root] => edit(list, root),
         #[cfg(feature = "oracle")]
         ["times"] => times::times(),
+        #[cfg(feature = "oracle")]
+        ["times", "boards"] => times::boards::times(),
         #[cfg(feature = "oracle")]
         ["answers", seed, count, to] => power::answers(number(seed), number(count), to),
         #[cfg(feature = "oracle")]

@@ -1,6 +1,9 @@
-//! The port, through the functions that its archive exports.
+//! The port, through the functions that its two archives export.
 
-use image::{Answer, Call, Group};
+use image::{
+    Answer, Call, Group,
+    board::{Cue, Handed},
+};
 
 #[cfg(port)]
 unsafe extern "C" {
@@ -10,8 +13,27 @@ unsafe extern "C" {
     fn ronthuyal_unblock_group(_: *mut u64, _: usize, _: u64, _: u64, _: u64) -> Answer;
 }
 
+#[cfg(cue_board)]
+unsafe extern "C" {
+    /// Of the board, start, writer and two rows; a slice is its address and its length.
+    fn cue_board_add(
+        _: *mut u8,
+        _: usize,
+        _: u64,
+        _: u64,
+        _: *const u8,
+        _: usize,
+        _: *const u8,
+        _: usize,
+    ) -> u64;
+    /// Of the board, the image, CPU and time.
+    fn cue_board_next(_: *mut u8, _: usize, _: *mut u64, _: usize, _: u64, _: u64) -> Handed;
+}
+
 /// Whether there is a port to compare with.
 pub const THERE: bool = cfg!(port);
+/// Whether there is a cue board.
+pub const CUE_BOARD: bool = cfg!(cue_board);
 
 /// The port's answer, or nothing where there is no port.
 #[cfg(port)]
@@ -40,5 +62,41 @@ pub fn unblock_group(image: &mut [u64], group: &Group) -> Option<Answer> {
 
 #[cfg(not(port))]
 pub fn unblock_group(_image: &mut [u64], _group: &Group) -> Option<Answer> {
+    None
+}
+
+/// The port's refusal, or nothing where there is no cue board.
+#[cfg(cue_board)]
+pub fn add(board: &mut [u8], cue: &Cue) -> Option<u64> {
+    let (at, len) = (board.as_mut_ptr(), board.len());
+    let [first, second] = &cue.rows;
+    Some(unsafe {
+        cue_board_add(
+            at,
+            len,
+            cue.start,
+            cue.writer,
+            first.as_ptr(),
+            first.len(),
+            second.as_ptr(),
+            second.len(),
+        )
+    })
+}
+
+#[cfg(not(cue_board))]
+pub fn add(_board: &mut [u8], _cue: &Cue) -> Option<u64> {
+    None
+}
+
+#[cfg(cue_board)]
+pub fn next(board: &mut [u8], image: &mut [u64], cpu: u64, time: u64) -> Option<Handed> {
+    let (at, len) = (board.as_mut_ptr(), board.len());
+    let (image_at, image_len) = (image.as_mut_ptr(), image.len());
+    Some(unsafe { cue_board_next(at, len, image_at, image_len, cpu, time) })
+}
+
+#[cfg(not(cue_board))]
+pub fn next(_board: &mut [u8], _image: &mut [u64], _cpu: u64, _time: u64) -> Option<Handed> {
     None
 }

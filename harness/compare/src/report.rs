@@ -18,7 +18,7 @@ pub fn case(case: &Case<impl Ask>) {
     }
 }
 
-fn word(image: &[u64], index: usize) -> String {
+pub fn word(image: &[u64], index: usize) -> String {
     match image {
         [cpus, contexts, ..] => name::of(*cpus, *contexts, index),
         _ => format!("word {index}"),

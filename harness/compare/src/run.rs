@@ -30,7 +30,7 @@ pub fn rules(seed: u64, count: u64) -> bool {
 }
 
 /// An edited kernel is no oracle.
-fn unedited() {
+pub fn unedited() {
     #[cfg(feature = "oracle")]
     assert_eq!((kernel::EDITED, changed::EDITED), ("", ""));
 }
@@ -112,7 +112,7 @@ fn one<A: Ask>(case: &Case<A>) -> Option<(Answer, Vec<u64>)> {
 }
 
 /// Without the kernel, an accepted call's answer is the port's own, and no room is believed.
-fn unjudged(image: &[u64], got: Option<Answer>, got_image: &[u64]) -> (Answer, Vec<u64>) {
+pub fn unjudged(image: &[u64], got: Option<Answer>, got_image: &[u64]) -> (Answer, Vec<u64>) {
     match got {
         None => (Answer::default(), image.to_vec()),
         Some(Answer { refusal: 9, .. }) => (Answer::refused(9), image.to_vec()),

@@ -1,6 +1,8 @@
 //! The machine image of document 01: places of its words, their names, and an own
-//! reading of the table of refused calls, of decisions and of their rules.
+//! reading of the table of refused calls, of decisions and of their rules. And the cue board of
+//! document 02.
 
+pub mod board;
 pub mod check;
 pub mod decision;
 pub mod name;

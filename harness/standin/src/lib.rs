@@ -2,6 +2,7 @@
 //! it, its changed build behind the port's interface. The comparison is tried on it, and edits of
 //! the table show whether it would see a port that reads the table otherwise.
 
+mod board;
 mod group;
 
 use image::{Answer, Call, Group, View, check, decision};

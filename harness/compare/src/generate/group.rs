@@ -53,7 +53,8 @@ impl Groups {
     }
 }
 
-fn prepare(rng: &mut Rng, image: &mut [u64], cpu: u64) {
+/// More that can be woken, or a list nearly full.
+pub fn prepare(rng: &mut Rng, image: &mut [u64], cpu: u64) {
     if rng.once_in(2) {
         make_wakeable(rng, image);
     }

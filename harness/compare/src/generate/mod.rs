@@ -1,6 +1,7 @@
 //! The seeded generator of cases.
 
 mod aim;
+mod boards;
 mod breakage;
 mod call;
 mod case;
@@ -11,6 +12,7 @@ pub mod machine;
 pub mod rng;
 mod rules;
 mod seats;
+mod spoiled_boards;
 #[cfg(test)]
 mod tests;
 mod tidy;
@@ -18,6 +20,7 @@ mod timers;
 mod untidy;
 mod values;
 
+pub use boards::{Boards, Turn};
 pub use case::{Case, KINDS, Kind};
 pub use group::Groups;
 #[cfg(feature = "oracle")]

@@ -1,5 +1,6 @@
 //! How long a checked `switch` of the port takes, beside the kernel's own.
 
+pub mod boards;
 mod images;
 
 use crate::{
