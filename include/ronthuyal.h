@@ -3,7 +3,7 @@
 #ifndef RONTHUYAL_H
 #define RONTHUYAL_H
 
-#define RONTHUYAL_VERSION "0.7.0"
+#define RONTHUYAL_VERSION "0.8.0"
 
 #include <stddef.h>
 #include <stdint.h>
@@ -42,6 +42,10 @@ struct ronthuyal_answer ronthuyal_hard_block(uint64_t *image, size_t length, uin
    how many of them were soft-blocked, interrupt is 1 if a wake-up of any of them went to another CPU. */
 struct ronthuyal_answer ronthuyal_unblock_group(uint64_t *image, size_t length, uint64_t cpu, uint64_t time,
                                                 uint64_t mask);
+
+/* No operation, and no time: result is the weight of the CPU, added up from its queue entries, also of those whose
+   context is gone, and the context in charge if it is active. The image is left as it is. */
+struct ronthuyal_answer ronthuyal_total_weight(const uint64_t *image, size_t length, uint64_t cpu);
 
 /* Operations. */
 enum {

@@ -11,7 +11,7 @@ COLUMNS = {array.item: array_place(array) for array in ARRAYS}
 
 class Case(NamedTuple):
     title: str
-    call: tuple  # operation, CPU, time, context; of a group "g", CPU, time, mask
+    call: tuple  # operation, CPU, time, context; of a group "g", CPU, time, mask; of a weight "w", CPU
     length: int
     words: dict
     answer: tuple  # refusal, result, interrupt mark

@@ -13,6 +13,7 @@ import refused_cases
 import rule_cases
 import switch_cases
 import timer_cases
+import weight_cases
 from case import Case
 
 KERNEL = [os.environ.get("RONTHUYAL_COMPARE", "harness/target/release/compare"), "answers"]
@@ -53,7 +54,7 @@ def check(case, line):
 
 def main():
     items = (image_cases.CASES + switch_cases.CASES + refused_cases.CASES + group_cases.CASES
-             + timer_cases.CASES + newest_cases.CASES + rule_cases.CASES)
+             + timer_cases.CASES + newest_cases.CASES + rule_cases.CASES + weight_cases.CASES)
     calls = list_of(items)
     answers = subprocess.run(KERNEL, input=calls, capture_output=True, text=True, check=True).stdout
     lines = [line for line in answers.splitlines() if not line.startswith("#")]

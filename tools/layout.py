@@ -179,7 +179,8 @@ class Operation(NamedTuple):
 
 class Call(NamedTuple):
     name: str
-    takes: str  # its last argument
+    takes: tuple  # its arguments behind the CPU
+    reads: bool  # whether it leaves the image as it is
     result: str
     says: str
 
@@ -197,8 +198,11 @@ OPERATIONS = [
 
 # Calls that have no operation number and are no function of the kernel.
 CALLS = [
-    Call("unblock_group", "mask", "how many of them were soft-blocked",
+    Call("unblock_group", ("time", "mask"), False, "how many of them were soft-blocked",
          "operation 4 for every context x whose bit x is set in the mask, by rising number; refused, for none"),
+    Call("total_weight", (), True, "the sum",
+         "adds up the weights of the CPU's queue entries, also of those whose context is gone, and the priority's weight "
+         "of the context in charge if it is active"),
 ]
 
 REFUSALS = [

@@ -89,14 +89,22 @@ struct ronthuyal_answer ronthuyal_call(uint64_t *image, size_t length, uint64_t 
 """
 
 
-GROUP = """
+NOTES = {
+    "unblock_group": """
 /* No operation: unblocks every context x whose bit x is set in mask, by rising number, or, refused, none. result is
-   how many of them were soft-blocked, interrupt is 1 if a wake-up of any of them went to another CPU. */"""
+   how many of them were soft-blocked, interrupt is 1 if a wake-up of any of them went to another CPU. */
+""",
+    "total_weight": """
+/* No operation, and no time: result is the weight of the CPU, added up from its queue entries, also of those whose
+   context is gone, and the context in charge if it is active. The image is left as it is. */
+""",
+}
 
 
-def c_call(name, last):
+def c_call(name, takes, reads=False):
     start = "struct ronthuyal_answer ronthuyal_%s(" % name
-    words = "uint64_t *image, size_t length, uint64_t cpu, uint64_t time" + (", uint64_t " + last if last else "")
+    image = "const uint64_t *image" if reads else "uint64_t *image"
+    words = image + ", size_t length, uint64_t cpu" + "".join(", uint64_t " + word for word in takes)
     line = start + words + ");"
     if len(line) <= 120:
         return line
@@ -105,8 +113,8 @@ def c_call(name, last):
 
 
 def header():
-    calls = [c_call(operation.name, "context" if operation.takes else "") for operation in OPERATIONS]
-    calls += [GROUP] + [c_call(call.name, call.takes) for call in CALLS]
+    calls = [c_call(operation.name, ("time", "context") if operation.takes else ("time",)) for operation in OPERATIONS]
+    calls += [NOTES[call.name] + c_call(call.name, call.takes, call.reads) for call in CALLS]
     out = [HEADER % (BY, open("VERSION").read().strip()) + "\n".join(calls), ""]
 
     def enum(title, pairs):
@@ -158,7 +166,8 @@ def tables():
                "`%s`" % array.count, broken(array.range, array.also)] for array in ARRAYS]
     operations = [["%d" % number, "`%s`" % o.name, "yes" if o.takes else "", o.says, o.result]
                   for number, o in enumerate(OPERATIONS, 1)]
-    calls = [["`ronthuyal_%s(image, cpu, time, %s)`" % (call.name, call.takes), call.says, call.result] for call in CALLS]
+    calls = [["`ronthuyal_%s(%s)`" % (call.name, ", ".join(("image", "cpu") + call.takes)), call.says, call.result]
+             for call in CALLS]
     rules = [["%d" % number, rule.says, rule.when] for number, rule in enumerate(RULES, 1)]
     refusals = [["%d" % number, says] for number, says in enumerate(REFUSALS, 1)]
     return {"record": table(head, rows(RECORD)), "block": table(head, rows(SINGLE)),

@@ -4,7 +4,11 @@
 use std::{env, fs, path::PathBuf};
 
 /// An archive's index holds the names of its global symbols, ended by zeros.
-const EXPORTS: [&str; 2] = ["ronthuyal_call\0", "ronthuyal_unblock_group\0"];
+const EXPORTS: [&str; 3] = [
+    "ronthuyal_call\0",
+    "ronthuyal_unblock_group\0",
+    "ronthuyal_total_weight\0",
+];
 const CUE_BOARD_EXPORTS: [&str; 2] = ["cue_board_add\0", "cue_board_next\0"];
 
 fn main() {

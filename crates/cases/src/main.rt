@@ -1,4 +1,4 @@
-// Document 01's cases that are not starred, its traps, its table of refused calls, groups, due timers, and the newest timer.
+// Document 01's cases that are not starred, its traps, its table of refused calls, groups, due timers, the newest timer, and weights added up.
 fn main() {
     replay::run();
 }

@@ -46,6 +46,12 @@ charged-fixed = charged-view fixed (λ m v c. refl) (λ m v c. refl)
 pub charged-key : (v n : ℕ) (c : Context) → (charged v n c) .«has_queue_key» ≡ c .«has_queue_key»
 charged-key = charged-view (λ (c : Context). c .«has_queue_key») (λ m v c. refl) (λ m v c. refl)
 
+pub charged-status : (v n : ℕ) (c : Context) → (charged v n c) .status ≡ c .status
+charged-status = charged-view (λ (c : Context). c .status) (λ m v c. refl) (λ m v c. refl)
+
+pub charged-active : (v n : ℕ) (c : Context) → (charged v n c) .«is_active» ≡ c .«is_active»
+charged-active = charged-view (λ (c : Context). c .«is_active») (λ m v c. refl) (λ m v c. refl)
+
 module _ (k time : ℕ) (M : Machine) (S : Sound M) (T : Tidy M) (P : Present M k) where
   -- the holder has no entry
   pub holder-out : (s : State) → Waking k time M S T s → Without (s .cpu .block .«sched_ctxt») (on k (s .cpu .queue) (queues M))
@@ -78,7 +84,7 @@ module _ (k time : ℕ) (M : Machine) (S : Sound M) (T : Tidy M) (P : Present M 
       let r = holder-waking s (stopped (holder s)) refl refl n in
       record { kept = r .kept; roles-kept = r .roles-kept; v = r .v; has = r .has }
 
-  charge-waking : (e : ℕ) (s : State) → Waking k time M S T s → Waking k time M S T (charge-holder e s)
+  pub charge-waking : (e : ℕ) (s : State) → Waking k time M S T s → Waking k time M S T (charge-holder e s)
   unfolding charge-holder holder-stopped
   charge-waking e s n =
       pick (Waking k time M S T) (is-idle s) (λ t. n)
@@ -87,7 +93,7 @@ module _ (k time : ℕ) (M : Machine) (S : Sound M) (T : Tidy M) (P : Present M 
       (λ r. pick (Waking k time M S T) ((holder s) .«has_wake»)
       (λ w. let a = inactive-waking s n in record { kept = a .kept; roles-kept = a .roles-kept; v = a .v; has = a .has }) (λ w. inactive-waking s n)))
 
-  times-waking : (s : State) → Waking k time M S T s → Waking k time M S T (on-cpu (times time) s)
+  pub times-waking : (s : State) → Waking k time M S T s → Waking k time M S T (on-cpu (times time) s)
   unfolding times
   times-waking s n = record { kept = n .kept; roles-kept = n .roles-kept; v = n .v; has = n .has }
 

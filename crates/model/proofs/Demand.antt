@@ -34,7 +34,7 @@ use Rattle.model.proofs.Assembled.{scheduled-machine}
 use Rattle.model.proofs.Decided.{demanded}
 
 module _ (k time : ℕ) where
-  no-direct-switch : (x : ℕ) (s : State) (u : UpdateResult) → can-switch u ≡ false → direct-switch-by k time x s u ≡ none
+  pub no-direct-switch : (x : ℕ) (s : State) (u : UpdateResult) → can-switch u ≡ false → direct-switch-by k time x s u ≡ none
   unfolding direct-switch-by
   no-direct-switch x s Skip t = refl
   no-direct-switch x s Blocked t = refl
@@ -82,7 +82,7 @@ module _ (k time : ℕ) where
       (no-direct-switch x (state-of k M) (update-runnable k time (eqb ((cpu-at M k) .block .«sched_ctxt») x) false (at (state-of k M) x)) (not-is-true _ e))
       ∙ ap (λ (o : Outcome). o .machine) (inner-decides (M .cpus) (state-of k M) (not-is-true _ b)))
 
-  call-decides : (call : Call) (M : Machine) → decides k time M call ≡ true → (outcome call k time M) .machine ≡ scheduled-machine k time M
+  pub call-decides : (call : Call) (M : Machine) → decides k time M call ≡ true → (outcome call k time M) .machine ≡ scheduled-machine k time M
   call-decides by-tick M t = tick-decides M t
   call-decides by-switch M t = switch-decides M t
   call-decides (by-direct-switch x) M t = direct-decides x M t

@@ -25,19 +25,7 @@ use Rattle.model.proofs.Moves.{inv-take, now-out, has-take, was-in}
 use Rattle.model.proofs.Before.{roles, queues, Free}
 use Rattle.model.proofs.Woken.{Waking}
 use Rattle.model.proofs.ScanKept.{Lost, Scanning, scan-kept, ready-stays}
-use Rattle.model.proofs.Chosen.{
-  is-waiting,
-  Follows,
-  entry-first,
-  holder-kept,
-  holder-alone,
-  holder-least,
-  holder-by-deadline,
-  entry-least,
-  nobody-waits,
-  separate,
-  choice-follows,
-}
+use Rattle.model.proofs.Chosen.{is-waiting, Follows, entry-first, holder-kept, holder-alone, holder-least, holder-by-deadline, entry-least, nobody-waits, separate, choice-follows}
 use Rattle.model.proofs.Judged.{ready-alive}
 use Rattle.model.proofs.Firsts.{some-none, some-some}
 use Rattle.context.specs.Key.{queue-key, without-key}
@@ -116,12 +104,12 @@ module _ (k time : ℕ) (M : Machine) (S : Sound M) (T : Tidy M) (J : State) (n 
     pub roles-kept : roles (t .cpu) ≡ roles (cpu-at M k)
     pub v : t .cpu .block .v ≡ choice-of .v
 
-  kept-scan : Scanning (Free M) (M .contexts) k time (J .cpu) (ineligible-holder J) (J .contexts) (J .cpu .queue) (queues M) (n .kept) scan-of []
+  pub kept-scan : Scanning (Free M) (M .contexts) k time (J .cpu) (ineligible-holder J) (J .contexts) (J .cpu .queue) (queues M) (n .kept) scan-of []
   kept-scan = scan-kept (Free M) (M .contexts) k time (J .cpu) (ineligible-holder J) (J .contexts) (J .cpu .queue) (queues M) (n .kept)
       (separate (Free M) (M .contexts) k time (queues M) J (n .kept))
 
   -- the state after the clean-up, with V moved
-  abbrev cleaned : State
+  abbrev pub cleaned : State
   cleaned = on-cpu (cpu-v (choice-of .v)) (cleaned-up scan-of J)
 
   after-scan : AfterChoice none cleaned
@@ -181,18 +169,24 @@ module _ (k time : ℕ) (M : Machine) (S : Sound M) (T : Tidy M) (J : State) (n 
       stays y (inr (inl (inr g))) = inr (inl (inr (ap is-runnable (d .status y) ∙ g)))
       stays y (inr (inr z)) = absurd (some-none z refl)
 
-  pub after-choice : AfterChoice (choice-of .winner) chosen-state
+  -- what is proved of the state after the clean-up, and of it with the entry of a ready one taken out, holds after the choice
+  pub choice-cases : (P : Option ℕ → State → Type 0) → P none cleaned
+      → ((e : Entry) → In e (J .cpu .queue) → is-waiting k time J e ≡ true → P (some (e .«context_ref»)) (dequeued (e .«context_ref») cleaned))
+      → P (choice-of .winner) chosen-state
   unfolding chosen
-  after-choice = go (choice-follows (Free M) (M .contexts) k time (queues M) J (n .kept))
+  choice-cases P a b = go (choice-follows (Free M) (M .contexts) k time (queues M) J (n .kept))
     where
-      won : (o : Option ℕ) → choice-of .winner ≡ o → AfterChoice o (taken-out o cleaned) → AfterChoice (choice-of .winner) (taken-out (choice-of .winner) cleaned)
-      won o z a = rw z a
+      won : (o : Option ℕ) → choice-of .winner ≡ o → P o (taken-out o cleaned) → P (choice-of .winner) (taken-out (choice-of .winner) cleaned)
+      won o z c = subst (λ y. P y (taken-out y cleaned)) (sym z) c
 
-      go : Follows k time J choice-of → AfterChoice (choice-of .winner) (taken-out (choice-of .winner) cleaned)
-      go (entry-first e f b z v) = won _ z (after-entry e (f .is-in) ((and-both (is-waiting k time J e) _ (f .passes)) .0))
-      go (holder-kept e f o b z v) = won _ z after-scan
-      go (holder-alone f o z v) = won _ z after-scan
-      go (holder-least f r g z v) = won _ z after-scan
-      go (holder-by-deadline f r e g l b z v) = won _ z after-scan
-      go (entry-least f e g l z v) = won _ z (after-entry e (g .is-in) (g .passes))
-      go (nobody-waits f r z v) = won _ z after-scan
+      go : Follows k time J choice-of → P (choice-of .winner) (taken-out (choice-of .winner) cleaned)
+      go (entry-first e f o z v) = won _ z (b e (f .is-in) ((and-both (is-waiting k time J e) _ (f .passes)) .0))
+      go (holder-kept e f o r z v) = won _ z a
+      go (holder-alone f o z v) = won _ z a
+      go (holder-least f r g z v) = won _ z a
+      go (holder-by-deadline f r e g l o z v) = won _ z a
+      go (entry-least f e g l z v) = won _ z (b e (g .is-in) (g .passes))
+      go (nobody-waits f r z v) = won _ z a
+
+  pub after-choice : AfterChoice (choice-of .winner) chosen-state
+  after-choice = choice-cases AfterChoice after-scan after-entry

@@ -35,16 +35,18 @@ use Rattle.model.proofs.Cases.{pick}
 use Rattle.model.proofs.Queues.{Run, run, set-view}
 use Rattle.model.specs.Handover.{hand-over}
 
--- a view: what tidy and demand 3 read of a record, but for the scheduled mark
+-- a view: what tidy, demand 3 and the total weight read of a record, but for the scheduled mark
 pub record Lasting : Type 0 where
   pub runs : Run
   pub gone : Bool
   pub debug-id : ℕ
   pub userspace : Bool
   pub status : Status
+  pub is-active : Bool
+  pub prio : ℕ
 
 abbrev pub lasting : Context → Lasting
-lasting c = record { runs = run c; gone = c .gone; debug-id = c .«debug_id»; userspace = c .userspace; status = c .status }
+lasting c = record { runs = run c; gone = c .gone; debug-id = c .«debug_id»; userspace = c .userspace; status = c .status; is-active = c .«is_active»; prio = c .prio }
 
 -- a view: what they read of a CPU, but for who is in charge
 pub record Standing : Type 0 where
@@ -66,7 +68,7 @@ module _ (k time : ℕ) where
       (λ t. refl) (λ t. refl)
 
   -- a view that a switch leaves alone
-  switch-view : {B : Type 0} (f : Context → B) → ((b : Bool) (i : Bool) (t : ℕ) (c : Context) → f (with-running b (with-inside-syscall i (with-active-cpu-time t c))) ≡ f c)
+  pub switch-view : {B : Type 0} (f : Context → B) → ((b : Bool) (i : Bool) (t : ℕ) (c : Context) → f (with-running b (with-inside-syscall i (with-active-cpu-time t c))) ≡ f c)
       → ((n t : ℕ) (c : Context) → f (with-running true (with-cpu-id n (with-switch-time t c))) ≡ f c) → (x : ℕ) (s : State) (y : ℕ)
       → f (at (switch-to k time x s) y) ≡ f (at s y)
   unfolding switch-to
@@ -83,18 +85,18 @@ module _ (k time : ℕ) where
       cur : ℕ
       cur = (saved k time s) .cpu .block .«current_ctxt»
 
-  switch-count : (x : ℕ) (s : State) → length ((switch-to k time x s) .contexts) ≡ length (s .contexts)
+  pub switch-count : (x : ℕ) (s : State) → length ((switch-to k time x s) .contexts) ≡ length (s .contexts)
   unfolding switch-to
   switch-count x s = simp length-set (ap length (saved-contexts s))
 
-  switch-standing : (x : ℕ) (s : State) → standing ((switch-to k time x s) .cpu) ≡ standing (s .cpu)
+  pub switch-standing : (x : ℕ) (s : State) → standing ((switch-to k time x s) .cpu) ≡ standing (s .cpu)
   unfolding switch-to
   switch-standing x s =
       pick (λ (z : State). standing (z .cpu) ≡ standing (s .cpu))
       (not (eqb (s .cpu .block .«sched_ctxt») (s .cpu .block .«current_ctxt»)) && not ((at s (s .cpu .block .«current_ctxt»)) .«has_queue_key») && is-runnable ((at s (s .cpu .block .«current_ctxt»)) .status))
       (λ t. refl) (λ t. refl)
 
-  switch-sched : (x : ℕ) (s : State) → (switch-to k time x s) .cpu .block .«sched_ctxt» ≡ s .cpu .block .«sched_ctxt»
+  pub switch-sched : (x : ℕ) (s : State) → (switch-to k time x s) .cpu .block .«sched_ctxt» ≡ s .cpu .block .«sched_ctxt»
   unfolding switch-to
   switch-sched x s =
       pick (λ (z : State). z .cpu .block .«sched_ctxt» ≡ s .cpu .block .«sched_ctxt»)

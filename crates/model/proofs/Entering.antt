@@ -1,6 +1,6 @@
 -- A context's old key leaves, and it enters the queue anew.
 use mathlib.Core.Path.{_≡_, refl, subst, sym, ap, _∙_}
-use mathlib.Core.Bool.{false}
+use mathlib.Core.Bool.{true, false}
 use mathlib.Core.List.{List}
 use mathlib.Core.Logic.{_≢_}
 use Prim.Native.Nat.{ℕ, _<_}
@@ -27,30 +27,31 @@ module _ (F : ℕ → Type 0) (cs₀ cs : List Context) (k : ℕ) (q : List Entr
     pub has : (y : ℕ) → y ≢ x → Has y (on k q R) → Has y (on k p R)
 
   -- c: x's record, but for what no entry agrees with
-  pub unkeyed : (x : ℕ) (c : Context) → Inv F cs₀ cs (on k q R) → x < length cs → (context-at cs x) .gone ≡ false → run c ≡ run (context-at cs x)
-      → fixed c ≡ fixed (context-at cs x) → ((e : Entry) (i : ℕ) → In e (on k q R i) → e .«context_ref» ≡ x → i ≡ k) → Unkeyed x c (without-old-key c q)
-  unkeyed x c n r l s f here =
-      pick (Unkeyed x c) (c .«has_queue_key»)
-      (λ t. record {
-        inv = inv-take F cs₀ cs k q R n x (queue-key c) r (id-of f) only (without-key c) f (λ g. refl);
-        out = now-out F cs₀ cs k q R n x (queue-key c) r (id-of f) only;
-        has = has-take F cs₀ cs k q R n x (queue-key c) r (id-of f) only;
-      })
-      (λ t. let w = none-left t in record { inv = inv-out F cs₀ cs (on k q R) x (without-key c) n r f (λ g. refl) w; out = w; has = λ y m h. h })
-    where
-      agree : (e : Entry) (i : ℕ) → In e (on k q R i) → e .«context_ref» ≡ x → Agrees (context-at cs x) e
-      agree e i h m = subst (λ y. (context-at cs y) .gone ≡ false → Agrees (context-at cs y) e) m (n .agrees e i h) l
+  module _ (x : ℕ) (c : Context) (n : Inv F cs₀ cs (on k q R)) (l : (context-at cs x) .gone ≡ false) (s : run c ≡ run (context-at cs x)) (f : fixed c ≡ fixed (context-at cs x)) where
+    -- it has the key of x's entry
+    pub old-key : (e : Entry) (i : ℕ) → In e (on k q R i) → e .«context_ref» ≡ x → (c .«has_queue_key» ≡ true) × (e .key ≡ queue-key c)
+    old-key e i h m =
+        let a : Agrees (context-at cs x) e = subst (λ y. (context-at cs y) .gone ≡ false → Agrees (context-at cs y) e) m (n .agrees e i h) l in
+        let v : e .key .vd ≡ c .«queue_key_vd» = sym (a .key-vd) ∙ sym (ap (λ (z : Run). z .key-vd) s) in
+        let w : e .key .«rem_slice» ≡ c .«queue_key_rem_slice» = sym (a .key-rem-slice) ∙ sym (ap (λ (z : Run). z .key-rem-slice) s) in
+        let i′ : e .key .«ctxt_id» ≡ c .«debug_id» = sym (n .id e i h) ∙ ap (λ y. (context-at cs y) .«debug_id») m ∙ sym (id-of f) in
+        (ap (λ (z : Run). z .has-key) s ∙ a .has-key, λ j. record { vd = v j; «rem_slice» = w j; «ctxt_id» = i′ j })
 
-      only : (e : Entry) (i : ℕ) → In e (on k q R i) → e .«context_ref» ≡ x → (e .key ≡ queue-key c) × (i ≡ k)
-      only e i h m =
-          let a = agree e i h m in
-          let v : e .key .vd ≡ c .«queue_key_vd» = sym (a .key-vd) ∙ sym (ap (λ (z : Run). z .key-vd) s) in
-          let w : e .key .«rem_slice» ≡ c .«queue_key_rem_slice» = sym (a .key-rem-slice) ∙ sym (ap (λ (z : Run). z .key-rem-slice) s) in
-          let i′ : e .key .«ctxt_id» ≡ c .«debug_id» = sym (n .id e i h) ∙ ap (λ y. (context-at cs y) .«debug_id») m ∙ sym (id-of f) in
-          (λ j. record { vd = v j; «rem_slice» = w j; «ctxt_id» = i′ j }, here e i h m)
+    pub unkeyed : x < length cs → ((e : Entry) (i : ℕ) → In e (on k q R i) → e .«context_ref» ≡ x → i ≡ k) → Unkeyed x c (without-old-key c q)
+    unkeyed r here =
+        pick (Unkeyed x c) (c .«has_queue_key»)
+        (λ t. record {
+          inv = inv-take F cs₀ cs k q R n x (queue-key c) r (id-of f) only (without-key c) f (λ g. refl);
+          out = now-out F cs₀ cs k q R n x (queue-key c) r (id-of f) only;
+          has = has-take F cs₀ cs k q R n x (queue-key c) r (id-of f) only;
+        })
+        (λ t. let w = none-left t in record { inv = inv-out F cs₀ cs (on k q R) x (without-key c) n r f (λ g. refl) w; out = w; has = λ y m h. h })
+      where
+        only : (e : Entry) (i : ℕ) → In e (on k q R i) → e .«context_ref» ≡ x → (e .key ≡ queue-key c) × (i ≡ k)
+        only e i h m = ((old-key e i h m) .1, here e i h m)
 
-      none-left : c .«has_queue_key» ≡ false → Without x (on k q R)
-      none-left t e i h m = never ((agree e i h m) .has-key) (sym (ap (λ (z : Run). z .has-key) s) ∙ t)
+        none-left : c .«has_queue_key» ≡ false → Without x (on k q R)
+        none-left t e i h m = never ((old-key e i h m) .0) t
 
   -- what is left when x then has entry e
   pub record Entered (x : ℕ) (c : Context) (p : List Entry) : Type 0 where

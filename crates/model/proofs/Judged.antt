@@ -22,6 +22,7 @@ use Rattle.context.specs.Key.{without-key}
 pub record Switchable (c d : Context) : Type 0 where
   pub same-run : run d ≡ run c
   pub same-fixed : fixed d ≡ fixed c
+  pub same-active : d .«is_active» ≡ c .«is_active»
   pub is-runnable : is-runnable (d .status) ≡ true
 
 pub update-cases : (k time : ℕ) (a b : Bool) (c : Context) (P : UpdateResult → Type 0) → P Skip → (is-runnable (c .status) ≡ false → P Blocked)
@@ -31,8 +32,8 @@ update-cases k time a b c P s l g =
     pick P (c .running && not b) (λ t. s)
     (λ t. pick P (c .«currently_scheduled» && not a) (λ t. s)
     (λ t. pick P (not (contains (c .«sched_affinity») k)) (λ t. s)
-    (λ t. pick P (wake-has-come time c) (λ t. g (woken c) (record { same-run = refl; same-fixed = refl; is-runnable = refl }))
-    (λ t. pick P (is-runnable (c .status)) (λ t. g c (record { same-run = refl; same-fixed = refl; is-runnable = t })) (λ t. l t)))))
+    (λ t. pick P (wake-has-come time c) (λ t. g (woken c) (record { same-run = refl; same-fixed = refl; same-active = refl; is-runnable = refl }))
+    (λ t. pick P (is-runnable (c .status)) (λ t. g c (record { same-run = refl; same-fixed = refl; same-active = refl; is-runnable = t })) (λ t. l t)))))
 
 -- the record of a blocked entry's context
 abbrev pub put-to-sleep : Context → Context

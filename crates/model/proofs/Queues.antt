@@ -48,6 +48,7 @@ pub record Fixed : Type 0 where
   pub debug-id : ℕ
   pub currently-scheduled : Bool
   pub userspace : Bool
+  pub prio : ℕ
   pub lock : ℕ
 
 abbrev pub fixed : Context → Fixed
@@ -57,6 +58,7 @@ fixed c =
       debug-id = c .«debug_id»;
       currently-scheduled = c .«currently_scheduled»;
       userspace = c .userspace;
+      prio = c .prio;
       lock = c .lock;
     }
 

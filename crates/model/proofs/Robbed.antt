@@ -23,6 +23,7 @@ use Rattle.model.proofs.Sorted.{Sorted}
 use Rattle.model.proofs.Queues.{Inv, inv-ext, on, Has, gone-of}
 use Rattle.model.proofs.Before.{roles, queues, Free}
 use Rattle.model.proofs.Chosen.{distinct}
+use Rattle.model.proofs.Scanned.{Distinct}
 use Rattle.model.proofs.Dequeued.{Winner}
 use Rattle.model.proofs.Moving.{Moved, lot-moved}
 use Rattle.model.proofs.CpuQueues.{queue-list, present-in-range, queue-set, on-on, on-own}
@@ -85,23 +86,27 @@ module _ (k : ℕ) (M : Machine) (runs : Bool) (locked : List ℕ) (w : Option �
       v : Cpu
       v = getD (M .cpus) t no-cpu
 
-      abbrev m₀ : Moving
+      abbrev pub m₀ : Moving
       m₀ = record { state = start .state; victim = getD (M .cpus) t no-cpu; winner = w }
 
-      abbrev m : Moving
+      abbrev pub m : Moving
       m = fold (move-entry runs) m₀ (e ∷ es)
 
-      own-queue : (i : ℕ) → on k (C .cpu .queue) (on t ((getD (M .cpus) t no-cpu) .queue) (queues M)) i ≡ on k (C .cpu .queue) (queues M) i
+      pub own-queue : (i : ℕ) → on k (C .cpu .queue) (on t ((getD (M .cpus) t no-cpu) .queue) (queues M)) i ≡ on k (C .cpu .queue) (queues M) i
       unfolding cpu-at
       own-queue = on-on k (C .cpu .queue) (on t ((getD (M .cpus) t no-cpu) .queue) (queues M)) (queues M) (on-own t (queues M))
 
-      moved : Moved (Free M) (M .contexts) k t o (queues M) runs m₀ m (e ∷ es) []
+      pub lot-live : (d : Entry) → In d (e ∷ es) → (context-at (M .contexts) (d .«context_ref»)) .gone ≡ false
+      lot-live d i = sym (gone-of (n .same (d .«context_ref»))) ∙ live d i
+
+      pub lot-distinct : Distinct (e ∷ es)
+      lot-distinct = distinct (e ∷ es) s (λ d f i j z. (n .one d f t t (rw (ne-eqb t k o) (from d i)) (rw (ne-eqb t k o) (from f j)) z) .0)
+
+      -- before the first is moved
+      pub lot-starts : Moved (Free M) (M .contexts) k t o (queues M) runs m₀ m₀ (e ∷ es) (e ∷ es)
       unfolding cpu-at
-      moved =
-          lot-moved (Free M) (M .contexts) k t o (queues M) runs m₀ m₀ (e ∷ es) (e ∷ es) (λ d i. i)
-          (λ d i. sym (gone-of (n .same (d .«context_ref»))) ∙ live d i)
-          (distinct (e ∷ es) s (λ d f i j z. (n .one d f t t (rw (ne-eqb t k o) (from d i)) (rw (ne-eqb t k o) (from f j)) z) .0))
-          (record {
+      lot-starts =
+          record {
             inv = inv-ext (Free M) (M .contexts) (C .contexts) (on k (C .cpu .queue) (queues M)) _ own-queue n;
             rest = from;
             winner = λ x z. let y = win x z in
@@ -113,16 +118,19 @@ module _ (k : ℕ) (M : Machine) (runs : Bool) (locked : List ℕ) (w : Option �
             victim-roles = refl;
             v = refl;
             here = λ d i. inl i;
-          })
+          }
+
+      moved : Moved (Free M) (M .contexts) k t o (queues M) runs m₀ m (e ∷ es) []
+      moved = lot-moved (Free M) (M .contexts) k t o (queues M) runs m₀ m₀ (e ∷ es) (e ∷ es) (λ d i. i) lot-live lot-distinct lot-starts
 
       after : Stealing
       after = after-moving t (M .cpus) m
 
-      r : t < length (M .cpus)
+      pub r : t < length (M .cpus)
       r = present-in-range (M .cpus) t pr
 
       -- the queues that are left
-      is-queue : (i : ℕ) → on k (m .state .cpu .queue) (queue-list ((after-moving t (M .cpus) m) .cpus)) i
+      pub is-queue : (i : ℕ) → on k (m .state .cpu .queue) (queue-list ((after-moving t (M .cpus) m) .cpus)) i
           ≡ on k (m .state .cpu .queue) (on t (m .victim .queue) (queues M)) i
       unfolding cpu-at
       is-queue =

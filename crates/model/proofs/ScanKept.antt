@@ -47,7 +47,7 @@ ready-not-removed (blocked c) t = sym t
 ready-not-removed (no-addr-space c) t = refl
 ready-not-removed (ready c) t = refl
 
-one-more : (q : List Entry) (ks : List Key) (k : Key) → without-keys q (ks ++ (k ∷ [])) ≡ queue-remove k (without-keys q ks)
+pub one-more : (q : List Entry) (ks : List Key) (k : Key) → without-keys q (ks ++ (k ∷ [])) ≡ queue-remove k (without-keys q ks)
 one-more q [] k = refl
 one-more q (j ∷ js) k = one-more (queue-remove j q) js k
 
@@ -61,7 +61,7 @@ module _ (F : ℕ → Type 0) (cs₀ : List Context) (k time : ℕ) (p : Cpu) (h
   abbrev pub left : Scan → List Entry
   left f = without-keys q (f .contexts-to-remove)
 
-  in-here : (l : List Entry) (e : Entry) → In e l → In e (on k l R k)
+  pub in-here : (l : List Entry) (e : Entry) → In e l → In e (on k l R k)
   in-here l e i = rw (eq-eqb k k refl) i
 
   -- the entries of one context are one
@@ -78,16 +78,16 @@ module _ (F : ℕ → Type 0) (cs₀ : List Context) (k time : ℕ) (p : Cpu) (h
 
   module _ (f : Scan) (e : Entry) (es : List Entry) (s : Scanning f (e ∷ es)) (fr : context-at (f .contexts) (e .«context_ref») ≡ context-at cs (e .«context_ref»))
       (ap-art : All (λ d. d .«context_ref» ≢ e .«context_ref») es) where
-    e-in : In e q
+    pub e-in : In e q
     e-in = still-subset q (f .contexts-to-remove) e (s .rest e (inl refl))
 
-    r : e .«context_ref» < length (f .contexts)
+    pub r : e .«context_ref» < length (f .contexts)
     r = s .inv .range e k (in-here (left f) e (s .rest e (inl refl)))
 
-    only : (d : Entry) (i : ℕ) → In d (on k (left f) R i) → d .«context_ref» ≡ e .«context_ref» → (d .key ≡ e .key) × (i ≡ k)
+    pub only : (d : Entry) (i : ℕ) → In d (on k (left f) R i) → d .«context_ref» ≡ e .«context_ref» → (d .key ≡ e .key) × (i ≡ k)
     only d i g m = let (a, b) = s .inv .one d e i k g (in-here (left f) e (s .rest e (inl refl))) m in (ap (λ (z : Entry). z .key) a, b)
 
-    own : e .key .«ctxt_id» ≡ (context-at (f .contexts) (e .«context_ref»)) .«debug_id»
+    pub own : e .key .«ctxt_id» ≡ (context-at (f .contexts) (e .«context_ref»)) .«debug_id»
     own = sym (s .inv .id e k (in-here (left f) e (s .rest e (inl refl))))
 
     survives : (d : Entry) → In d (left f) → d .«context_ref» ≢ e .«context_ref» → In d (queue-remove (e .key) (left f))
@@ -158,20 +158,23 @@ module _ (F : ℕ → Type 0) (cs₀ : List Context) (k time : ℕ) (p : Cpu) (h
         (λ d w u. changed d (visited k time p h f e (no-addr-space d)) refl refl (rw fr (w .same-run)) (rw fr (w .same-fixed)))
         (λ d w u. changed d (visited k time p h f e (ready d)) refl refl (rw fr (w .same-run)) (rw fr (w .same-fixed)))
 
+  -- one entry
+  pub step-scanning : (f : Scan) (e : Entry) (es : List Entry) → f .eligible-best ≡ none → Fresh k time p h cs f e → All (λ d. d .«context_ref» ≢ e .«context_ref») es
+      → Scanning f (e ∷ es) → Scanning (scan-step k time p h f e) es
+  step-scanning f e es b a d s =
+      rw (step-is k time p h cs f e b a)
+      (pick (λ v. Scanning (visited k time p h f e v) es) (beyond k time p h f e)
+      (λ t. visits-pass f e es s (a .0) d (λ u. never {b = false} u refl)) (λ t. visits f e es s (a .0) d (λ u. u)))
+
   scanning : (f : Scan) (es : List Entry) → f .eligible-best ≡ none → Distinct es → All (Fresh k time p h cs f) es → Scanning f es
       → Scanning (fold (scan-step k time p h) f es) []
   scanning f [] b d a s = s
   scanning f (e ∷ es) b d a s =
+      let next : Scanning (scan-step k time p h f e) es = step-scanning f e es b (a .0) (d .0) s in
       by-test (is-ready-in k time p cs e && is-eligible p e)
       (λ t. let g = rw t at (step-best k time p h cs f e b (a .0)) in
       rw (found-stays k time p h (scan-step k time p h f e) es (rw g)) (record { inv = next .inv; rest = λ z i. absurd i; stays = next .stays; lost = next .lost; frame = next .frame }))
       (λ t. scanning (scan-step k time p h f e) es (rw t at (step-best k time p h cs f e b (a .0))) (d .1) (all-fresh k time p h cs f e es b (a .0) (d .0) (a .1)) next)
-    where
-      next : Scanning (scan-step k time p h f e) es
-      next =
-          rw (step-is k time p h cs f e b (a .0))
-          (pick (λ v. Scanning (visited k time p h f e v) es) (beyond k time p h f e)
-          (λ t. visits-pass f e es s ((a .0) .0) (d .0) (λ u. never {b = false} u refl)) (λ t. visits f e es s ((a .0) .0) (d .0) (λ u. u)))
 
   -- the scan of the whole queue
   pub scan-kept : Distinct q → Scanning (scan k time p h cs q) []

@@ -39,11 +39,11 @@ module _ (k time : ℕ) (M : Machine) (S : Sound M) (T : Tidy M) (P : Present M 
     e : State
     e = z .finished .state
 
-    cpu-here : cpu-at M′ k ≡ z .finished .state .cpu
+    pub cpu-here : cpu-at M′ k ≡ z .finished .state .cpu
     unfolding cpu-at
     cpu-here = ap (λ (l : List Cpu). getD l k no-cpu) (z .finished .cpus-are) ∙ getD-set-same cpus k (z .finished .state .cpu) no-cpu (rw (z .count) r)
 
-    cpu-there : (i : ℕ) → i ≢ k → cpu-at M′ i ≡ getD cpus i no-cpu
+    pub cpu-there : (i : ℕ) → i ≢ k → cpu-at M′ i ≡ getD cpus i no-cpu
     unfolding cpu-at
     cpu-there i n = ap (λ (l : List Cpu). getD l i no-cpu) (z .finished .cpus-are) ∙ getD-set-other cpus k i (z .finished .state .cpu) no-cpu n
 
@@ -75,7 +75,7 @@ module _ (k time : ℕ) (M : Machine) (S : Sound M) (T : Tidy M) (P : Present M 
         (ap (λ (q : Standing). q .idle) here-stands ∙ ap (λ (q : Roles). q .idle) (z .roles-kept)))
         (λ t. ap (λ (p : Cpu). p .block .«idle_ctxt») (cpu-there i (eqb-false i k t)) ∙ ap (λ (q : Roles). q .idle) (z .others i (eqb-false i k t)))
 
-    was-present : (i : ℕ) → Present M′ i → Present M i
+    pub was-present : (i : ℕ) → Present M′ i → Present M i
     was-present i p = sym (present-is i) ∙ p
 
     pub lasts : (y : ℕ) → lasting (context M′ y) ≡ lasting (at s y)

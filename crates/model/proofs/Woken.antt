@@ -66,12 +66,12 @@ module _ (k time : ℕ) (M : Machine) (S : Sound M) (T : Tidy M) where
           let m : w .«context_ref» ≡ x = ap (λ (u : Wakeup). u .«context_ref») e in
           record { range = rw m (S .name-is x k j); served = λ g o n. by-name (rw m j) o }
 
-  put-back-waking : (o : Option ℕ) (x : ℕ) (s : State) → Waking s → Waking (put-back o x s)
+  pub put-back-waking : (o : Option ℕ) (x : ℕ) (s : State) → Waking s → Waking (put-back o x s)
   put-back-waking none x s n = record { kept = n .kept; roles-kept = n .roles-kept; v = n .v; has = n .has }
   put-back-waking (some t) x s n = record { kept = n .kept; roles-kept = n .roles-kept; v = n .v; has = n .has }
 
   -- no in-charge and no idle context enters
-  enters-free : (s : State) (x : ℕ) (c : Context) → Waking s → fixed c ≡ fixed (at s x) → Enters c → Free M x
+  pub enters-free : (s : State) (x : ℕ) (c : Context) → Waking s → fixed c ≡ fixed (at s x) → Enters c → Free M x
   enters-free s x c n f e =
       record {
         not-in-charge = λ j p m.
@@ -83,36 +83,33 @@ module _ (k time : ℕ) (M : Machine) (S : Sound M) (T : Tidy M) where
       }
 
   module _ (own : ServesOwn k time M) where
+    -- an entry of a context whose wake-up is served stands here
+    pub here-only : (s : State) (w : Wakeup) → Waking s → Named w → Asked s w → eqb ((asked s w) .lock) 0 ≡ true
+        → (d : Entry) (i : ℕ) → In d (on k (s .cpu .queue) (queues M) i) → d .«context_ref» ≡ w .«context_ref» → i ≡ k
+    here-only s w n m a l d i h z =
+        by-test (eqb i k) (λ t. eqb-true i k t)
+        (λ t. absurd (own (w .«context_ref»)
+        (m .served (sym (gone-of (n .kept .same (w .«context_ref»))) ∙ a .live)
+        (sym (ap (λ (y : Fixed). y .lock) (n .kept .same (w .«context_ref»))) ∙ eqb-true _ _ l)
+        (λ y. eqb-false (w .«context_ref») (s .cpu .block .«sched_ctxt») (a .other) (y ∙ sym (ap (λ (r : Roles). r .sched) (n .roles-kept)))))
+        d i (is-queued M S d i (rw t at h)) (eqb-false i k t) z))
+
+    -- a context that enters is out of the queue once its old key is
+    pub enter-unkeyed : (s : State) (w : Wakeup) → Waking s → Named w → Asked s w → eqb ((asked s w) .lock) 0 ≡ true
+        → Unkeyed (Free M) (M .contexts) (s .contexts) k (s .cpu .queue) (queues M) (w .«context_ref») (woke s w) (without-old-key (woke s w) (s .cpu .queue))
+    enter-unkeyed s w n m a l =
+        unkeyed (Free M) (M .contexts) (s .contexts) k (s .cpu .queue) (queues M) (w .«context_ref») (woke s w) (n .kept) (a .live)
+        (woken-run (w .wake) (asked s w)) (woken-fixed (w .wake) (asked s w)) (rw (n .kept .count) (m .range)) (here-only s w n m a l)
+
     -- a context that enters has its entry here, and all others keep theirs
     pub enter-entered : (s : State) (w : Wakeup) → Waking s → Named w → Asked s w → eqb ((asked s w) .lock) 0 ≡ true → Enters (woke s w)
         → Entered (Free M) (M .contexts) (s .contexts) k (s .cpu .queue) (queues M) (w .«context_ref») (entering (s .cpu .block .v) (woke s w))
         (queue-insert (entry-of (w .«context_ref») (weight ((woke s w) .prio)) (entering (s .cpu .block .v) (woke s w))) (without-old-key (woke s w) (s .cpu .queue)))
     enter-entered s w n m a l e =
         re-entered (Free M) (M .contexts) (s .contexts) k (s .cpu .queue) (queues M) (w .«context_ref») (woke s w) (entering (s .cpu .block .v) (woke s w))
-        (without-old-key (woke s w) (s .cpu .queue)) _ u r refl refl refl
+        (without-old-key (woke s w) (s .cpu .queue)) _ (enter-unkeyed s w n m a l) (rw (n .kept .count) (m .range)) refl refl refl
         (record { has-key = refl; key-vd = refl; key-rem-slice = refl; key-id = refl; vd = refl; rem-slice = refl; vtime = refl })
-        (enters-free s (w .«context_ref») (woke s w) n f e)
-      where
-        f : fixed (woke s w) ≡ fixed (asked s w)
-        f = woken-fixed (w .wake) (asked s w)
-
-        r : w .«context_ref» < length (s .contexts)
-        r = rw (n .kept .count) (m .range)
-
-        not-holder : w .«context_ref» ≢ (cpu-at M k) .block .«sched_ctxt»
-        not-holder z = eqb-false (w .«context_ref») (s .cpu .block .«sched_ctxt») (a .other) (z ∙ sym (ap (λ (y : Roles). y .sched) (n .roles-kept)))
-
-        here : (d : Entry) (i : ℕ) → In d (on k (s .cpu .queue) (queues M) i) → d .«context_ref» ≡ w .«context_ref» → i ≡ k
-        here d i h z =
-            by-test (eqb i k) (λ t. eqb-true i k t)
-            (λ t. absurd (own (w .«context_ref»)
-            (m .served (sym (gone-of (n .kept .same (w .«context_ref»))) ∙ a .live)
-            (sym (ap (λ (y : Fixed). y .lock) (n .kept .same (w .«context_ref»))) ∙ eqb-true _ _ l) not-holder)
-            d i (is-queued M S d i (rw t at h)) (eqb-false i k t) z))
-
-        u : Unkeyed (Free M) (M .contexts) (s .contexts) k (s .cpu .queue) (queues M) (w .«context_ref») (woke s w) (without-old-key (woke s w) (s .cpu .queue))
-        u = unkeyed (Free M) (M .contexts) (s .contexts) k (s .cpu .queue) (queues M) (w .«context_ref») (woke s w) (n .kept) r (a .live)
-            (woken-run (w .wake) (asked s w)) f here
+        (enters-free s (w .«context_ref») (woke s w) n (woken-fixed (w .wake) (asked s w)) e)
 
     enter-waking : (s : State) (w : Wakeup) → Waking s → Named w → Asked s w → eqb ((asked s w) .lock) 0 ≡ true → Enters (woke s w)
         → Waking (enter (w .«context_ref») (woke s w) s)
@@ -121,7 +118,7 @@ module _ (k time : ℕ) (M : Machine) (S : Sound M) (T : Tidy M) where
         let b = enter-entered s w n m a l e in
         record { kept = b .inv; roles-kept = n .roles-kept; v = n .v; has = λ y h. b .has y (n .has y h) }
 
-    woken-waking : (s : State) (w : Wakeup) → Waking s → Waking (wake-as s w (woken-only (woke s w)))
+    pub woken-waking : (s : State) (w : Wakeup) → Waking s → Waking (wake-as s w (woken-only (woke s w)))
     unfolding wake-as
     woken-waking s w n =
         record {

@@ -19,12 +19,17 @@ fn read_head(s: &[u8], from: usize) -> Head {
     let cpu = text::next(s, from);
     let time = text::next(s, cpu.end);
     let named = text::next(s, time.end);
-    let length = text::next(s, named.end);
+    read_sizes(s, named.end, cpu.value, time.value, named.value)
+}
+
+// The image's length, and how many of its words are listed.
+fn read_sizes(s: &[u8], from: usize, cpu: u64, time: u64, named: u64) -> Head {
+    let length = text::next(s, from);
     let words = text::next(s, length.end);
     Head {
-        cpu: cpu.value,
-        time: time.value,
-        named: named.value,
+        cpu,
+        time,
+        named,
         length: length.value,
         words: words.value,
         end: words.end,
@@ -53,6 +58,14 @@ fn play_group(m: &mut [u64], h: Head) -> Answer {
     ronthuyal::ronthuyal_unblock_group(m, h.cpu, h.time, h.named)
 }
 
+fn add_up(m: &[u64], h: Head) -> Answer {
+    let n = numbers::index(h.length);
+    if n <= m.len() {
+        return ronthuyal::ronthuyal_total_weight(&m[0..n], h.cpu);
+    }
+    ronthuyal::ronthuyal_total_weight(m, h.cpu)
+}
+
 // One case, and where the text goes on.
 fn case(s: &[u8], from: usize, m: &mut [u64], old: &mut [u64]) -> usize {
     let operation = text::next(s, from);
@@ -68,6 +81,16 @@ fn group(s: &[u8], from: usize, m: &mut [u64], old: &mut [u64]) -> usize {
     let h = read_head(s, from);
     let end = prepare(s, h, m, old);
     let a = play_group(m, h);
+    image::answer(a, m, old);
+    end
+}
+
+// A case that adds up the weight of a CPU, from behind its w, and where the text goes on.
+fn total_weight(s: &[u8], from: usize, m: &mut [u64], old: &mut [u64]) -> usize {
+    let cpu = text::next(s, from);
+    let h = read_sizes(s, cpu.end, cpu.value, 0, 0);
+    let end = prepare(s, h, m, old);
+    let a = add_up(m, h);
     image::answer(a, m, old);
     end
 }
@@ -88,9 +111,13 @@ fn item(s: &[u8], from: usize, m: &mut [u64], old: &mut [u64]) -> usize {
     if text::is_comment(s, from) {
         return comment(s, from);
     }
-    let behind = text::after_group(s, from);
+    let behind = text::after(s, from, b'g');
     if from < behind {
         return group(s, behind, m, old);
+    }
+    let weighed = text::after(s, from, b'w');
+    if from < weighed {
+        return total_weight(s, weighed, m, old);
     }
     case(s, from, m, old)
 }

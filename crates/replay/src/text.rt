@@ -25,6 +25,9 @@ fn is_mark(b: u8) -> bool {
     if b == b'g' {
         return true;
     }
+    if b == b'w' {
+        return true;
+    }
     is_digit(b)
 }
 
@@ -52,7 +55,7 @@ fn digit(b: u8) -> u64 {
     0
 }
 
-// The first place from `from` on that is a digit, # or g, or the length.
+// The first place from `from` on that is a digit, #, g or w, or the length.
 pub fn skip(s: &[u8], from: usize) -> usize {
     let mut i = from;
     while i < s.len() {
@@ -71,10 +74,10 @@ pub fn is_comment(s: &[u8], at: usize) -> bool {
     false
 }
 
-// Behind a g that stands at `at`; where there is none, `at`.
-pub fn after_group(s: &[u8], at: usize) -> usize {
+// Behind the letter if it stands at `at`; else `at`.
+pub fn after(s: &[u8], at: usize, letter: u8) -> usize {
     if at < s.len() {
-        if s[at] == b'g' {
+        if s[at] == letter {
             return at + 1;
         }
     }

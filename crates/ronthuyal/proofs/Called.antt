@@ -65,6 +65,10 @@ is-refused m time r e z =
     no : (image-refusal time m ≡ 0 → ⊥) → Refused r ≡ Refused (image-refusal time m) → ⊥
     no f q = let w : r ≡ image-refusal time m = cc in f (sym w ∙ z)
 
+-- a call that leaves the image
+pub same-reply : (m : List ℕ) (a b : Answer) → a ≡ b → reply a m ≡ reply b m
+same-reply m a b e = ap (λ (y : Answer). reply y m) e
+
 -- w: what the code's check gave
 module _ (m : List ℕ) (time : ℕ) (w : Checked) (e : w ≡ check m time) where
   pub call-refused : {a : Answer} (r : ℕ) (f : Machine → Reply) → w ≡ Refused r → a ≡ record { refusal = r; result = 0; interrupt = 0; rule = 0 } → reply a m ≡ checked m time f

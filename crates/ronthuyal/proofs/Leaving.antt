@@ -69,7 +69,7 @@ module _ (a : Answer) (m m' : List ℕ) (time : ℕ) (z : a .refusal ≡ 0) (p :
   W = well-formed m p
 
   -- what a call makes of the machine, if there was room
-  after : (P : Machine → Type 0) (o : Outcome) → (o .no-room ≡ false → P (o .machine)) → reply a m' ≡ replied m o → StandsFor P m'
+  pub after : (P : Machine → Type 0) (o : Outcome) → (o .no-room ≡ false → P (o .machine)) → reply a m' ≡ replied m o → StandsFor P m'
   unfolding replied
   after P o f e =
       by-test (o .no-room) (λ t. refused-not 9 m (λ w. omega arith) (rw t at e) z)
@@ -77,10 +77,10 @@ module _ (a : Answer) (m m' : List ℕ) (time : ℕ) (z : a .refusal ≡ 0) (p :
 
   -- CPU k and context x, as the look-ups found them
   module _ (cpu k : ℕ) (i : IsPresent M cpu k) where
-    here : k < c
+    pub here : k < c
     here = omega (arith, i .is, i .below, W .cpus)
 
-    is-present : cpu-at M k .block .present ≡ true
+    pub is-present : cpu-at M k .block .present ≡ true
     is-present = subst (λ (j : ℕ). cpu-at M j .block .present ≡ true) (sym (i .is)) (i .present)
 
     decided : (call : Call) → TargetFormed n (M .contexts) call → reply a m' ≡ decide-on m M k time call → Formed c n m'
@@ -90,7 +90,7 @@ module _ (a : Answer) (m m' : List ℕ) (time : ℕ) (z : a .refusal ≡ 0) (p :
         (λ y. after (WellFormed c n) (outcome call k time M) (decision-leaves c n M W k time here is-present (p .words .time-most) call t) (rw y at e))
         (λ y. refused-not (refusal call M k time) m (eqb-false (refusal call M k time) 0 y) (rw y at e) z)
 
-  live-name : (context x : ℕ) → IsLive M context x → LiveName n (M .contexts) x
+  pub live-name : (context x : ℕ) → IsLive M context x → LiveName n (M .contexts) x
   live-name context x i = rw (i .is) (record { below = omega (arith, i .below, W .contexts); live = i .alive })
 
   -- operations 1 to 3

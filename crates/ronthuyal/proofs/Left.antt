@@ -41,7 +41,7 @@ module _ (a : Answer) (m m' : List ℕ) (cpu time context : ℕ) (z : a .refusal
   past-check f g (Refused r) h e = refused-not r m (is-refused m time r h) e z
   past-check f g (Passed c n) h e = g (admitted.passed time m (call-none m time (Passed c n) h c n refl)) e
 
-  through : {A : Type 0} (f : Machine → Reply) → ((p : admitted.Passed time m) → reply a m' ≡ f (decode m) → A) → reply a m' ≡ checked m time f → A
+  pub through : {A : Type 0} (f : Machine → Reply) → ((p : admitted.Passed time m) → reply a m' ≡ f (decode m) → A) → reply a m' ≡ checked m time f → A
   through f g e = past-check f g (check m time) refl e
 
   abbrev c : ℕ

@@ -90,7 +90,7 @@ module _ (M : Machine) (r : ℕ) where
   unfolding named
   of-name cpu x e = of-cpu x (get-percpu-block M cpu) e
 
-short : {n : ℕ} {cs : List Context} (p : Cpu) → Stands n cs p → Short p
+pub short : {n : ℕ} {cs : List Context} (p : Cpu) → Stands n cs p → Short p
 unfolding no-cpu
 short p (absent e) = rw e (record { queue = omega arith; timers = omega arith; local = omega arith; ipi = omega arith })
 short p (present f r) = record { queue = r .queue; timers = r .timers; local = r .local; ipi = r .ipi }

@@ -14,8 +14,9 @@ use Rattle.model.specs.Accepted.{by-tick, by-switch}
 use Rattle.switch_ops.specs.Reply.{decide, direct-switch}
 use Rattle.context_ops.specs.Named.{named}
 use Rattle.context_ops.specs.Operations.{unblock-context, drain-ipi-context-wakeups, block, hard-block}
-use Rattle.context_ops.specs.Reply.{Reply, refuse, reply-to, reply-on}
+use Rattle.context_ops.specs.Reply.{Reply, reply, refuse, reply-to, reply-on}
 use Rattle.group_ops.specs.Group.{unblock-group}
+use Rattle.total_weight.specs.TotalWeight.{total-weight-answer}
 
 -- refusals 1 to 4, or the counts of CPUs and contexts
 unfoldable pub check : List ℕ → ℕ → Checked
@@ -56,6 +57,10 @@ hard-block-call m cpu time context =
 -- operation 4 for every context that the mask names, or for none
 abbrev pub unblock-group-call : List ℕ → (cpu time mask : ℕ) → Reply
 unblock-group-call m cpu time mask = checked m time (λ (M : Machine). unblock-group m M cpu mask)
+
+-- the weight of a CPU, added up from its contexts; there is no time
+abbrev pub total-weight-call : List ℕ → (cpu : ℕ) → Reply
+total-weight-call m cpu = checked m 0 (λ (M : Machine). reply (total-weight-answer M (get-percpu-block M cpu)) m)
 
 -- no such operation
 abbrev pub no-operation-call : List ℕ → (time : ℕ) → Reply

@@ -12,6 +12,7 @@ ghost use Rattle.ronthuyal.specs.Call.{
   block-call,
   hard-block-call,
   unblock-group-call,
+  total-weight-call,
   no-operation-call,
   call,
 };
@@ -198,5 +199,17 @@ pub extern "C" fn ronthuyal_unblock_group(
     match checked {
         Checked::Refused(number) => answer::refused(number),
         Checked::Passed(c, n) => group_ops::unblock_group(image, c, n, cpu, mask),
+    }
+}
+
+// The weight of a CPU, added up from its contexts. The result is the sum.
+#[no_mangle]
+pub extern "C" fn ronthuyal_total_weight(image: &[u64], cpu: u64) -> Answer
+    ensures { λ r. ⌜ reply r (now (image .entry)) ≡ total-weight-call (now (image .entry)) cpu ⌝ }
+{
+    let checked = check(image, 0);
+    match checked {
+        Checked::Refused(number) => answer::refused(number),
+        Checked::Passed(c, n) => total_weight::answer(image, c, n, cpu),
     }
 }

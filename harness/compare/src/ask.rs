@@ -1,9 +1,14 @@
-//! What is asked of table, kernel and port: an operation, or the waking of a group.
+//! What is asked of table, kernel and port: an operation, the waking of a group, or the weight of a
+//! CPU.
 
 use crate::port;
-use image::{Answer, Call, Group, OPERATIONS, check};
+use image::{Answer, Call, Group, OPERATIONS, TotalWeight, check, total_weight};
 #[cfg(feature = "oracle")]
-use {image::Fault, kernel::oracle};
+use {
+    crate::generate::weight,
+    image::{Fault, View},
+    kernel::oracle,
+};
 
 pub trait Ask {
     /// The first of rows 1 to 8 that it meets, or 0.
@@ -67,5 +72,29 @@ impl Ask for Group {
     fn text(&self) -> String {
         let Group { cpu, time, mask } = self;
         format!("unblock_group, cpu {cpu}, time {time}, mask {mask:#x}")
+    }
+}
+
+impl Ask for TotalWeight {
+    fn refusal(&self, image: &[u64]) -> u64 {
+        total_weight::refusal(image, self)
+    }
+    /// The kernel has no function that adds up: the sum is an own one, by the kernel's table.
+    #[cfg(feature = "oracle")]
+    fn kernel(&self, image: &mut [u64]) -> Result<Answer, Fault> {
+        Ok(Answer {
+            result: total_weight::total(View(image), self.cpu as usize, weight),
+            ..Answer::default()
+        })
+    }
+    #[cfg(feature = "oracle")]
+    fn decision(&self) -> Option<&Call> {
+        None
+    }
+    fn port(&self, image: &mut [u64]) -> Option<Answer> {
+        port::total_weight(image, self)
+    }
+    fn text(&self) -> String {
+        format!("total_weight, cpu {}", self.cpu)
     }
 }

@@ -3,11 +3,12 @@
 use crate::{
     expected::{Expected, expected},
     generate::{Case, Groups, Stream},
-    list::{case, group_case, line, nonzero},
+    list::{case, group_case, line, nonzero, total_case},
     recorded,
 };
 use image::{
-    Answer, Call, MAX_CONTEXTS, MAX_CPUS, OPERATIONS, RULES, View, check, decision, length, newest,
+    Answer, Call, MAX_CONTEXTS, MAX_CPUS, OPERATIONS, RULES, TotalWeight, View, check, decision,
+    length, newest,
 };
 
 /// How many words of a generated image may be other than 0: the list stays short.
@@ -24,7 +25,7 @@ fn short(image: &[u64]) -> bool {
 
 /// Prints the calls of a recorded list, and `each` generated ones of every operation, of
 /// groups, of decisions with an unreadable due timer and of those that remove one; a twentieth
-/// as many of each rule.
+/// as many of each rule; sums of weights.
 pub fn calls(list: &str, seed: u64, each: u64) -> bool {
     let mut number = 0;
     let mut print = |text: String| {
@@ -68,6 +69,15 @@ pub fn calls(list: &str, seed: u64, each: u64) -> bool {
             print(line(case(&next.call, &next.image)));
         }
         left.iter().any(|left| *left > 0)
+    });
+    let mut left = each;
+    take(Stream::new(seed), |next, _| {
+        if short(&next.image) {
+            left -= 1;
+            let call = TotalWeight { cpu: next.call.cpu };
+            print(format!("w {}", line(total_case(&call, &next.image))));
+        }
+        left > 0
     });
     true
 }

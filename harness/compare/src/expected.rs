@@ -7,9 +7,13 @@ use crate::ask::Ask;
 use image::Answer;
 #[cfg(feature = "oracle")]
 use {
-    crate::generate::weight,
+    crate::{generate::weight, weighing},
     image::{Call, Fault, View, block, decision, newest, rule, structure},
 };
+
+/// The kernel's CPUs are global: one test at a time.
+#[cfg(all(test, feature = "oracle"))]
+pub static KERNEL: std::sync::Mutex<()> = std::sync::Mutex::new(());
 
 pub enum Expected {
     /// Answer and image after.
@@ -49,6 +53,8 @@ fn run(image: &[u64], ask: &impl Ask) -> Result<Expected, Contradiction> {
         whole(&answer, &after)?;
         return Ok(Expected::Known(answer, after));
     };
+    let weighed = weighing::applies(image, call);
+    weighing::kept(weighed, &answer, &after)?;
     counted(image, call, &answer, &after)?;
     doubled(image, call, &answer, &after)?;
     let want = by_the_source(image, call)?;
@@ -63,6 +69,7 @@ fn run(image: &[u64], ask: &impl Ask) -> Result<Expected, Contradiction> {
     }
     roomy()?;
     ruled(image, call, &answer, &after)?;
+    weighing::kept(weighed, &answer, &after)?;
     whole(&answer, &after)?;
     Ok(Expected::Known(answer, after))
 }

@@ -1,15 +1,16 @@
 //! The lists that the programs of `crates/replay` read and print, answered by the table
 //! and the kernel. A case is a line: operation, CPU, time, context, the image's length,
 //! how many of its words are not 0, and these as pairs of place and value. A line that
-//! begins with g wakes a group: CPU, time, mask, then the image as before. The answer is a
-//! line: refusal, result, interrupt mark, rule, how many words the call changed, and these
-//! as pairs of place and new value. A line that begins with # is copied.
+//! begins with g wakes a group: CPU, time, mask, then the image as before; one that begins with
+//! w adds up the weight of a CPU: CPU, then the image. The answer is a line: refusal, result,
+//! interrupt mark, rule, how many words the call changed, and these as pairs of place and new
+//! value. A line that begins with # is copied.
 
 use crate::{
     ask::Ask,
     expected::{Expected, expected},
 };
-use image::{Answer, Call, Group};
+use image::{Answer, Call, Group, TotalWeight};
 use std::io::{Read, stdin};
 
 /// The numbers of a case.
@@ -21,6 +22,12 @@ pub fn case(call: &Call, image: &[u64]) -> Vec<u64> {
 
 pub fn group_case(group: &Group, image: &[u64]) -> Vec<u64> {
     let mut numbers = vec![group.cpu, group.time, group.mask];
+    put_image(&mut numbers, image);
+    numbers
+}
+
+pub fn total_case(call: &TotalWeight, image: &[u64]) -> Vec<u64> {
+    let mut numbers = vec![call.cpu];
     put_image(&mut numbers, image);
     numbers
 }
@@ -108,18 +115,26 @@ pub fn answers() -> bool {
 }
 
 fn answered(text: &str) -> String {
-    let group = text.starts_with('g');
+    let letter = text.chars().next().filter(char::is_ascii_lowercase);
     let mut numbers = text
         .split_whitespace()
-        .skip(group.into())
+        .skip(letter.is_some().into())
         .map(|word| word.parse::<u64>().expect("a number"));
     let mut next = || numbers.next().expect("the line is cut off");
-    if group {
-        let (group, image) = read_group(&mut next);
-        return answer_line(&group, &image);
+    match letter {
+        Some('g') => {
+            let (group, image) = read_group(&mut next);
+            answer_line(&group, &image)
+        }
+        Some('w') => {
+            let call = TotalWeight { cpu: next() };
+            answer_line(&call, &read_image(&mut next))
+        }
+        _ => {
+            let (call, image) = read_case(&mut next);
+            answer_line(&call, &image)
+        }
     }
-    let (call, image) = read_case(&mut next);
-    answer_line(&call, &image)
 }
 
 fn answer_line(call: &impl Ask, image: &[u64]) -> String {

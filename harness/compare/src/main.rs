@@ -27,6 +27,9 @@ mod run;
 mod tally;
 #[cfg(feature = "oracle")]
 mod times;
+#[cfg(feature = "oracle")]
+mod weighing;
+mod weights;
 
 use std::process::ExitCode;
 
@@ -45,6 +48,9 @@ fn main() -> ExitCode {
         ["timers", seed, count] => run::timers(number(seed), number(count)),
         ["rules", seed, count] => run::rules(number(seed), number(count)),
         ["groups", seed, count] => run::groups(number(seed), number(count)),
+        ["totals", seed, count] => weights::totals(number(seed), number(count)),
+        #[cfg(feature = "oracle")]
+        ["weighed", seed, count] => weights::weighed(number(seed), number(count)),
         ["boards", seed, runs] => boards::boards(number(seed), number(runs)),
         ["replay", list] => replay::replay(list),
         ["calls", recorded, seed, each] => calls::calls(recorded, number(seed), number(each)),

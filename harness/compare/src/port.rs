@@ -1,7 +1,7 @@
 //! The port, through the functions that its two archives export.
 
 use image::{
-    Answer, Call, Group,
+    Answer, Call, Group, TotalWeight,
     board::{Cue, Handed},
 };
 
@@ -11,6 +11,8 @@ unsafe extern "C" {
     fn ronthuyal_call(_: *mut u64, _: usize, _: u64, _: u64, _: u64, _: u64) -> Answer;
     /// Of the image's address and length, CPU, time and mask.
     fn ronthuyal_unblock_group(_: *mut u64, _: usize, _: u64, _: u64, _: u64) -> Answer;
+    /// Of the image's address and length, and CPU.
+    fn ronthuyal_total_weight(_: *const u64, _: usize, _: u64) -> Answer;
 }
 
 #[cfg(cue_board)]
@@ -62,6 +64,16 @@ pub fn unblock_group(image: &mut [u64], group: &Group) -> Option<Answer> {
 
 #[cfg(not(port))]
 pub fn unblock_group(_image: &mut [u64], _group: &Group) -> Option<Answer> {
+    None
+}
+
+#[cfg(port)]
+pub fn total_weight(image: &[u64], call: &TotalWeight) -> Option<Answer> {
+    Some(unsafe { ronthuyal_total_weight(image.as_ptr(), image.len(), call.cpu) })
+}
+
+#[cfg(not(port))]
+pub fn total_weight(_image: &[u64], _call: &TotalWeight) -> Option<Answer> {
     None
 }
 

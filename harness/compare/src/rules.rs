@@ -58,7 +58,7 @@ impl Rules {
 mod tests {
     use super::{RULES, Rules};
     use crate::{
-        expected::{Contradiction, Expected, expected},
+        expected::{Contradiction, Expected, KERNEL, expected},
         generate::Stream,
     };
     use image::{View, block as b};
@@ -67,6 +67,7 @@ mod tests {
     /// queued elsewhere, is stolen now and then.
     #[test]
     fn none_is_rare() {
+        let _alone = KERNEL.lock();
         let (mut stream, mut rules) = (Stream::rules(1), Rules::default());
         let mut idle_stolen = 0;
         for _ in 0..20_000 {

@@ -88,7 +88,7 @@ fn switch(image: &mut Vec<u64>, group: &Group) {
 }
 
 /// Answer and image after, or nothing if there was a difference.
-fn one<A: Ask>(case: &Case<A>) -> Option<(Answer, Vec<u64>)> {
+pub fn one<A: Ask>(case: &Case<A>) -> Option<(Answer, Vec<u64>)> {
     let want = match expected(&case.image, &case.call) {
         Ok(want) => want,
         Err(Contradiction(text)) => {

@@ -1,7 +1,7 @@
 //! How many cases of each sort were compared.
 
 use crate::{due::Sorts, generate::Case, port, rules::Rules};
-use image::{Answer, Group, OPERATIONS, View};
+use image::{Answer, Group, OPERATIONS, TotalWeight, View};
 
 /// Of some of the cases: all, refused ones, those compared with the port.
 #[derive(Default)]
@@ -33,6 +33,8 @@ pub struct Tally {
     operations: [Counts; 8],
     /// Groups, by how many contexts are named: none, one, up to a dozen, more.
     groups: [Counts; 4],
+    /// Sums of a CPU's weights.
+    totals: Counts,
     /// Calls on the image that the call before left.
     chained: Counts,
     refusals: [u64; 10],
@@ -63,6 +65,10 @@ impl Tally {
         self.groups[names].add(answer.refusal != 0);
         self.any(case.chained, answer);
     }
+    pub fn total(&mut self, case: &Case<TotalWeight>, answer: &Answer) {
+        self.totals.add(answer.refusal != 0);
+        self.any(case.chained, answer);
+    }
     fn any(&mut self, chained: bool, answer: &Answer) {
         if chained {
             self.chained.add(answer.refusal != 0);
@@ -88,6 +94,11 @@ impl Tally {
         for (name, counts) in names.iter().zip(&self.groups) {
             counts.print(name);
         }
+        self.print_rest();
+    }
+    pub fn print_totals(&self) {
+        println!("total_weight                     cases  refused  port compared");
+        self.totals.print("sums");
         self.print_rest();
     }
     fn print_rest(&self) {

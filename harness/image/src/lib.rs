@@ -1,6 +1,6 @@
 //! The machine image of document 01: places of its words, their names, and an own
-//! reading of the table of refused calls, of decisions and of their rules. And the cue board of
-//! document 02.
+//! reading of the table of refused calls, of decisions, of their rules and of weights. And the cue
+//! board of document 02.
 
 pub mod board;
 pub mod check;
@@ -10,8 +10,10 @@ pub mod newest;
 mod places;
 pub mod ranges;
 pub mod rule;
+pub mod served;
 pub mod structure;
 pub mod tidy;
+pub mod total_weight;
 
 pub use places::{RULES, block, context};
 
@@ -51,6 +53,12 @@ impl Group {
             context,
         })
     }
+}
+
+/// Asks for the weight of a CPU, added up from the contexts.
+#[derive(Clone, Copy, Debug, PartialEq, Eq, Default)]
+pub struct TotalWeight {
+    pub cpu: u64,
 }
 
 #[repr(C)]

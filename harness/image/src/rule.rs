@@ -2,15 +2,17 @@
 //! table in document 01's words. Who waits is asked of all entries at once; there is no scan
 //! that takes locks or ends early.
 
-use crate::{Call, SLICE_MAX, View, block as b, context as c, decision, tidy};
+use crate::{
+    Call, SLICE_MAX, View, block as b, context as c,
+    served::{serves_own, stole, wakeups},
+    tidy,
+};
 use std::cmp::Reverse;
 
 /// Whether the reading speaks of this decision: the machine is tidy, and no wake-up served here
 /// names a context that is queued on another CPU, as demand 3 has it.
 pub fn judges(before: View, call: &Call) -> bool {
-    let elsewhere = queued_elsewhere(before, call.cpu as usize);
-    let strays = |(_, context): &(Option<u64>, u64)| elsewhere.contains(context);
-    tidy::holds(before) && !wakeups(before, call).iter().any(strays)
+    tidy::holds(before) && serves_own(before, call)
 }
 
 /// The rule of an accepted decision that it judges; `weight` is that of a priority.
@@ -179,37 +181,6 @@ impl<'a> Moment<'a> {
             && record[c::SCHED_AFFINITY] >> self.call.cpu & 1 == 1
             && awake
     }
-}
-
-/// The due timers here whose contexts wait for them and can be read, with their wakes, then the
-/// names on the local list.
-fn wakeups(image: View, call: &Call) -> Vec<(Option<u64>, u64)> {
-    let at = |word| image.block(call.cpu as usize, word);
-    let timers = decision::due(image, call)
-        .filter(|due| due.record == decision::Record::Readable && due.fits)
-        .map(|due| (Some(due.wake), due.context));
-    let names =
-        (0..at(b::LOCAL_COUNT) as usize).map(|slot| (None, at(b::LOCAL_WAKEUP_LIST + slot)));
-    timers.chain(names).collect()
-}
-
-/// Contexts with an entry in this queue.
-fn queued(image: View, cpu: usize) -> impl Iterator<Item = u64> {
-    let count = image.block(cpu, b::QUEUE_COUNT) as usize;
-    (0..count).map(move |slot| image.block(cpu, b::ENTRY_CONTEXT_REF + slot))
-}
-
-fn queued_elsewhere(image: View, here: usize) -> Vec<u64> {
-    let others = (0..image.cpus()).filter(|cpu| *cpu != here);
-    others.flat_map(|cpu| queued(image, cpu)).collect()
-}
-
-/// Whether somebody was queued on another CPU before, and is queued or in charge here after.
-fn stole(before: View, here: usize, after: View) -> bool {
-    let elsewhere = queued_elsewhere(before, here);
-    queued(after, here)
-        .chain([after.block(here, b::SCHED_CTXT)])
-        .any(|context| elsewhere.contains(&context))
 }
 
 #[cfg(test)]

@@ -5,7 +5,7 @@
 mod board;
 mod group;
 
-use image::{Answer, Call, Group, View, check, decision};
+use image::{Answer, Call, Group, TotalWeight, View, check, decision, total_weight};
 
 /// # Safety
 /// `image` points to `len` words.
@@ -61,4 +61,20 @@ pub unsafe extern "C" fn ronthuyal_unblock_group(
 ) -> Answer {
     let words = unsafe { std::slice::from_raw_parts_mut(image, len) };
     group::unblock_group(words, &Group { cpu, time, mask })
+}
+
+/// # Safety
+/// `image` points to `len` words.
+#[unsafe(no_mangle)]
+pub unsafe extern "C" fn ronthuyal_total_weight(image: *const u64, len: usize, cpu: u64) -> Answer {
+    let words = unsafe { std::slice::from_raw_parts(image, len) };
+    let refusal = total_weight::refusal(words, &TotalWeight { cpu });
+    if refusal != 0 {
+        return Answer::refused(refusal);
+    }
+    let weight = |prio| kernel::context::switch::SCHED_PRIO_TO_WEIGHT[prio as usize] as u64;
+    Answer {
+        result: total_weight::total(View(words), cpu as usize, weight),
+        ..Answer::default()
+    }
 }

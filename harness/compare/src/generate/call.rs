@@ -1,6 +1,6 @@
 //! A call on an image: its operation, CPU and context.
 
-use super::{Stream, case::Choice};
+use super::Stream;
 use image::{Call, View, block as b, context as c};
 
 impl Stream {
@@ -20,12 +20,12 @@ impl Stream {
             22 => 6,
             _ => 7,
         };
-        if self.choice == Choice::Chains && operation == 7 && !rng.once_in(4) {
+        if self.choice.long_chains() && operation == 7 && !rng.once_in(4) {
             // Nothing ends a stop: a long chain would come to stand still.
             operation = 4;
         }
         let mut context = rng.below(view.contexts());
-        if self.choice == Choice::Chains && operation == 4 {
+        if self.choice.long_chains() && operation == 4 {
             // Somebody who sleeps is woken before its timer is due.
             let sleeps = |x: &usize| view.context(*x, c::STATUS) == c::BLOCKED;
             let mut from = (context..view.contexts()).chain(0..context);

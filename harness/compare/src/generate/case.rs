@@ -1,5 +1,6 @@
 //! A generated case, and the kinds of cases.
 
+use super::rng::Rng;
 use image::Call;
 
 #[derive(Clone, Copy, Debug, PartialEq, Eq)]
@@ -44,4 +45,29 @@ pub enum Choice {
     Timers,
     /// Decisions by rules that are seldom met otherwise.
     Rules,
+    /// Machines whose stored total weights are those added up: single decisions, and long chains.
+    Weighed,
+}
+
+impl Choice {
+    /// The kind of the next machine.
+    pub fn kind(self, rng: &mut Rng) -> Kind {
+        if self == Self::Chains {
+            return Kind::Chain;
+        }
+        match (rng.below(20), self) {
+            (0, Self::Weighed) => Kind::Chain,
+            (_, Self::Weighed) => Kind::Tidy,
+            (0..=4, _) => Kind::Tidy,
+            (5..=10, _) => Kind::Untidy,
+            (11..=13, _) => Kind::Full,
+            (14..=18, Self::Timers) => Kind::Full,
+            (14..=18, Self::Rules) => Kind::Tidy,
+            (14..=18, _) => Kind::Damaged,
+            _ => Kind::Chain,
+        }
+    }
+    pub fn long_chains(self) -> bool {
+        matches!(self, Self::Chains | Self::Weighed)
+    }
 }

@@ -111,7 +111,7 @@ fn fill(rng: &mut Rng, image: &mut [u64], at: usize, (count, columns): (usize, &
 }
 
 /// No name, one, few, a dozen or all that can be named; sometimes others among them.
-fn mask(rng: &mut Rng, image: View) -> u64 {
+pub fn mask(rng: &mut Rng, image: View) -> u64 {
     let contexts = 0..image.contexts();
     let locked = |x: &usize| image.context(*x, c::LOCK) != 0;
     let of = |which: &dyn Fn(&usize) -> bool| -> Vec<usize> {

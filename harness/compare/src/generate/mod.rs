@@ -19,12 +19,13 @@ mod tidy;
 mod timers;
 mod untidy;
 mod values;
+mod weighed;
 
 pub use boards::{Boards, Turn};
 pub use case::{Case, KINDS, Kind};
 pub use group::Groups;
 #[cfg(feature = "oracle")]
-pub use values::weight;
+pub use {group::mask, values::weight};
 
 use case::Choice;
 use image::{Call, NUMBER_MAX, View, block as b, check};
@@ -56,6 +57,10 @@ impl Stream {
     pub fn rules(seed: u64) -> Self {
         Self::of(seed, Choice::Rules)
     }
+    #[cfg(feature = "oracle")]
+    pub fn weighed(seed: u64) -> Self {
+        Self::of(seed, Choice::Weighed)
+    }
     fn of(seed: u64, choice: Choice) -> Self {
         Self {
             rng: Rng::new(seed),
@@ -77,18 +82,7 @@ impl Stream {
                 chained: true,
             };
         }
-        if self.choice == Choice::Chains {
-            return self.first(Kind::Chain);
-        }
-        let kind = match self.rng.below(20) {
-            0..=4 => Kind::Tidy,
-            5..=10 => Kind::Untidy,
-            11..=13 => Kind::Full,
-            14..=18 if self.choice == Choice::Timers => Kind::Full,
-            14..=18 if self.choice == Choice::Rules => Kind::Tidy,
-            14..=18 => Kind::Damaged,
-            _ => Kind::Chain,
-        };
+        let kind = self.choice.kind(&mut self.rng);
         self.first(kind)
     }
 
@@ -96,7 +90,7 @@ impl Stream {
     pub fn answered(&mut self, after: &[u64]) {
         // A number that the call raised over its range would end every further call.
         let refused = || (1..=4).contains(&check::refusal(after, &Call::default()));
-        if self.choice == Choice::Chains && refused() {
+        if self.choice.long_chains() && refused() {
             self.chain = None;
         }
         if let Some((image, scale, _)) = &mut self.chain {
@@ -109,7 +103,7 @@ impl Stream {
             if self.choice == Choice::Timers {
                 timers::relock(&mut self.rng, image);
             }
-            if matches!(self.choice, Choice::Timers | Choice::Chains) {
+            if self.choice == Choice::Timers || self.choice.long_chains() {
                 timers::resleep(&mut self.rng, scale, image);
             }
         }
@@ -127,10 +121,13 @@ impl Stream {
         let spoiled = match kind {
             Kind::Tidy => false,
             Kind::Untidy => true,
-            _ => rng.once_in(2),
+            _ => self.choice != Choice::Weighed && rng.once_in(2),
         };
         let mut aimed = rng.below(machine.cpu.len());
-        if matches!(self.choice, Choice::Timers | Choice::Rules) {
+        if matches!(
+            self.choice,
+            Choice::Timers | Choice::Rules | Choice::Weighed
+        ) {
             aimed = timers::aimed(rng, &machine);
         }
         if rng.once_in(2) {
@@ -139,7 +136,7 @@ impl Stream {
         if rng.once_in(3) {
             aim::at_victims(rng, &mut machine, aimed);
         }
-        if self.choice == Choice::Rules {
+        if self.choice == Choice::Rules || self.choice == Choice::Weighed && rng.once_in(2) {
             rules::put(rng, &mut machine, aimed, scale.time, !spoiled);
         }
         if spoiled {
@@ -154,6 +151,9 @@ impl Stream {
         } else if rng.once_in(12) {
             timers::sleeps_again(rng, &scale, &mut machine, aimed);
         }
+        if self.choice == Choice::Weighed {
+            weighed::put(rng, &mut machine, kind == Kind::Chain);
+        }
         let mut image = machine.image();
         let mut call = self.call(&image, scale.time);
         if !self.rng.once_in(4) && machine.cpu[aimed].present() {
@@ -161,7 +161,9 @@ impl Stream {
         }
         if self.choice == Choice::Timers {
             timers::call(&mut self.rng, &mut call, aimed);
-        } else if self.choice == Choice::Rules {
+        } else if self.choice == Choice::Rules
+            || self.choice == Choice::Weighed && kind == Kind::Tidy
+        {
             rules::call(&mut self.rng, &mut call, aimed);
         } else if let Some(filled) = filled {
             // Only a wake-up from another CPU puts a name there.
@@ -180,7 +182,7 @@ impl Stream {
         }
         if kind == Kind::Chain {
             let left = match self.choice {
-                Choice::Chains => self.rng.within(30, 150),
+                choice if choice.long_chains() => self.rng.within(30, 150),
                 _ => self.rng.within(3, 15),
             };
             self.chain = Some((image.clone(), scale, left));

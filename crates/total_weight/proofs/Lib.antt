@@ -1,0 +1,3 @@
+pub mod AnyOrder
+pub mod Adding
+pub mod Weighed

@@ -1,0 +1,2 @@
+pub mod TotalWeight
+pub mod Words
