@@ -3,7 +3,7 @@
 #ifndef RONTHUYAL_H
 #define RONTHUYAL_H
 
-#define RONTHUYAL_VERSION "0.8.0"
+#define RONTHUYAL_VERSION "0.9.0"
 
 #include <stddef.h>
 #include <stdint.h>
@@ -107,14 +107,15 @@ enum {
 #define RONTHUYAL_PRIO_MAX UINT64_C(39)
 #define RONTHUYAL_WEIGHT_MIN UINT64_C(15)
 #define RONTHUYAL_WEIGHT_MAX UINT64_C(88761)
+#define RONTHUYAL_REMAINDER_MAX UINT64_C(2249999)
 
 /* Sizes: an image of c CPUs and n contexts has so many words, context x's record begins at so many, CPU k's block at
    so many. */
 #define RONTHUYAL_RECORD_WORDS 26
-#define RONTHUYAL_BLOCK_WORDS 665
-#define RONTHUYAL_LENGTH(c, n) ((size_t)2 + (size_t)26 * (n) + (size_t)665 * (c))
+#define RONTHUYAL_BLOCK_WORDS 666
+#define RONTHUYAL_LENGTH(c, n) ((size_t)2 + (size_t)26 * (n) + (size_t)666 * (c))
 #define RONTHUYAL_RECORD(x) ((size_t)2 + (size_t)26 * (x))
-#define RONTHUYAL_BLOCK(n, k) ((size_t)2 + (size_t)26 * (n) + (size_t)665 * (k))
+#define RONTHUYAL_BLOCK(n, k) ((size_t)2 + (size_t)26 * (n) + (size_t)666 * (k))
 
 /* Words of a record, from its beginning. */
 enum {
@@ -182,7 +183,8 @@ enum {
     RONTHUYAL_BLOCK_TIMER_WAKE = 409,
     RONTHUYAL_BLOCK_TIMER_CONTEXT_REF = 473,
     RONTHUYAL_BLOCK_LOCAL_WAKEUP_LIST = 537,
-    RONTHUYAL_BLOCK_IPI_CONTEXT_WAKEUP_LIST = 601
+    RONTHUYAL_BLOCK_IPI_CONTEXT_WAKEUP_LIST = 601,
+    RONTHUYAL_BLOCK_REMAINDER = 665
 };
 
 #ifdef __cplusplus

@@ -2,10 +2,11 @@
 import re
 from typing import NamedTuple
 
-from layout import ARRAYS, RECORD, RECORD_WORDS, SINGLE, SLICE_MAX, array_place, block_place, length, record_place
+from layout import (ARRAYS, LAST, LAST_PLACE, RECORD, RECORD_WORDS, SINGLE, SLICE_MAX, array_place, block_place, length,
+                    record_place)
 
 RECORD_PLACES = {word.name: place for place, word in enumerate(RECORD)}
-BLOCK_PLACES = {word.name: place for place, word in enumerate(SINGLE)}
+BLOCK_PLACES = {word.name: place for place, word in [*enumerate(SINGLE), *enumerate(LAST, LAST_PLACE)]}
 COLUMNS = {array.item: array_place(array) for array in ARRAYS}
 
 

@@ -10,6 +10,7 @@ import group_cases
 import image_cases
 import newest_cases
 import refused_cases
+import remainder_cases
 import rule_cases
 import switch_cases
 import timer_cases
@@ -54,7 +55,7 @@ def check(case, line):
 
 def main():
     items = (image_cases.CASES + switch_cases.CASES + refused_cases.CASES + group_cases.CASES
-             + timer_cases.CASES + newest_cases.CASES + rule_cases.CASES + weight_cases.CASES)
+             + timer_cases.CASES + newest_cases.CASES + rule_cases.CASES + weight_cases.CASES + remainder_cases.CASES)
     calls = list_of(items)
     answers = subprocess.run(KERNEL, input=calls, capture_output=True, text=True, check=True).stdout
     lines = [line for line in answers.splitlines() if not line.startswith("#")]

@@ -84,7 +84,7 @@ def main():
                 continue
             kind = (call[0], answer[:3], before[0], len(changed))
             if name.endswith('.bin') and not every:
-                if not answer[0] and (len(before) > 90 or kind in kinds or len(out) >= 72):
+                if not answer[0] and (len(before) > 90 or kind in kinds or len(out) >= 82):
                     continue
             kinds.add(kind)
             out.append(show(*case))

@@ -6,10 +6,12 @@ from typing import NamedTuple
 CPUS, CONTEXTS, ROOM = 4, 64, 64  # the most of each; ROOM is that of a queue, timer set or list
 NUMBER_MAX, ID_MAX, SLICE_MAX, TURN_MAX = 2**62 - 1, 2**32 - 1, 9 * 2**30, 2**52 - 1
 WEIGHT_MIN, WEIGHT_MAX, PRIO_MAX = 15, 88_761, 39
+REMAINDER_MAX = 2_250_000 - 1  # of a division by NANOS_PER_TICK
 
 # Ranges, as a reader is told them.
 MARK, NUMBER, ANY = "0 or 1", "0 to 2^62 - 1", "any"
 SLICE, ID, COUNT, CONTEXT_NUMBER = "0 to 9·2^30", "0 to 2^32 - 1", "0 to 64", "0 to N - 1"
+REMAINDER = "0 to 2,249,999"
 
 STATUS = ["Runnable", "Blocked", "Stopped", "AwaitingMmap", "NotYetStarted", "Dead"]
 STATE = ["Idle", "Kernel", "User"]
@@ -71,7 +73,7 @@ RECORD = [
 ]
 
 FRONT = [
-    mark("present", "the CPU is there; if not, all 665 words are 0"),
+    mark("present", "the CPU is there; if not, all 666 words are 0"),
     number("current_ctxt", "context", "who runs on it", CONTEXT_NUMBER, default="-", also="not gone"),
     number("sched_ctxt", "context", "who is in charge: has the slice and is charged", CONTEXT_NUMBER, default="-",
            also="not gone"),
@@ -141,8 +143,14 @@ ARRAYS = [
           "woken here by another CPU"),
 ]
 
-RECORD_WORDS, BLOCK_WORDS = len(RECORD), len(SINGLE) + ROOM * len(ARRAYS)
-assert (RECORD_WORDS, BLOCK_WORDS) == (26, 665)
+# Behind the arrays.
+LAST = [
+    number("remainder", "2^-30 ns", "what the last decision's tick conversion left over, for the next one", REMAINDER),
+]
+LAST_PLACE = len(SINGLE) + ROOM * len(ARRAYS)
+
+RECORD_WORDS, BLOCK_WORDS = len(RECORD), LAST_PLACE + len(LAST)
+assert (RECORD_WORDS, BLOCK_WORDS) == (26, 666)
 
 # For tools/records.py: the fields of the structs, and what stands in the block as a record of its own.
 CONTEXT = [(word.name, word.kind) for word in RECORD]

@@ -6,19 +6,24 @@ Run it from the root of the repository after a list changes."""
 import os
 import re
 
-from layout import (ANY, ARRAYS, BLOCK_WORDS, CALLS, CONTEXTS, CPUS, ID_MAX, NUMBER_MAX, OPERATIONS, PRIO_MAX, RECORD,
-                    RECORD_WORDS, REFUSALS, ROOM, RULES, SINGLE, SIZES, SLICE_MAX, STATE, STATUS, TURN_MAX, WEIGHT_MAX,
-                    WEIGHT_MIN, array_place)
+from layout import (ANY, ARRAYS, BLOCK_WORDS, CALLS, CONTEXTS, CPUS, ID_MAX, LAST, LAST_PLACE, NUMBER_MAX, OPERATIONS,
+                    PRIO_MAX, RECORD, RECORD_WORDS, REFUSALS, REMAINDER_MAX, ROOM, RULES, SINGLE, SIZES, SLICE_MAX,
+                    STATE, STATUS, TURN_MAX, WEIGHT_MAX, WEIGHT_MIN, array_place)
 
 BY = "Written by tools/places.py"
 LIMITS = [("CPUS", CPUS), ("CONTEXTS", CONTEXTS), ("ROOM", ROOM), ("NUMBER_MAX", NUMBER_MAX), ("ID_MAX", ID_MAX),
           ("SLICE_MAX", SLICE_MAX), ("TURN_MAX", TURN_MAX), ("PRIO_MAX", PRIO_MAX), ("WEIGHT_MIN", WEIGHT_MIN),
-          ("WEIGHT_MAX", WEIGHT_MAX)]
+          ("WEIGHT_MAX", WEIGHT_MAX), ("REMAINDER_MAX", REMAINDER_MAX)]
 
 
 def constant(name):
     """AwaitingMmap and has_wake as constants are named."""
     return re.sub("(?<=[a-z])(?=[A-Z])", "_", name).upper()
+
+
+def last():
+    """The words behind a block's arrays, with their places."""
+    return list(enumerate(LAST, LAST_PLACE))
 
 
 def rust():
@@ -29,15 +34,18 @@ def rust():
 
     def names(title, kind, items):
         head = "    pub const %s: [%s; %d] = [" % (title, kind, len(items))
+        if len(items) == 1:
+            return [head + items[0] + "];"]
         return [head] + ["        %s," % item for item in items] + ["    ];"]
 
     out += ["/// Words of a context's record.", "pub mod context {"]
     out += consts("usize", [(word.name, place) for place, word in enumerate(RECORD)] + [("words", RECORD_WORDS)]) + [""]
     out += consts("u64", [(status, number) for number, status in enumerate(STATUS)]) + [""]
     out += names("NAMES", "&str", ['"%s"' % word.name for word in RECORD]) + ["}", ""]
-    out += ["/// Words of a CPU's block: single ones, then columns of 64.", "pub mod block {"]
+    out += ["/// Words of a CPU's block: single ones, then columns of 64, then the last ones.", "pub mod block {"]
     out += consts("usize", [(word.name, place) for place, word in enumerate(SINGLE)] + [("single", len(SINGLE))]) + [""]
-    out += consts("usize", [(array.name, array_place(array)) for array in ARRAYS] + [("words", BLOCK_WORDS)]) + [""]
+    out += consts("usize", [(array.name, array_place(array)) for array in ARRAYS] + [("last", LAST_PLACE)]) + [""]
+    out += consts("usize", [(word.name, place) for place, word in last()] + [("words", BLOCK_WORDS)]) + [""]
     counts = list(dict.fromkeys(array.count for array in ARRAYS))
     out += ["    /// The columns that each count word speaks for.",
             "    pub const COLUMNS: [(usize, &[usize]); %d] = [" % len(counts)]
@@ -49,7 +57,8 @@ def rust():
         else:
             out += ["        (", "            %s," % constant(count), "            &["]
             out += ["                %s," % column for column in columns] + ["            ],", "        ),"]
-    out += ["    ];", ""] + names("NAMES", "&str", ['"%s"' % word.name for word in SINGLE]) + [""]
+    out += ["    ];", ""] + names("NAMES", "&str", ['"%s"' % word.name for word in SINGLE])
+    out += names("LAST_NAMES", "&str", ['"%s"' % word.name for word in LAST]) + [""]
     out += ["    /// Names of the columns: before and after the slot in brackets."]
     out += names("COLUMN_NAMES", "(&str, &str)", ['("%s", "%s")' % tuple(array.item.split("[%d]")) for array in ARRAYS])
     out += ["}", "", "/// What the numbers of the rules stand for."]
@@ -142,7 +151,8 @@ def header():
     out += enum("Words of a record, from its beginning.", prefixed("CONTEXT", [word.name for word in RECORD]))
     out += enum("Words of a block, from its beginning; slot i of an array is i words behind its place.",
                 prefixed("BLOCK", [word.name for word in SINGLE])
-                + [("BLOCK_" + constant(array.name), array_place(array)) for array in ARRAYS])
+                + [("BLOCK_" + constant(array.name), array_place(array)) for array in ARRAYS]
+                + prefixed("BLOCK", [word.name for word in LAST], LAST_PLACE))
     return "\n".join(out + ["#ifdef __cplusplus", "}", "#endif", "", "#endif"]) + "\n"
 
 
@@ -159,7 +169,7 @@ def tables():
     def rows(words):
         return [["%d" % at, "`%s`" % word.name, word.says, word.unit, word.range, word.default,
                  broken(word.range, word.also)]
-                for at, word in enumerate(words)]
+                for at, word in words]
 
     head = ["word", "name", "says", "unit", "range", "default", "broken: refusal"]
     arrays = [["%d" % array_place(array), "`%s`" % array.item.replace("%d", "i"), array.says, array.unit, array.range,
@@ -170,7 +180,8 @@ def tables():
              for call in CALLS]
     rules = [["%d" % number, rule.says, rule.when] for number, rule in enumerate(RULES, 1)]
     refusals = [["%d" % number, says] for number, says in enumerate(REFUSALS, 1)]
-    return {"record": table(head, rows(RECORD)), "block": table(head, rows(SINGLE)),
+    return {"record": table(head, rows(enumerate(RECORD))),
+            "block": table(head, rows(list(enumerate(SINGLE)) + last())),
             "arrays": table(["from word", "name", "says", "unit", "range", "used slots", "broken: refusal"], arrays),
             "operations": table(["operation", "the kernel's function", "takes a context", "does", "result"],
                                 operations),

@@ -4,7 +4,7 @@
 block stand (`places` and `Places` of percpu).
 
 Run it from the root of the repository after a list of tools/layout.py changes."""
-from layout import ARRAYS, BLOCK, CONTEXT, COUNTS, LISTS, ROOM, STATS, WIDTH
+from layout import ARRAYS, BLOCK, CONTEXT, COUNTS, LAST, LISTS, ROOM, STATS, WIDTH
 
 
 def name(f):
@@ -135,7 +135,8 @@ def places():
     out = [(f, i) for i, f in enumerate(front)] + [("scalars_size", len(scalars)), ("front_size", len(front))]
     out += [(array.name, len(front) + ROOM * i) for i, array in enumerate(ARRAYS)]
     end = len(front) + ROOM * len(ARRAYS)
-    return out + [("columns_end", end), ("block_size", end)]
+    out += [("columns_end", end)] + [(word.name, end + i) for i, word in enumerate(LAST)]
+    return out + [("block_size", end + len(LAST))]
 
 
 def consts(path, what, pairs):
@@ -186,12 +187,12 @@ def main():
           [words("block-words", "PercpuBlock", BLOCK), of("block-of", "PercpuBlock", BLOCK),
            back("block-of", "block-words", "PercpuBlock", BLOCK),
            sized("block-words", "PercpuBlock", "scalars-size", " stats-words")])
-    write("crates/percpu/specs/With.antt", "A CPU with one field of its block, or one list, changed.",
+    write("crates/percpu/specs/With.antt", "A CPU with one field of its block, one list, or the last word changed.",
           [percpu + "declared.PercpuBlock.{PercpuBlock}", percpu + "Cpu.{Cpu}",
            "Rattle.cpu_stats.specs.declared.CpuStats.{CpuStats}",
            "Rattle.entries.specs.declared.Entry.{Entry}", "Rattle.entries.specs.declared.Timer.{Timer}"],
           setters("block", "PercpuBlock", BLOCK, "CpuState")
-          + setters("cpu", "Cpu", [("block", "PercpuBlock")] + LISTS, "")
+          + setters("cpu", "Cpu", [("block", "PercpuBlock")] + LISTS + [(word.name, word.kind) for word in LAST], "")
           + lifted("cpu", "cpu", "block", "block", "Cpu", BLOCK, "CpuState"))
     write_places()
 

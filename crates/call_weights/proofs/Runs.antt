@@ -45,38 +45,38 @@ module _ (a : Answer) (m m' : List ℕ) (cpu time context : ℕ) (z : a .refusal
   M = decode m
 
   -- the machine that each operation leaves
-  ticks : reply a m' ≡ tick-call m cpu time → Came m m' cpu time ((outcome by-tick cpu time M) .machine)
+  pub ticks : reply a m' ≡ tick-call m cpu time → Came m m' cpu time ((outcome by-tick cpu time M) .machine)
   ticks = through a m m' cpu time context z _ (λ p. by a m m' time z p cpu by-tick tt (get-percpu-block M cpu) refl)
 
-  switches : reply a m' ≡ switch-call m cpu time → Came m m' cpu time ((outcome by-switch cpu time M) .machine)
+  pub switches : reply a m' ≡ switch-call m cpu time → Came m m' cpu time ((outcome by-switch cpu time M) .machine)
   switches = through a m m' cpu time context z _ (λ p. by a m m' time z p cpu by-switch tt (get-percpu-block M cpu) refl)
 
-  direct-switches : reply a m' ≡ direct-switch-to-call m cpu time context → Came m m' cpu time ((outcome (by-direct-switch context) cpu time M) .machine)
+  pub direct-switches : reply a m' ≡ direct-switch-to-call m cpu time context → Came m m' cpu time ((outcome (by-direct-switch context) cpu time M) .machine)
   direct-switches = through a m m' cpu time context z _ (λ p. to a m m' time z p cpu context (look-up M context) refl)
 
-  unblocks : reply a m' ≡ unblock-context-call m cpu time context → Came m m' cpu time ((unblock-context cpu context M) .machine)
+  pub unblocks : reply a m' ≡ unblock-context-call m cpu time context → Came m m' cpu time ((unblock-context cpu context M) .machine)
   unfolding named
   unblocks =
       through a m m' cpu time context z _
       (λ p. called a m m' time z p cpu context _ (λ k x h e o. unblock-leaves (size-c m) (size-n m) k x M (well-formed m p) h e o) (get-percpu-block M cpu) refl)
 
-  drains : reply a m' ≡ drain-ipi-context-wakeups-call m cpu time → Came m m' cpu time ((drain-ipi-context-wakeups cpu M) .machine)
+  pub drains : reply a m' ≡ drain-ipi-context-wakeups-call m cpu time → Came m m' cpu time ((drain-ipi-context-wakeups cpu M) .machine)
   drains = through a m m' cpu time context z _ (λ p. drained a m m' time z p cpu (get-percpu-block M cpu) refl)
 
-  blocks : reply a m' ≡ block-call m cpu time context → Came m m' cpu time ((block context M) .machine)
+  pub blocks : reply a m' ≡ block-call m cpu time context → Came m m' cpu time ((block context M) .machine)
   unfolding named
   blocks =
       through a m m' cpu time context z _
       (λ p. called a m m' time z p cpu context _ (λ k x h e o y. block-leaves (size-c m) (size-n m) M (well-formed m p) Blocked x o) (get-percpu-block M cpu) refl)
 
-  hard-blocks : reply a m' ≡ hard-block-call m cpu time context → Came m m' cpu time ((hard-block context M) .machine)
+  pub hard-blocks : reply a m' ≡ hard-block-call m cpu time context → Came m m' cpu time ((hard-block context M) .machine)
   unfolding named
   hard-blocks =
       through a m m' cpu time context z _
       (λ p. called a m m' time z p cpu context _ (λ k x h e o y. block-leaves (size-c m) (size-n m) M (well-formed m p) Stopped x o) (get-percpu-block M cpu) refl)
 
   -- one test of the chain
-  one-of : {A : Type 0} (b : Bool) (x y : Reply) → (b ≡ true → reply a m' ≡ x → A) → (b ≡ false → reply a m' ≡ y → A) → reply a m' ≡ (if b then x else y) → A
+  pub one-of : {A : Type 0} (b : Bool) (x y : Reply) → (b ≡ true → reply a m' ≡ x → A) → (b ≡ false → reply a m' ≡ y → A) → reply a m' ≡ (if b then x else y) → A
   one-of true x y f g e = f refl e
   one-of false x y f g e = g refl e
 
@@ -99,7 +99,7 @@ module _ (a : Answer) (m m' : List ℕ) (cpu time context : ℕ) (z : a .refusal
       (λ t. one-of (eqb operation 7) _ _ (λ t e. subst Steady (sym (hard-blocks e .is)) (untouched-steady M _ (block-untouched Stopped context M) s))
       (λ t. through a m m' cpu time context z _ (λ p e. refused-not 5 m (λ w. omega arith) e z))))))))
 
-  group-checked : (mask : ℕ) (w : Checked) → w ≡ check m time → reply a m' ≡ checked-by m (λ (N : Machine). unblock-group m N cpu mask) w
+  pub group-checked : (mask : ℕ) (w : Checked) → w ≡ check m time → reply a m' ≡ checked-by m (λ (N : Machine). unblock-group m N cpu mask) w
       → Came m m' cpu time ((unblock-each cpu (members mask) M) .machine)
   unfolding checked-by unblock-group
   group-checked mask (Refused r) h e = refused-not r m (is-refused m time r h) e z

@@ -5,9 +5,10 @@ use lib.Dec.{ltb, eqb}
 use Rattle.columns.specs.Common.{if_then_else_}
 use Rattle.context.specs.declared.Context.{Context}
 use Rattle.context.specs.With.{with-vtime, with-vd, with-rem-slice, with-is-active}
-use Rattle.ticks.specs.Ticks.{ticks, tick-interval, nanos-per-tick}
+use Rattle.ticks.specs.declared.Spent.{Spent}
+use Rattle.ticks.specs.Ticks.{tick-interval, nanos-per-tick, max-ticks}
 use Rattle.weights.specs.Weights.{weight, whole-slice, full-slice}
-use Rattle.numbers.specs.Limits.{max-elapsed, half-range}
+use Rattle.numbers.specs.Limits.{half-range}
 
 -- under half of a switch's interval is a yield
 abbrev pub yield-bound : ℕ
@@ -21,13 +22,13 @@ abbrev pub renewed : Context → Context
 renewed c =
     if eqb (c .«rem_slice») 0 then with-rem-slice full-slice (with-vd (c .vtime + whole-slice (c .prio)) c) else c
 
--- a runnable holder after a turn of `elapsed` ns, where virtual time is v
-unfoldable pub charged : (v elapsed : ℕ) → Context → Context
-charged v elapsed c =
-    let left = c .«rem_slice» - ticks elapsed in
-    let vtime = max (c .vtime + ticks elapsed / weight (c .prio)) v in
+-- a runnable holder after a turn, where virtual time is v: a yield goes by nanoseconds, all else by ticks
+unfoldable pub charged : (v : ℕ) (spent : Spent) → Context → Context
+charged v spent c =
+    let left = c .«rem_slice» - spent .ticks in
+    let vtime = max (c .vtime + spent .ticks / weight (c .prio)) v in
     renewed
-    (if is-yield elapsed then with-rem-slice 0 (with-vtime (vtime + left / weight (c .prio)) c)
+    (if is-yield (spent .elapsed) then with-rem-slice 0 (with-vtime (vtime + left / weight (c .prio)) c)
     else with-rem-slice left (with-vtime vtime c))
 
 -- a holder that is not runnable any more
@@ -35,9 +36,9 @@ abbrev pub stopped : Context → Context
 stopped c = with-is-active false (with-rem-slice 0 c)
 
 -- what a charge asks of its record and times; image words and a decision's values are within it
-pub record Chargeable (v elapsed : ℕ) (c : Context) : Type 0 where
+pub record Chargeable (v : ℕ) (spent : Spent) (c : Context) : Type 0 where
   pub prio : c .prio < 40
   pub vtime : c .vtime < half-range
   pub «rem_slice» : c .«rem_slice» ≤ full-slice
   pub virtual : v < half-range
-  pub time : elapsed ≤ max-elapsed
+  pub ticks : spent .ticks ≤ max-ticks

@@ -1,5 +1,6 @@
 // What the holder of the CPU pays for its turn (`select_next_context`, context/switch.rs).
 use context::Context;
+use ticks::Spent;
 ghost use mathlib.Core.Path.{_≡_};
 ghost use Prim.Native.Nat.{ℕ, _*_, _<_, _≤_};
 ghost use Rattle.charging.specs.Charge.{charged, stopped, renewed, Chargeable};
@@ -22,15 +23,14 @@ fn renew(mut c: Context) -> Context
 }
 
 // A runnable holder: a turn under half of a switch's interval is a yield, which costs what is left of the slice.
-pub fn charge_runnable(mut c: Context, v: u64, elapsed: u64) -> Context
-    requires { ⌜ Chargeable v elapsed c ⌝ }
-    ensures { λ r. ⌜ r ≡ charged v elapsed c ⌝ }
+pub fn charge_runnable(mut c: Context, v: u64, spent: Spent) -> Context
+    requires { ⌜ Chargeable v spent c ⌝ }
+    ensures { λ r. ⌜ r ≡ charged v spent c ⌝ }
 {
     let weight = weights::weight_of(c.prio);
-    let elapsed_ticks = ticks::elapsed_ticks(elapsed);
-    let rem_slice = numbers::saturating_sub(c.rem_slice, elapsed_ticks);
-    let vtime = numbers::max(c.vtime + elapsed_ticks / weight, v);
-    if elapsed < YIELD_BOUND {
+    let rem_slice = numbers::saturating_sub(c.rem_slice, spent.ticks);
+    let vtime = numbers::max(c.vtime + spent.ticks / weight, v);
+    if spent.elapsed < YIELD_BOUND {
         c.vtime = vtime + rem_slice / weight;
         c.rem_slice = 0;
         return renew(c);

@@ -2,7 +2,7 @@
 use mathlib.Core.Path.{_≡_, refl, sym, ap, _∙_, subst}
 use Prim.Native.Nat.{ℕ, zero, suc, suc-le-suc, _+_, _-_, _*_, _<_, _≤_}
 use native.Mathlib.Omega.{arith}
-use native.Mathlib.Nat.{mul-zero, mul-suc, add-comm}
+use native.Mathlib.Nat.{mul-zero, mul-suc, add-comm, add-assoc}
 use mathlib.Core.Bool.{Bool, true, false}
 use lib.Dec.{ltb, eqb}
 use borrow.Author.Tests.{ltb-true, ltb-false}
@@ -46,6 +46,15 @@ getD-map f (x ∷ xs) (suc i) d h = getD-map f xs i d (omega arith)
 pub part-get : (b : List ℕ) (s k i : ℕ) → i < k → getD (part b s k) i 0 ≡ getD b (s + i) 0
 unfolding part
 part-get b s k i h = getD-take k (drop s b) i 0 h ∙ getD-drop s b i 0
+
+-- a part of a part
+pub part-part : (b : List ℕ) (a n s k : ℕ) → a + n ≤ length b → s + k ≤ n → part (part b a n) s k ≡ part b (a + s) k
+part-part b a n s k g h =
+    ext-getD 0 (part (part b a n) s k) (part b (a + s) k)
+    (length-part (part b a n) s k (rw (length-part b a n g) h) ∙ sym (length-part b (a + s) k (omega arith)))
+    (λ i l.
+    let j : i < k = rw (length-part (part b a n) s k (rw (length-part b a n g) h)) at l in
+    part-get (part b a n) s k i j ∙ part-get b a n (s + i) (omega arith) ∙ rw (← add-assoc) (sym (part-get b (a + s) k i j)))
 
 -- a mark that is 0 or 1
 pub mark-word : (x : ℕ) → x ≤ 1 → mark (eqb x 1) ≡ x

@@ -3,7 +3,7 @@ use mathlib.Core.Path.{_≡_, refl, sym, ap, _∙_}
 use Prim.Native.Nat.{ℕ, zero, suc, _+_, _-_, _*_, _<_, _≤_}
 use native.Mathlib.Omega.{arith}
 use native.Mathlib.Nat.{mul-zero, mul-suc}
-use mathlib.Core.List.{List, [], _∷_, _++_, append-assoc, append-nil}
+use mathlib.Core.List.{List, [], _∷_, _++_, append-assoc}
 use lib.ListN.{length, getD, set, take, drop, length-append, length-take, length-drop, length-set, replicate, List·getD-append}
 use borrow.Rule.Slice.PartMut.{putMid, set-mid-at}
 use Rattle.columns.specs.Columns.{pad, column-insert, column-remove, insert-at, remove-at}
@@ -83,41 +83,39 @@ pub length-flat : (cols : List (List ℕ)) → length (flat cols) ≡ 64 * lengt
 unfolding flat
 length-flat cols = length-cat (pad 64) 64 (length-pad 64) cols
 
--- column j, after pre
-module _ (pre : List ℕ) (cols : List (List ℕ)) (s j : ℕ) (hp : length pre ≡ s) (h : j < length cols) where
-  pub col-part : part (pre ++ flat cols) (s + 64 * j) 64 ≡ pad 64 (getD cols j [])
+-- column j, after pre and with post behind the last one
+module _ (pre post : List ℕ) (cols : List (List ℕ)) (s j : ℕ) (hp : length pre ≡ s) (h : j < length cols) where
+  pub col-part : part (pre ++ (flat cols ++ post)) (s + 64 * j) 64 ≡ pad 64 (getD cols j [])
   unfolding flat
-  col-part = rw (← append-nil (cat (pad 64) 64 (length-pad 64) cols)) (block-part (pad 64) 64 (length-pad 64) pre [] cols s j hp h [])
+  col-part = block-part (pad 64) 64 (length-pad 64) pre post cols s j hp h []
 
-  pub col-splice : (x : List ℕ) → splice (pre ++ flat cols) (s + 64 * j) 64 (pad 64 x) ≡ pre ++ flat (set cols j x)
+  pub col-splice : (x : List ℕ) → splice (pre ++ (flat cols ++ post)) (s + 64 * j) 64 (pad 64 x) ≡ pre ++ (flat (set cols j x) ++ post)
   unfolding flat
-  col-splice x =
-      rw (← append-nil (cat (pad 64) 64 (length-pad 64) cols))
-      (block-splice (pad 64) 64 (length-pad 64) pre [] cols s j hp h x [] ∙ rw (append-nil (cat (pad 64) 64 (length-pad 64) (set cols j x))))
+  col-splice x = block-splice (pad 64) 64 (length-pad 64) pre post cols s j hp h x []
 
   -- a word put into column j, or taken out of it
-  pub col-insert : (n p v : ℕ) → length (getD cols j []) ≡ n → p ≤ n → n < 64 → splice (pre ++ flat cols) (s + 64 * j) 64 (column-insert (part (pre ++ flat cols) (s + 64 * j) 64) n p v) ≡ pre ++ flat (set cols j (insert-at p v (getD cols j [])))
+  pub col-insert : (n p v : ℕ) → length (getD cols j []) ≡ n → p ≤ n → n < 64 → splice (pre ++ (flat cols ++ post)) (s + 64 * j) 64 (column-insert (part (pre ++ (flat cols ++ post)) (s + 64 * j) 64) n p v) ≡ pre ++ (flat (set cols j (insert-at p v (getD cols j []))) ++ post)
   col-insert n p v e b g = rw (col-part, ← e, ins-pad 64 (getD cols j []) p v (rw e b) (rw e g)) (col-splice (insert-at p v (getD cols j [])))
 
-  pub col-remove : (n p : ℕ) → length (getD cols j []) ≡ n → p < n → n ≤ 64 → splice (pre ++ flat cols) (s + 64 * j) 64 (column-remove (part (pre ++ flat cols) (s + 64 * j) 64) n p) ≡ pre ++ flat (set cols j (remove-at p (getD cols j [])))
+  pub col-remove : (n p : ℕ) → length (getD cols j []) ≡ n → p < n → n ≤ 64 → splice (pre ++ (flat cols ++ post)) (s + 64 * j) 64 (column-remove (part (pre ++ (flat cols ++ post)) (s + 64 * j) 64) n p) ≡ pre ++ (flat (set cols j (remove-at p (getD cols j []))) ++ post)
   col-remove n p e b g = rw (col-part, ← e, rem-pad 64 (getD cols j []) p (rw e b) (rw e g)) (col-splice (remove-at p (getD cols j [])))
 
   -- a word of column j is read, or written
-  pub col-get : (i : ℕ) → i < length (getD cols j []) → length (getD cols j []) ≤ 64 → getD (pre ++ flat cols) (s + 64 * j + i) 0 ≡ getD (getD cols j []) i 0
+  pub col-get : (i : ℕ) → i < length (getD cols j []) → length (getD cols j []) ≤ 64 → getD (pre ++ (flat cols ++ post)) (s + 64 * j + i) 0 ≡ getD (getD cols j []) i 0
   unfolding part
   col-get i b g =
-      sym (getD-drop (s + 64 * j) (pre ++ flat cols) i 0)
-      ∙ sym (getD-take 64 (drop (s + 64 * j) (pre ++ flat cols)) i 0 (omega arith))
+      sym (getD-drop (s + 64 * j) (pre ++ (flat cols ++ post)) i 0)
+      ∙ sym (getD-take 64 (drop (s + 64 * j) (pre ++ (flat cols ++ post))) i 0 (omega arith))
       ∙ ap (λ (l : List ℕ). getD l i 0) (col-part ∙ pad-all 64 (getD cols j []) g)
       ∙ List·getD-append (getD cols j []) (replicate (64 - length (getD cols j [])) 0) 0 i b
 
-  pub col-set : (i v : ℕ) → i < length (getD cols j []) → length (getD cols j []) ≤ 64 → set (pre ++ flat cols) (s + 64 * j + i) v ≡ pre ++ flat (set cols j (set (getD cols j []) i v))
+  pub col-set : (i v : ℕ) → i < length (getD cols j []) → length (getD cols j []) ≤ 64 → set (pre ++ (flat cols ++ post)) (s + 64 * j + i) v ≡ pre ++ (flat (set cols j (set (getD cols j []) i v)) ++ post)
   unfolding part splice
   col-set i v b g =
-      let inside : i < length (take 64 (drop (s + 64 * j) (pre ++ flat cols))) = rw (col-part, length-pad) (omega arith)
+      let inside : i < length (take 64 (drop (s + 64 * j) (pre ++ (flat cols ++ post)))) = rw (col-part, length-pad) (omega arith)
       in let written : set (getD cols j [] ++ replicate (64 - length (getD cols j [])) 0) i v ≡ pad 64 (set (getD cols j []) i v)
       = rw (pad-all 64 (set (getD cols j []) i v) (rw (length-set) g), length-set) (set-append-left (getD cols j []) (replicate (64 - length (getD cols j [])) 0) i v b)
-      in sym (set-mid-at (s + 64 * j) 64 i (pre ++ flat cols) v inside)
-      ∙ ap (λ (l : List ℕ). splice (pre ++ flat cols) (s + 64 * j) 64 (set l i v)) (col-part ∙ pad-all 64 (getD cols j []) g)
-      ∙ ap (λ (l : List ℕ). splice (pre ++ flat cols) (s + 64 * j) 64 l) written
+      in sym (set-mid-at (s + 64 * j) 64 i (pre ++ (flat cols ++ post)) v inside)
+      ∙ ap (λ (l : List ℕ). splice (pre ++ (flat cols ++ post)) (s + 64 * j) 64 (set l i v)) (col-part ∙ pad-all 64 (getD cols j []) g)
+      ∙ ap (λ (l : List ℕ). splice (pre ++ (flat cols ++ post)) (s + 64 * j) 64 l) written
       ∙ col-splice (set (getD cols j []) i v)

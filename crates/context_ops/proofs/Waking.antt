@@ -64,6 +64,7 @@ fits-local n x p h g o =
       ipi-name = o .ipi-name;
       keys-rise = o .keys-rise;
       timers-rise = o .timers-rise;
+      remainder = o .remainder;
     }
 
 pub fits-ipi : (n x : ℕ) (p : Cpu) → x < n → length (p .«ipi_context_wakeup_list») < 64 → CpuFits n p → CpuFits n (cpu-ipi-context-wakeup-list (p .«ipi_context_wakeup_list» ++ (x ∷ [])) p)
@@ -82,6 +83,7 @@ fits-ipi n x p h g o =
       ipi-name = names-more n (p .«ipi_context_wakeup_list») x h (o .ipi-name);
       keys-rise = o .keys-rise;
       timers-rise = o .timers-rise;
+      remainder = o .remainder;
     }
 
 -- the counts in the image

@@ -70,6 +70,7 @@ module _ {n t b : ℕ} (won runs : Bool) (ticks : ℕ) (s : State) (l : ticks �
         ipi-name = f .ipi-name;
         keys-rise = f .keys-rise;
         timers-rise = f .timers-rise;
+        remainder = f .remainder;
       })
       (λ e. f)
 

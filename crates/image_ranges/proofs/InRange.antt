@@ -25,7 +25,8 @@ use Rattle.machine.proofs.Encoded.{WholeContext}
 use Rattle.image_ranges.specs.Ranges.{within, zero-words, context-most, gone-most, context-in-range, block-most, array-least, array-most, used, unused, array-in-range, block-in-range, array-in-range-to, array-most-to, block-in-range-to, block-most-to, context-in-range-to, context-most-to}
 use Rattle.image_ranges.proofs.Checked.{within-at, counter-small}
 use Rattle.image_ranges.proofs.Risen.{sorted-tabulate}
-use Rattle.percpu.specs.Places.{local-wakeup-list-column, ipi-context-wakeup-list-column, block-size}
+use Rattle.percpu.specs.Places.{local-wakeup-list-column, ipi-context-wakeup-list-column, remainder-place, block-size}
+use Rattle.ticks.specs.Ticks.{max-remainder}
 
 -- a gone record's table is below a live one's
 below : (c : ℕ) → every (λ (i : ℕ). leb (getD gone-most i 0) (getD (context-most c) i 0)) record-size ≡ true
@@ -72,7 +73,8 @@ pub record BlockInRange (n : ℕ) (b : List ℕ) : Type 0 where
   pub low : (j i : ℕ) → j < 10 → i < getD b (getD counter j 0) 0 → getD array-least j 0 ≤ getD b (25 + 64 * j + i) 0
   pub high : (j i : ℕ) → j < 10 → i < getD b (getD counter j 0) 0 → getD b (25 + 64 * j + i) 0 ≤ getD (array-most n) j 0
   pub rest : (j i : ℕ) → j < 10 → getD b (getD counter j 0) 0 ≤ i → i < 64 → getD b (25 + 64 * j + i) 0 ≡ 0
-  pub absent : getD b 0 0 ≡ 0 → (i : ℕ) → i < 25 → getD b i 0 ≡ 0
+  pub absent : getD b 0 0 ≡ 0 → (i : ℕ) → i < block-size → getD b i 0 ≡ 0
+  pub remainder : getD b remainder-place 0 ≤ max-remainder
 
 tops : (n : ℕ) → every (λ (j : ℕ). eqb (getD (block-most n) (getD counter j 0) 0) 64) 10 ≡ true
 unfolding every counter block-most-to
@@ -88,10 +90,11 @@ absent n b e =
       low = λ j i h g. absurd (omega (arith, none j h));
       high = λ j i h g. absurd (omega (arith, none j h));
       rest = λ j i h g u. at (25 + 64 * j + i) (omega arith);
-      absent = λ z i h. at i (omega arith);
+      absent = λ z. at;
+      remainder = omega (arith, at remainder-place (omega arith));
     }
 
-module _ (n : ℕ) (b : List ℕ) (e : within (block-most n) b 25 ≡ true) (a : every (array-in-range n b) 10 ≡ true) where
+module _ (n : ℕ) (b : List ℕ) (e : within (block-most n) b 25 ≡ true) (u : getD b remainder-place 0 ≤ max-remainder) (a : every (array-in-range n b) 10 ≡ true) where
   array : (j : ℕ) → j < 10
       → (used (part b (25 + 64 * j) 64) (getD b (getD counter j 0) 0) (getD array-least j 0) (getD (array-most n) j 0) ≡ true)
       × (unused (part b (25 + 64 * j) 64) (getD b (getD counter j 0) 0) ≡ true)
@@ -128,13 +131,17 @@ module _ (n : ℕ) (b : List ℕ) (e : within (block-most n) b 25 ≡ true) (a :
             in let q : k + (i - k) ≡ i = omega arith
             in sym (part-get b (25 + 64 * j) 64 i u) ∙ ap (λ (y : ℕ). getD (part b (25 + 64 * j) 64) y 0) (sym q) ∙ eqb-true _ 0 t;
         absent = λ z. absurd (not-absent z);
+        remainder = u;
       }
 
 pub in-range : (n : ℕ) (b : List ℕ) → block-in-range n b ≡ true → BlockInRange n b
 unfolding block-in-range-to
 in-range n b e =
     by-test (eqb (getD b 0 0) 0) (λ t. absent n b (rw t at e))
-    (λ t. let p = and-both (within (block-most n) b 25) _ (rw t at e) in present n b (p .0) (p .1) (eqb-false (getD b 0 0) 0 t))
+    (λ t.
+    let p = and-both (within (block-most n) b 25) _ (rw t at e)
+    in let q = and-both (leb (getD b remainder-place 0) max-remainder) _ (p .1)
+    in present n b (p .0) (leb-true _ _ (q .0)) (q .1) (eqb-false (getD b 0 0) 0 t))
 
 pub whole-block : (n : ℕ) (b : List ℕ) → length b ≡ block-size → BlockInRange n b → Whole b
 unfolding block-most-to
@@ -183,4 +190,5 @@ cpu-fits n b p k r =
       ipi-name = λ i. found (λ (x : ℕ). x < n) (getD b 24 0) i (λ (i : ℕ). getD b (ipi-context-wakeup-list-column + i) 0) 0 (λ g. omega (arith, k .high 9 i (omega arith) g));
       keys-rise = sorted-tabulate entry-before (λ x y z. before-trans (x .key) (y .key) (z .key)) (getD b 21 0) (entry-at b) (r .keys);
       timers-rise = sorted-tabulate sooner sooner-trans (getD b 22 0) (timer-at b) (r .timers);
+      remainder = k .remainder;
     }

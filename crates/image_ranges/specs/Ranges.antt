@@ -9,9 +9,10 @@ use Rattle.columns.specs.Blocks.{part}
 use Rattle.percpu.specs.Layout.{counter}
 use Rattle.machine.specs.Encode.{context-place, cpu-place}
 use Rattle.numbers.specs.Limits.{max-number, max-id, max-word}
+use Rattle.ticks.specs.Ticks.{max-remainder}
 use Rattle.weights.specs.Weights.{full-slice, min-weight, max-weight}
 use Rattle.context.specs.Words.{record-size}
-use Rattle.percpu.specs.Places.{front-size, block-size}
+use Rattle.percpu.specs.Places.{front-size, remainder-place, block-size}
 
 -- the first k words are at most those of the table
 unfoldable pub within : List ℕ → List ℕ → ℕ → Bool
@@ -87,7 +88,8 @@ array-in-range n b = array-in-range-to max-number n b
 
 unfoldable pub block-in-range-to : (top n : ℕ) → List ℕ → Bool
 block-in-range-to top n b =
-    if eqb (getD b 0 0) 0 then zero-words b block-size else within (block-most-to top n) b front-size && every (array-in-range-to top n b) 10
+    if eqb (getD b 0 0) 0 then zero-words b block-size
+    else within (block-most-to top n) b front-size && (leb (getD b remainder-place 0) max-remainder && every (array-in-range-to top n b) 10)
 
 abbrev pub block-in-range : ℕ → List ℕ → Bool
 block-in-range n b = block-in-range-to max-number n b

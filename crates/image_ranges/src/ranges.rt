@@ -189,6 +189,9 @@ pub fn block_in_range(b: &[u64], n: u64) -> bool
     if !within(&front, b, places::FRONT_SIZE) {
         return false;
     }
+    if ticks::MAX_REMAINDER < b[places::REMAINDER] {
+        return false;
+    }
     arrays_in_range(b, n)
 }
 

@@ -16,7 +16,7 @@ unfoldable pub no-context : Context
 no-context = context-of []
 
 unfoldable pub no-cpu : Cpu
-no-cpu = record { block = block-of []; queue = []; timers = []; «local_wakeup_list» = []; «ipi_context_wakeup_list» = [] }
+no-cpu = record { block = block-of []; queue = []; timers = []; «local_wakeup_list» = []; «ipi_context_wakeup_list» = []; remainder = 0 }
 
 -- the context of a number, and the CPU of a number
 abbrev pub context-at : List Context → ℕ → Context

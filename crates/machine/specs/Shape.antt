@@ -12,9 +12,10 @@ use Rattle.percpu.specs.Cpu.{Cpu}
 use Rattle.percpu.specs.Layout.{no-entry, no-timer}
 use Rattle.machine.specs.Machine.{Machine, context-at, cpu-at}
 use Rattle.machine.specs.Encode.{encode}
+use Rattle.ticks.specs.Ticks.{max-remainder}
 use Rattle.weights.specs.Weights.{full-slice, min-weight, max-weight}
 
--- The ranges that no accepted call leaves: names, weights, priorities and slices; and the order of keys and timers. What grows (times, vtime, vd, V) is not here.
+-- The ranges that no accepted call leaves: names, weights, priorities, slices and remainders; and the order of keys and timers. What grows (times, vtime, vd, V) is not here.
 
 -- of a context, where there are c CPUs
 pub record ContextFits (c : ℕ) (x : Context) : Type 0 where
@@ -43,6 +44,7 @@ pub record CpuFits (n : ℕ) (p : Cpu) : Type 0 where
   pub ipi-name : (i : ℕ) → i < length (p .«ipi_context_wakeup_list») → getD (p .«ipi_context_wakeup_list») i 0 < n
   pub keys-rise : Sorted entry-before (p .queue)
   pub timers-rise : Sorted sooner (p .timers)
+  pub remainder : p .remainder ≤ max-remainder
 
 -- M has c CPUs and n contexts, within their bounds, and all of it fits
 pub record Fits (c n : ℕ) (M : Machine) : Type 0 where

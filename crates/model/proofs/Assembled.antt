@@ -107,7 +107,7 @@ module _ (turn : Turn) where
   awake t z = eqb-false _ _ (not-is-true _ ((and-both (not (is-idle J)) _ t) .0)) (is-sched ∙ z ∙ sym is-idle-word)
 
   abbrev pub n : ℕ
-  n = ticks (time - (cpu-at M k) .block .«schedule_time»)
+  n = ticks (time - (cpu-at M k) .block .«schedule_time») ((cpu-at M k) .remainder)
 
   abbrev pub s : State
   s = settled runs n l

@@ -8,7 +8,7 @@ use Rattle.columns.specs.Common.{if_then_else_}
 use Rattle.context.specs.declared.Context.{Context}
 use Rattle.context.specs.Status.{is-runnable}
 use Rattle.context.specs.With.{with-vtime, with-vd, with-rem-slice}
-use Rattle.ticks.specs.Ticks.{ticks}
+use Rattle.ticks.specs.declared.Spent.{Spent}
 use Rattle.weights.specs.Weights.{weight}
 use Rattle.charging.specs.Charge.{charged, renewed, is-yield, stopped}
 use Rattle.machine.specs.Machine.{Machine, context-at}
@@ -32,24 +32,24 @@ charged-by f k true x y c p q = k x ∙ p
 charged-by f k false x y c p q = k y ∙ q
 
 charged-view : {B : Type 0} (f : Context → B) → ((m v : ℕ) (c : Context) → f (with-rem-slice m (with-vd v c)) ≡ f c)
-    → ((m v : ℕ) (c : Context) → f (with-rem-slice m (with-vtime v c)) ≡ f c) → (v n : ℕ) (c : Context) → f (charged v n c) ≡ f c
+    → ((m v : ℕ) (c : Context) → f (with-rem-slice m (with-vtime v c)) ≡ f c) → (v : ℕ) (n : Spent) (c : Context) → f (charged v n c) ≡ f c
 unfolding charged
 charged-view f k l v n c =
-    let left = c .«rem_slice» - ticks n in
-    let vtime = max (c .vtime + ticks n / weight (c .prio)) v in
-    charged-by f (renewed-view f k) (is-yield n) (with-rem-slice 0 (with-vtime (vtime + left / weight (c .prio)) c)) (with-rem-slice left (with-vtime vtime c)) c
+    let left = c .«rem_slice» - n .ticks in
+    let vtime = max (c .vtime + n .ticks / weight (c .prio)) v in
+    charged-by f (renewed-view f k) (is-yield (n .elapsed)) (with-rem-slice 0 (with-vtime (vtime + left / weight (c .prio)) c)) (with-rem-slice left (with-vtime vtime c)) c
     (l 0 (vtime + left / weight (c .prio)) c) (l left vtime c)
 
-pub charged-fixed : (v n : ℕ) (c : Context) → fixed (charged v n c) ≡ fixed c
+pub charged-fixed : (v : ℕ) (n : Spent) (c : Context) → fixed (charged v n c) ≡ fixed c
 charged-fixed = charged-view fixed (λ m v c. refl) (λ m v c. refl)
 
-pub charged-key : (v n : ℕ) (c : Context) → (charged v n c) .«has_queue_key» ≡ c .«has_queue_key»
+pub charged-key : (v : ℕ) (n : Spent) (c : Context) → (charged v n c) .«has_queue_key» ≡ c .«has_queue_key»
 charged-key = charged-view (λ (c : Context). c .«has_queue_key») (λ m v c. refl) (λ m v c. refl)
 
-pub charged-status : (v n : ℕ) (c : Context) → (charged v n c) .status ≡ c .status
+pub charged-status : (v : ℕ) (n : Spent) (c : Context) → (charged v n c) .status ≡ c .status
 charged-status = charged-view (λ (c : Context). c .status) (λ m v c. refl) (λ m v c. refl)
 
-pub charged-active : (v n : ℕ) (c : Context) → (charged v n c) .«is_active» ≡ c .«is_active»
+pub charged-active : (v : ℕ) (n : Spent) (c : Context) → (charged v n c) .«is_active» ≡ c .«is_active»
 charged-active = charged-view (λ (c : Context). c .«is_active») (λ m v c. refl) (λ m v c. refl)
 
 module _ (k time : ℕ) (M : Machine) (S : Sound M) (T : Tidy M) (P : Present M k) where
@@ -84,7 +84,7 @@ module _ (k time : ℕ) (M : Machine) (S : Sound M) (T : Tidy M) (P : Present M 
       let r = holder-waking s (stopped (holder s)) refl refl n in
       record { kept = r .kept; roles-kept = r .roles-kept; v = r .v; has = r .has }
 
-  pub charge-waking : (e : ℕ) (s : State) → Waking k time M S T s → Waking k time M S T (charge-holder e s)
+  pub charge-waking : (e : Spent) (s : State) → Waking k time M S T s → Waking k time M S T (charge-holder e s)
   unfolding charge-holder holder-stopped
   charge-waking e s n =
       pick (Waking k time M S T) (is-idle s) (λ t. n)

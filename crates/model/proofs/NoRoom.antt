@@ -9,6 +9,7 @@ use lib.ListN.{getD, length}
 use Rattle.answer.specs.declared.Rule.{Rule}
 use Rattle.columns.specs.Common.{if_then_else_}
 use Rattle.context.specs.Status.{is-runnable}
+use Rattle.ticks.specs.declared.Spent.{Spent}
 use Rattle.weights.specs.Weights.{weight}
 use Rattle.entries.specs.declared.Entry.{Entry}
 use Rattle.percpu.specs.Cpu.{Cpu}
@@ -43,7 +44,7 @@ pub serve-wakeups-full : (time : ℕ) (s : State) → Full s → Full (serve-wak
 unfolding serve-wakeups
 serve-wakeups-full time s h = fold-keeps Full serve-wakeup serve-full (drained time s) (wakeups time s) h
 
-pub charge-full : (n : ℕ) (s : State) → Full s → Full (charge-holder n s)
+pub charge-full : (n : Spent) (s : State) → Full s → Full (charge-holder n s)
 unfolding charge-holder holder-stopped
 charge-full n s h =
     pick Full (is-idle s) (λ t. h)

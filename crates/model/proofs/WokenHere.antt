@@ -11,6 +11,7 @@ use Rattle.columns.specs.Common.{keep}
 use Rattle.context.specs.Status.{is-runnable, is-soft-blocked}
 use Rattle.entries.specs.declared.Entry.{Entry}
 use Rattle.entries.specs.declared.Timer.{Timer}
+use Rattle.ticks.specs.declared.Spent.{Spent}
 use Rattle.machine.specs.Machine.{Machine, cpu-at}
 use Rattle.model.specs.State.{State, at, on-cpu, state-of, holder, is-idle}
 use Rattle.model.specs.Wakeup.{Wakeup, can-read, waits-for, is-live-timer, timer-wakeup, local-wakeup, wakeups, drained, woken-by, serve-wakeups}
@@ -27,7 +28,7 @@ use Rattle.model.proofs.Woken.{wakeups-named, start-waking}
 use Rattle.model.proofs.WokenAll.{Able, all-served}
 use Rattle.entries.specs.Order.{is-due}
 
-keeps-queue : (n : ℕ) (s : State) → (charge-holder n s) .cpu .queue ≡ s .cpu .queue
+keeps-queue : (n : Spent) (s : State) → (charge-holder n s) .cpu .queue ≡ s .cpu .queue
 unfolding charge-holder holder-stopped
 keeps-queue n s =
     pick (λ (z : State). z .cpu .queue ≡ s .cpu .queue) (is-idle s) (λ t. refl)

@@ -157,7 +157,7 @@ module _ (k time : ℕ) (M : Machine) where
     -- the turn's own advance: idle is left in charge exactly where nobody won and no runnable holder stays
     abbrev pub own-advance : ℕ
     own-advance =
-        if eqb in-charge (here .block .«idle_ctxt») || eqb total-weight-here 0 then 0 else ticks (time - here .block .«schedule_time») / total-weight-here
+        if eqb in-charge (here .block .«idle_ctxt») || eqb total-weight-here 0 then 0 else ticks (time - here .block .«schedule_time») (here .remainder) / total-weight-here
 
     -- who is in charge where e is the entry of the least key
     pub record Contest (e : Entry) : Type 0 where

@@ -8,14 +8,15 @@ use lib.ListN.{set}
 use Rattle.columns.specs.Common.{if_then_else_}
 use Rattle.cpu_stats.specs.declared.CpuState.the-variants.{Idle}
 use Rattle.cpu_stats.specs.With.{stats-state}
-use Rattle.ticks.specs.Ticks.{ticks, tick-interval}
+use Rattle.ticks.specs.declared.Spent.{Spent}
+use Rattle.ticks.specs.Ticks.{tick-interval}
 use Rattle.runnable.specs.Runnable.{update-runnable}
 use Rattle.percpu.specs.Cpu.{Cpu}
 use Rattle.percpu.specs.With.{cpu-pit-ticks, cpu-stats}
 use Rattle.machine.specs.Machine.{Machine}
 pub use Rattle.machine.specs.Outcome.{Outcome}
 use Rattle.model.specs.State.{State, at, on-cpu, state-of, is-some, prev-runnable}
-use Rattle.model.specs.Turn.{elapsed, was-idle, charge-holder, before-selection}
+use Rattle.model.specs.Turn.{spent, was-idle, charge-holder, before-selection}
 use Rattle.model.specs.Scan.{Scan, scan}
 use Rattle.model.specs.Choice.{Choice, choice, chosen, ineligible-holder}
 use Rattle.model.specs.Rule.{rule-of}
@@ -78,10 +79,10 @@ module _ (k time : ℕ) where
       steal k (prev-runnable s) (locks s w) cpus (w .winner) (chosen w f s)
 
   -- after the holder is charged
-  unfoldable pub selected : ℕ → List Cpu → State → Selected
-  selected elapsed cpus s =
+  unfoldable pub selected : Spent → List Cpu → State → Selected
+  selected spent cpus s =
       let l = choose-and-steal cpus s in
-      let s′ = settled (prev-runnable s) (ticks elapsed) l in
+      let s′ = settled (prev-runnable s) (spent .ticks) l in
       record {
         state = s′;
         cpus = l .cpus;
@@ -89,12 +90,12 @@ module _ (k time : ℕ) where
         rule = rule-of s (is-some (l .winner)) (scanned s);
       }
 
-  unfoldable pub select-next-context : ℕ → List Cpu → State → Selected
-  select-next-context elapsed cpus s = selected elapsed cpus (charge-holder elapsed s)
+  unfoldable pub select-next-context : Spent → List Cpu → State → Selected
+  select-next-context spent cpus s = selected spent cpus (charge-holder spent s)
 
   unfoldable pub schedule : List Cpu → State → Scheduled
   schedule cpus s =
-      let d = select-next-context (elapsed time (s .cpu)) cpus (before-selection time s) in
+      let d = select-next-context (spent time (s .cpu)) cpus (before-selection time s) in
       picked-as time (was-idle (s .cpu)) (d .rule) (d .cpus) (d .next) (d .state)
 
   -- the holder kept the slice: the CPU is marked Idle though the holder may run

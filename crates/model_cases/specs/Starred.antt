@@ -7,6 +7,7 @@ use lib.ListN.{length, replicate}
 use Rattle.columns.specs.Common.{mark}
 use Rattle.context.specs.declared.Context.{Context}
 use Rattle.context.specs.Words.{context-of}
+use Rattle.ticks.specs.declared.Spent.{Spent}
 use Rattle.ticks.specs.Ticks.{ticks}
 use Rattle.weights.specs.Weights.{whole-slice}
 use Rattle.entries.specs.declared.Entry.{Entry}
@@ -50,6 +51,7 @@ start =
       timers = [];
       «local_wakeup_list» = [];
       «ipi_context_wakeup_list» = [];
+      remainder = 0;
     }
 
 unfoldable pub worked : Machine
@@ -65,7 +67,7 @@ pub worked-example : line (switch 0 2250000 worked) ≡ 0 ∷ 1 ∷ 1 ∷ 1 ∷ 
 unfolding opened idler worker start worked
 worked-example = refl
 
-pub worked-image : (length (encode worked) ≡ 719) × (decode (encode worked) ≡ worked)
+pub worked-image : (length (encode worked) ≡ 720) × (decode (encode worked) ≡ worked)
 unfolding opened idler worker start worked
 worked-image = (refl, refl)
 
@@ -84,16 +86,20 @@ robber x = record { contexts = idler ∷ worker ∷ []; cpu = cpu-queue [] (cpu-
 abbrev victim : ℕ → Cpu
 victim n = cpu-queue (replicate n queued) (cpu-queue-len n start)
 
+-- a turn of so many ns, with nothing carried
+abbrev turn : ℕ → Spent
+turn n = record { elapsed = n; ticks = ticks n 0 }
+
 unfoldable pub starred-cases : List Case
 starred-cases =
     -- ticks
-    case (ticks 1) 477 ∷ case (ticks 2250000) 1073741824 ∷ case (ticks 0) 0 ∷
+    case (ticks 1 0) 477 ∷ case (ticks 2250000 0) 1073741824 ∷ case (ticks 0 0) 0 ∷
     -- whole slices
     case (whole-slice 0) 108873 ∷ case (whole-slice 20) 9437184 ∷ case (whole-slice 39) 644245094 ∷
     -- the charge, and the yield
-    case ((charged 0 3375000 worker) .vtime) 1572864 ∷ case ((charged 0 3375000 worker) .«rem_slice») 8053063680 ∷
-    case ((charged 0 3374999 worker) .vtime) 9437183 ∷ case ((charged 0 3374999 worker) .vd) 18874367 ∷
-    case ((charged 0 3374999 worker) .«rem_slice») 9663676416 ∷
+    case ((charged 0 (turn 3375000) worker) .vtime) 1572864 ∷ case ((charged 0 (turn 3375000) worker) .«rem_slice») 8053063680 ∷
+    case ((charged 0 (turn 3374999) worker) .vtime) 9437183 ∷ case ((charged 0 (turn 3374999) worker) .vd) 18874367 ∷
+    case ((charged 0 (turn 3374999) worker) .«rem_slice») 9663676416 ∷
     -- due at 1000
     case (mark (is-due 1000 (record { wake = 1000; «context_ref» = 0 }))) 1 ∷
     case (mark (is-due 1000 (record { wake = 1001; «context_ref» = 0 }))) 1 ∷

@@ -5,6 +5,7 @@ use mathlib.Core.List.{List, [], _∷_, _++_, map}
 use Prim.Native.Nat.{ℕ, _+_, _-_, _*_, _<_, _≤_}
 use native.Mathlib.Omega.{arith}
 use lib.ListN.{length, getD, length-map}
+use borrow.Author.Tests.{le-leb}
 use Rattle.columns.specs.Common.{every, All}
 use Rattle.columns.specs.Columns.{pad}
 use Rattle.columns.specs.Blocks.{flat, part, cat, col-part}
@@ -16,13 +17,15 @@ use Rattle.entries.specs.declared.Timer.{Timer}
 use Rattle.percpu.specs.declared.PercpuBlock.{PercpuBlock}
 use Rattle.percpu.specs.Cpu.{Cpu}
 use Rattle.percpu.specs.Words.{block-words, block-of}
-use Rattle.percpu.specs.Layout.{counts, columns, cpu-words, counter, front-length}
+use Rattle.percpu.specs.Layout.{counts, columns, last-words, cpu-words, counter, front-length}
+use Rattle.percpu.proofs.Read.{remainder-is}
 use Rattle.machine.specs.Machine.{context-at, no-cpu}
 use Rattle.image_ranges.specs.Ranges.{within, zero-words, block-most-to, array-least, array-most-to, array-in-range-to, block-in-range-to}
 use Rattle.model.proofs.Lists.{all-at, all-in, all-map}
 use Rattle.model_leaves.proofs.WellFormed.{EntryFormed, TimerFormed, NamesFormed, view, CpuFormed, Room, Stands, absent, present}
 use Rattle.model_leaves.proofs.Words.{present-word, mark-most, state-most, within-front, used-all, unused-rest}
 use Rattle.numbers.specs.Limits.{max-id, max-number}
+use Rattle.ticks.specs.Ticks.{max-remainder}
 use Rattle.weights.specs.Weights.{full-slice, max-weight}
 
 -- what a call can raise of a CPU: of its block and its queue
@@ -55,7 +58,7 @@ module _ (top n : ℕ) (cs : List Context) (p : Cpu) (o : CpuFormed n cs (view p
       let s = o .scalars in
       let b = p .block in
       let name : (x : ℕ) → x < n → x ≤ n - 1 = λ x h. omega arith in
-      within-front (block-words b ++ counts p) (flat (columns p)) (block-most-to top n) (
+      within-front (block-words b ++ counts p) (flat (columns p) ++ last-words p) (block-most-to top n) (
         mark-most (b .present),
         (
           name _ (s .current .below),
@@ -107,7 +110,7 @@ module _ (top n : ℕ) (cs : List Context) (p : Cpu) (o : CpuFormed n cs (view p
 
   column : (j : ℕ) → j < 10 → part (cpu-words p) (25 + 64 * j) 64 ≡ pad 64 (getD (columns p) j [])
   unfolding cpu-words columns
-  column j b = col-part (block-words (p .block) ++ counts p) (columns p) 25 j (front-length p) b
+  column j b = col-part (block-words (p .block) ++ counts p) (last-words p) (columns p) 25 j (front-length p) b
 
   -- array j holds the list l
   array-of : (j low high : ℕ) (l : List ℕ) → j < 10 → getD (columns p) j [] ≡ l → getD (cpu-words p) (getD counter j 0) 0 ≡ length l → getD array-least j 0 ≡ low
@@ -167,7 +170,7 @@ module _ (top n : ℕ) (cs : List Context) (p : Cpu) (o : CpuFormed n cs (view p
 
   present-in-range : block-in-range-to top n (cpu-words p) ≡ true
   unfolding block-in-range-to
-  present-in-range = rw (present-word p (o .scalars .present), scalars-within, arrays-in-range)
+  present-in-range = rw (present-word p (o .scalars .present), scalars-within, remainder-is p, le-leb (p .remainder) max-remainder (o .scalars .remainder), arrays-in-range)
 
 pub stands-in-range : (top n : ℕ) (cs : List Context) (p : Cpu) → Stands n cs p → CpuRaised top (p .block) (p .queue) → ((x : ℕ) → x < n → (context-at cs x) .«debug_id» ≤ max-id) → 1 ≤ n
     → block-in-range-to top n (cpu-words p) ≡ true

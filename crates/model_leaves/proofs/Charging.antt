@@ -4,22 +4,24 @@ use mathlib.Core.List.{List}
 use Prim.Native.Nat.{ℕ, _≤_}
 use native.Mathlib.Omega.{arith}
 use Rattle.context.specs.declared.Context.{Context}
+use Rattle.ticks.specs.declared.Spent.{Spent}
+use Rattle.ticks.proofs.Laws.{remainder-low}
 use Rattle.context.specs.Status.{is-runnable}
 use Rattle.charging.specs.Charge.{charged, stopped}
 use Rattle.charging.proofs.Bounds.{charged-frame, charged-slice}
 use Rattle.machine.specs.Machine.{context-at}
 use Rattle.model.specs.State.{State, on-cpu, holder, is-idle}
-use Rattle.model.specs.Turn.{count-switch, times, inactive, holder-stopped, charge-holder, before-selection}
+use Rattle.model.specs.Turn.{count-switch, elapsed, times, inactive, holder-stopped, charge-holder, before-selection}
 use Rattle.model.proofs.Cases.{pick}
 use Rattle.model_leaves.proofs.WellFormed.{fixed, changing, FixedFormed, ChangingFormed, LiveName}
 use Rattle.model_leaves.proofs.Kept.{KeptState, put-kept, live-formed, newest-kept, scalars-kept}
 use Rattle.model_leaves.proofs.Waking.{wakeups-kept}
 use Rattle.numbers.specs.Limits.{max-number}
 
-charged-fixed : (v e : ℕ) (q : Context) → fixed (charged v e q) ≡ fixed q
+charged-fixed : (v : ℕ) (e : Spent) (q : Context) → fixed (charged v e q) ≡ fixed q
 charged-fixed v e q = ap fixed (charged-frame v e q)
 
-charged-formed : {c : ℕ} (v e : ℕ) (q : Context) → ChangingFormed c (changing q) → ChangingFormed c (changing (charged v e q))
+charged-formed : {c : ℕ} (v : ℕ) (e : Spent) (q : Context) → ChangingFormed c (changing q) → ChangingFormed c (changing (charged v e q))
 charged-formed v e q o =
     rw (charged-frame v e q)
     (record {
@@ -55,7 +57,7 @@ module _ (c n : ℕ) (cs₀ : List Context) where
   times-kept time s h o =
       let k = o .cpu .scalars in
       scalars-kept c n cs₀ s o (times time) refl
-      (record { present = k .present; current = k .current; sched = k .sched; idle = k .idle; schedule-time = h; steal-counter = k .steal-counter })
+      (record { present = k .present; current = k .current; sched = k .sched; idle = k .idle; schedule-time = h; steal-counter = k .steal-counter; remainder = remainder-low (elapsed time (s .cpu)) (s .cpu .remainder) })
 
   module _ (s : State) (o : Good s) where
     abbrev x : ℕ
@@ -72,7 +74,7 @@ module _ (c n : ℕ) (cs₀ : List Context) where
         (record { name = o .cpu .scalars .sched .below; wake = live-formed c n cs₀ s o x (o .cpu .scalars .sched) .wake }))
         (λ e. inactive-kept)
 
-    pub charge-kept : (e : ℕ) → Good (charge-holder e s)
+    pub charge-kept : (e : Spent) → Good (charge-holder e s)
     unfolding charge-holder
     charge-kept e =
         let v : ℕ = s .cpu .block .v in

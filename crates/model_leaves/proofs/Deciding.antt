@@ -16,8 +16,9 @@ use Rattle.percpu.specs.Cpu.{Cpu}
 use Rattle.machine.specs.Machine.{Machine, context-at, cpu-at, no-cpu}
 use Rattle.machine.specs.Outcome.{Outcome}
 use Rattle.machine.proofs.Steps.{getD-set}
+use Rattle.ticks.specs.declared.Spent.{Spent}
 use Rattle.model.specs.State.{State, state-of, prev-runnable}
-use Rattle.model.specs.Turn.{elapsed, was-idle, charge-holder, before-selection}
+use Rattle.model.specs.Turn.{spent, was-idle, charge-holder, before-selection}
 use Rattle.model.specs.Choice.{Choice, choice, chosen}
 use Rattle.model.specs.SwitchTo.{try-direct-switch-back}
 use Rattle.model.specs.Schedule.{finish, finish-by, scanned, locks, choose-and-steal, selected, select-next-context, picked-as, schedule, switch-as, after-schedule, switch-inner-by, switch-inner, ticked, tick, switch, direct-switch-or, direct-switch-to}
@@ -123,7 +124,7 @@ module _ (c n : ℕ) (M : Machine) (W : WellFormed c n M) where
         steal-kept c n (M .contexts) live-fixed k (prev-runnable s) (locks s w) (M .cpus) (w .winner) (chosen w f s) (W .cpus) each-stands
         (chosen-wins c n (M .contexts) k time s o) (chosen-kept c n (M .contexts) k time s o)
 
-    selection : (was : Bool) (t : ℕ) (s : State) → Good s
+    selection : (was : Bool) (t : Spent) (s : State) → Good s
         → Leaves (after-schedule k time (picked-as time was ((selected k time t (M .cpus) s) .rule) ((selected k time t (M .cpus) s) .cpus) ((selected k time t (M .cpus) s) .next) ((selected k time t (M .cpus) s) .state)))
     unfolding selected
     selection was t s o =
@@ -135,8 +136,8 @@ module _ (c n : ℕ) (M : Machine) (W : WellFormed c n M) where
     scheduled : (s : State) → Good s → Leaves (after-schedule k time (schedule k time (M .cpus) s))
     unfolding schedule select-next-context
     scheduled s o =
-        selection (was-idle (s .cpu)) (elapsed time (s .cpu)) (charge-holder (elapsed time (s .cpu)) (before-selection time s))
-        (charge-kept c n (M .contexts) (before-selection time s) (before-selection-kept c n (M .contexts) time s live-fixed soon o) (elapsed time (s .cpu)))
+        selection (was-idle (s .cpu)) (spent time (s .cpu)) (charge-holder (spent time (s .cpu)) (before-selection time s))
+        (charge-kept c n (M .contexts) (before-selection time s) (before-selection-kept c n (M .contexts) time s live-fixed soon o) (spent time (s .cpu)))
 
     abbrev Maybe : Option State → Type 0
     Maybe = MaybeGood c n (M .contexts) time soon k here

@@ -85,6 +85,7 @@ module _ {time : ℕ} (m : List ℕ) (p : Passed time m) where
             idle = live-at _ (o .idle) (subst (λ (y : Cpu). is-live m (y .block .«idle_ctxt») ≡ true) (sym is) (names .2));
             schedule-time = decoded-below m p .cpu k h .schedule-time;
             steal-counter = words .steal-counter;
+            remainder = o .remainder;
           }
 
       entry-formed : (e : Entry) → In e (q .queue) → EntryFormed n (M .contexts) e

@@ -111,7 +111,7 @@ module _ (c n : ℕ) (cs₀ : List Context) where
         let h : Good (put-context x d u) = put-kept c n cs₀ u g x d a refl (taken-formed (at u x) soon) in
         let k = o .cpu .scalars in
         scalars-kept c n cs₀ (put-context x d u) h (cpu-sched-ctxt x) refl
-        (record { present = k .present; current = k .current; sched = a; idle = k .idle; schedule-time = k .schedule-time; steal-counter = k .steal-counter })
+        (record { present = k .present; current = k .current; sched = a; idle = k .idle; schedule-time = k .schedule-time; steal-counter = k .steal-counter; remainder = k .remainder })
 
     module _ (k : ℕ) (here : k < c) where
       -- after the context that is left may have gone on the local list
@@ -127,7 +127,7 @@ module _ (c n : ℕ) (cs₀ : List Context) where
           let h : Good (put-context x q u) = put-kept c n cs₀ u g x q a refl (comes-formed k time (at u x) here soon) in
           let i = o .cpu .scalars in
           scalars-kept c n cs₀ (put-context x q u) h (becomes-current k time x q) refl
-          (record { present = i .present; current = a; sched = i .sched; idle = i .idle; schedule-time = i .schedule-time; steal-counter = i .steal-counter })
+          (record { present = i .present; current = a; sched = i .sched; idle = i .idle; schedule-time = i .schedule-time; steal-counter = i .steal-counter; remainder = i .remainder })
 
       pub switch-to-kept : (x : ℕ) (s : State) → LiveName n cs₀ x → Good s → Good (switch-to k time x s)
       unfolding switch-to

@@ -17,6 +17,7 @@ use Rattle.cpu_stats.specs.Words.{stats-of}
 use Rattle.context.specs.Status.{status-of}
 use Rattle.context.specs.Words.{context-of, record-size}
 use Rattle.entries.specs.declared.Entry.{Entry}
+use Rattle.percpu.specs.Places.{remainder-place, block-size}
 use Rattle.percpu.specs.Cpu.{Cpu}
 use Rattle.percpu.specs.Words.{block-of}
 use Rattle.percpu.specs.Layout.{cpu-of, entry-at, counter, no-entry}
@@ -99,8 +100,8 @@ module _ (c : ℕ) (w : List ℕ) (e : context-in-range c w ≡ true) where
             };
       }
 
--- a block whose first 25 words are 0 is an absent CPU's
-pub absent-is : (b : List ℕ) → ((i : ℕ) → i < 25 → getD b i 0 ≡ 0) → cpu-of b ≡ no-cpu
+-- a block whose words are 0 is an absent CPU's
+pub absent-is : (b : List ℕ) → ((i : ℕ) → i < block-size → getD b i 0 ≡ 0) → cpu-of b ≡ no-cpu
 unfolding cpu-of block-of stats-of state-of tabulate no-cpu part
 absent-is b z =
     rw (
@@ -135,6 +136,7 @@ absent-is b z =
       z 22 (omega arith),
       z 23 (omega arith),
       z 24 (omega arith),
+      z remainder-place (omega arith),
     )
 
 -- what a present block's words say of the CPU found in them, besides what fitting says

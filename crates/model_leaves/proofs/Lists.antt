@@ -57,6 +57,7 @@ module _ {n : ℕ} (cs ds : List Context) (same : (x : ℕ) → x < n → fixed 
           idle = name-over (p .scalars .idle-ctxt) (o .scalars .idle);
           schedule-time = o .scalars .schedule-time;
           steal-counter = o .scalars .steal-counter;
+          remainder = o .scalars .remainder;
         };
         lists = record {
           queue = record {

@@ -24,7 +24,8 @@ use Rattle.model.proofs.Lists.{all-at}
 use Rattle.model_leaves.proofs.Words.{every-of}
 use Rattle.numbers.specs.Limits.{max-number}
 use Rattle.context.specs.Words.{record-size}
-use Rattle.percpu.specs.Places.{block-size}
+use Rattle.percpu.specs.Places.{remainder-place, block-size}
+use Rattle.ticks.specs.Ticks.{max-remainder}
 
 member-in : (x : ℕ) (l : List ℕ) → member x l ≡ true → In x l
 member-in x [] e = let z : _≡_ {A = ℕ} 0 1 = cc in absurd (omega arith)
@@ -105,7 +106,8 @@ module _ (top n : ℕ) (b : List ℕ) (a : All (λ (j : ℕ). (i : ℕ) → i < 
       (λ t.
       let p = and-both (within (block-most-to top n) b 25) _ (rw t at e) in
       let w = lower-within (block-most-to top n) (block-most-to max-number n) b block-raised 25 (blocks-differ top n) (p .0) r in
-      rw (t, w, every-of (array-in-range-to max-number n b) 10 (λ j h. lower-array j h (count-most n b j w h) (every-at (array-in-range-to top n b) 10 j (p .1) h))))
+      let q = and-both (leb (getD b remainder-place 0) max-remainder) _ (p .1) in
+      rw (t, w, q .0, every-of (array-in-range-to max-number n b) 10 (λ j h. lower-array j h (count-most n b j w h) (every-at (array-in-range-to top n b) 10 j (q .1) h))))
 
 -- words of a part
 inside : (m : List ℕ) (s k : ℕ) (l : List ℕ) → All (λ (i : ℕ). i < k) l → All (λ (i : ℕ). getD m (s + i) 0 ≤ max-number) l → All (λ (i : ℕ). getD (part m s k) i 0 ≤ max-number) l

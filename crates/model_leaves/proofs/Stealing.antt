@@ -178,7 +178,7 @@ module _ (c n : ℕ) (cs₀ : List Context) (live : (x : ℕ) → LiveName n cs�
       let k = o .cpu .scalars in
       let h : (s .cpu .block .«steal_counter» + 1) % word-range < word-range = mod-lt _ (omega arith) in
       scalars-kept c n cs₀ s o count-steal refl
-      (record { present = k .present; current = k .current; sched = k .sched; idle = k .idle; schedule-time = k .schedule-time; steal-counter = omega arith })
+      (record { present = k .present; current = k .current; sched = k .sched; idle = k .idle; schedule-time = k .schedule-time; steal-counter = omega arith; remainder = k .remainder })
 
   pub steal-kept : (k : ℕ) (runs : Bool) (locked : List ℕ) (cpus : List Cpu) (w : Option ℕ) (s : State) → length cpus ≡ c → ((j : ℕ) → Stands n cs₀ (getD cpus j no-cpu))
       → WinnerFormed c n cs₀ w → Good s → StealKept (steal k runs locked cpus w s)

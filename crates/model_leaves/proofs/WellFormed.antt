@@ -16,6 +16,7 @@ use Rattle.machine.specs.Machine.{Machine, context-at, cpu-at, no-cpu}
 use Rattle.model.proofs.Ordered.{Ordered}
 use Rattle.model_timers.specs.Timers.{Alone}
 use Rattle.numbers.specs.Limits.{max-id, max-number, max-word}
+use Rattle.ticks.specs.Ticks.{max-remainder}
 use Rattle.weights.specs.Weights.{full-slice, min-weight, max-weight}
 
 -- a view of a context: what no call changes
@@ -127,6 +128,7 @@ pub record Scalars : Type 0 where
   pub idle-ctxt : ℕ
   pub schedule-time : ℕ
   pub steal-counter : ℕ
+  pub remainder : ℕ
 
 -- its lists, and the length that it publishes
 pub record Lists : Type 0 where
@@ -150,6 +152,7 @@ view p =
         idle-ctxt = p .block .«idle_ctxt»;
         schedule-time = p .block .«schedule_time»;
         steal-counter = p .block .«steal_counter»;
+        remainder = p .remainder;
       };
       lists = record {
         queue-len = p .block .«queue_len»;
@@ -168,6 +171,7 @@ pub record ScalarsFormed (n : ℕ) (cs : List Context) (s : Scalars) : Type 0 wh
   pub idle : LiveName n cs (s .idle-ctxt)
   pub schedule-time : s .schedule-time ≤ max-number
   pub steal-counter : s .steal-counter ≤ max-word
+  pub remainder : s .remainder ≤ max-remainder
 
 pub record ListsFormed (n : ℕ) (cs : List Context) (l : Lists) : Type 0 where
   pub queue : QueueFormed n cs (l .queue)

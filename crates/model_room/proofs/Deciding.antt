@@ -10,6 +10,7 @@ use lib.ListN.{length, getD}
 use Rattle.answer.specs.declared.Rule.{Rule}
 use Rattle.columns.specs.Common.{if_then_else_}
 use Rattle.context.specs.Status.{is-runnable}
+use Rattle.ticks.specs.declared.Spent.{Spent}
 use Rattle.weights.specs.Weights.{weight}
 use Rattle.percpu.specs.Cpu.{Cpu}
 use Rattle.percpu.specs.With.{cpu-v}
@@ -19,7 +20,7 @@ use Rattle.model.specs.Scan.{Scan}
 use Rattle.model.specs.Choice.{Choice, choice, cleaned-up, taken-out, chosen}
 use Rattle.model.specs.Steal.{Stealing}
 use Rattle.model.specs.SwitchTo.{switch-to}
-use Rattle.model.specs.Turn.{elapsed, charge-holder, before-selection}
+use Rattle.model.specs.Turn.{spent, charge-holder, before-selection}
 use Rattle.model.specs.Schedule.{scanned, locks, choose-and-steal, selected, select-next-context, picked-as, schedule, switch-as, after-schedule}
 use Rattle.model.proofs.Cases.{pick, and-both, not-is-true}
 use Rattle.model_room.proofs.Lengths.{length-without}
@@ -70,7 +71,7 @@ module _ (k time : ℕ) where
 
   module _ (cpus : List Cpu) (each : (i : ℕ) → length ((getD cpus i no-cpu) .queue) ≤ 64) where
     -- s: the state before the choice
-    selected-within : {t l : ℕ} (n : ℕ) (s : State) → Within 63 t l s → Within 64 t l ((selected k time n cpus s) .state)
+    selected-within : {t l : ℕ} (n : Spent) (s : State) → Within 63 t l s → Within 64 t l ((selected k time n cpus s) .state)
     unfolding selected choose-and-steal
     selected-within {t} {l} n s h =
         let f : Scan = scanned k time s in
@@ -101,7 +102,7 @@ module _ (k time : ℕ) where
       → (after-schedule k time (schedule k time cpus s)) .no-room ≡ false
   unfolding schedule select-next-context
   schedule-room cpus s each h r =
-      let n : ℕ = elapsed time (s .cpu) in
+      let n : Spent = spent time (s .cpu) in
       let a = charge-within n (before-selection time s) (before-selection-within time s h r) r in
       let b : Within 63 64 63 (charge-holder n (before-selection time s)) = weaker (omega arith) (omega arith) (omega arith) a in
       picked-room _ _ _ _ _ (omega arith) (selected-within cpus each n (charge-holder n (before-selection time s)) b)

@@ -12,6 +12,7 @@ use Rattle.columns.proofs.Tests.{and-both}
 use Rattle.columns.proofs.Keep.{length-keep}
 use Rattle.context.specs.declared.Context.{Context}
 use Rattle.context.specs.Status.{is-runnable}
+use Rattle.ticks.specs.declared.Spent.{Spent}
 use Rattle.weights.specs.Weights.{weight}
 use Rattle.entries.specs.declared.Entry.{Entry}
 use Rattle.entries.specs.declared.Timer.{Timer}
@@ -88,7 +89,7 @@ serve-wakeups-within {q} {t} {l} time s h r =
     (served-within {q = q} {t = length (keep (stays time s) (s .cpu .timers))} {l = 0} (drained time s) (wakeups time s)
     (record { room = h .room; queue = h .queue; timers = omega arith; local = omega arith }) (omega (arith, h .timers, h .local)) (omega (arith, h .timers, h .local)) (omega (arith, h .timers, h .local)))
 
-pub charge-within : {q t l : ℕ} (n : ℕ) (s : State) → Within q t l s → t < 64 → Within q (t + 1) l (charge-holder n s)
+pub charge-within : {q t l : ℕ} (n : Spent) (s : State) → Within q t l s → t < 64 → Within q (t + 1) l (charge-holder n s)
 unfolding charge-holder holder-stopped
 charge-within {q} {t} {l} n s h a =
     let same : Within q (t + 1) l s = weaker (omega arith) (omega arith) (omega arith) h in

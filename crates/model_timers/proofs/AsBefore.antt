@@ -1,4 +1,5 @@
--- Where no due timer's context is unreadable and the source leaves one timer to a context, a call is the source's in every word.
+-- Where no due timer's context is unreadable and the source leaves one timer to a context, a call is the source's in every word, with the
+-- remainder carried.
 -- Assumes nothing.
 use mathlib.Core.Path.{_≡_, refl, ap, _∙_, subst}
 use mathlib.Core.Bool.{Bool, true, false, not, _||_}
@@ -10,6 +11,7 @@ use lib.Dec.{ltb, eqb}
 use lib.ListN.{length}
 use borrow.Author.Tests.{eqb-true, eqb-false}
 use Rattle.columns.specs.Common.{if_then_else_, fold, keep, In}
+use Rattle.ticks.specs.declared.Spent.{Spent}
 use Rattle.ticks.specs.Ticks.{tick-interval}
 use Rattle.entries.specs.declared.Timer.{Timer}
 use Rattle.context.specs.Status.{is-runnable}
@@ -20,17 +22,18 @@ use Rattle.percpu.specs.With.{cpu-timers, cpu-local-wakeup-list}
 use Rattle.machine.specs.Machine.{Machine, cpu-at}
 use Rattle.model.specs.State.{State, at, on-cpu, state-of, holder, is-idle}
 use Rattle.model.specs.Wakeup.{wakeups, is-unreadable, stays, serve-wakeup, serve-wakeups}
-use Rattle.model.specs.Turn.{count-switch, times, elapsed, was-idle, holder-stopped, charge-holder, before-selection}
+use Rattle.model.specs.Turn.{count-switch, times, spent, was-idle, holder-stopped, charge-holder, before-selection}
 use Rattle.model.specs.SwitchTo.{try-direct-switch-back}
 use Rattle.model.specs.Schedule.{Outcome, Scheduled, Selected, finish, ticked, selected, select-next-context, picked-as, schedule, after-schedule, switch-inner-by, switch-inner, tick, switch, direct-switch-or, direct-switch-to}
 use Rattle.model.specs.Accepted.{Call, by-tick, by-switch, by-direct-switch, outcome}
 use Rattle.model.proofs.Cases.{by-test, and-both, not-is-true}
 use Rattle.model.proofs.Sorted.{in-inserted}
 use Rattle.model_timers.specs.Timers.{Alone, Readable}
-use Rattle.model_timers.proofs.Untouched.{charged-leaves}
+use Rattle.model_timers.proofs.Untouched.{Kept, kept, charged-leaves}
 use Rattle.model_timers.proofs.Served.{still-in}
 use Rattle.model_timers.proofs.Calls.{wake-timer}
 use Rattle.model_timers.proofs.Source.{
+  carrying-clock,
   source-drained,
   source-holder-stopped,
   source-charge-holder,
@@ -82,7 +85,7 @@ module _ (t : Timer) (l : List Timer) (h : Alone (timer-insert t l)) where
       keep-true [] = refl
       keep-true (x ∷ xs) = ap (λ (r : List Timer). x ∷ r) (keep-true xs)
 
-pub charged-as-before : (n : ℕ) (s : State) → Alone ((source-charge-holder n s) .cpu .timers) → charge-holder n s ≡ source-charge-holder n s
+pub charged-as-before : (n : Spent) (s : State) → Alone ((source-charge-holder n s) .cpu .timers) → charge-holder n s ≡ source-charge-holder n s
 unfolding charge-holder holder-stopped source-charge-holder source-holder-stopped
 charged-as-before n s h =
     by-test (is-idle s) (λ z. rw z)
@@ -96,31 +99,31 @@ module _ (k time : ℕ) where
   abbrev LeavesOne : Outcome → Type 0
   LeavesOne o = Alone (cpu-at (o .machine) k .timers)
 
-  schedule-as-before : (cpus : List Cpu) (s : State) → k < length cpus → Readable time s → LeavesOne (after-schedule k time (source-schedule k time cpus s)) → schedule k time cpus s ≡ source-schedule k time cpus s
+  schedule-as-before : (cpus : List Cpu) (s : State) → k < length cpus → Readable time s → LeavesOne (after-schedule k time (source-schedule carrying-clock k time cpus s)) → schedule k time cpus s ≡ source-schedule carrying-clock k time cpus s
   unfolding schedule source-schedule select-next-context source-select-next-context before-selection source-before-selection
   schedule-as-before cpus s b h a =
-      let n : ℕ = elapsed time (s .cpu) in
-      let u : State = source-charge-holder n (source-before-selection time s) in
-      let l = charged-leaves k time (u .cpu .timers) cpus (was-idle (s .cpu)) n u b refl in
-      let e : before-selection time s ≡ source-before-selection time s = ap (on-cpu (times time)) (served-as-before time (on-cpu count-switch s) h) in
-      let c : charge-holder n (before-selection time s) ≡ u = ap (charge-holder n) e ∙ charged-as-before n (source-before-selection time s) (subst Alone (l .here) a) in
+      let n : Spent = spent time (s .cpu) in
+      let u : State = source-charge-holder n (source-before-selection carrying-clock time s) in
+      let l = charged-leaves k time (kept (u .cpu)) cpus (was-idle (s .cpu)) n u b refl in
+      let e : before-selection time s ≡ source-before-selection carrying-clock time s = ap (on-cpu (times time)) (served-as-before time (on-cpu count-switch s) h) in
+      let c : charge-holder n (before-selection time s) ≡ u = ap (charge-holder n) e ∙ charged-as-before n (source-before-selection carrying-clock time s) (subst Alone (ap (λ (z : Kept). z .timers) (l .here)) a) in
       ap (λ (v : State). let d = selected k time n cpus v in picked-as time (was-idle (s .cpu)) (d .rule) (d .cpus) (d .next) (d .state)) c
 
-  inner-as-before : (cpus : List Cpu) (s : State) → k < length cpus → Readable time s → LeavesOne (source-switch-inner k time cpus s) → switch-inner k time cpus s ≡ source-switch-inner k time cpus s
+  inner-as-before : (cpus : List Cpu) (s : State) → k < length cpus → Readable time s → LeavesOne (source-switch-inner carrying-clock k time cpus s) → switch-inner k time cpus s ≡ source-switch-inner carrying-clock k time cpus s
   unfolding switch-inner source-switch-inner switch-inner-by source-switch-inner-by
   inner-as-before cpus s b h = go (try-direct-switch-back k time s)
     where
-      go : (o : Option State) → LeavesOne (source-switch-inner-by k time cpus s o) → switch-inner-by k time cpus s o ≡ source-switch-inner-by k time cpus s o
+      go : (o : Option State) → LeavesOne (source-switch-inner-by carrying-clock k time cpus s o) → switch-inner-by k time cpus s o ≡ source-switch-inner-by carrying-clock k time cpus s o
       go (some s′) a = refl
       go none a = ap (after-schedule k time) (schedule-as-before cpus s b h a)
 
-  direct-as-before : (cpus : List Cpu) (s : State) (o : Option State) → k < length cpus → Readable time s → LeavesOne (source-direct-switch-or k time cpus s o) → direct-switch-or k time cpus s o ≡ source-direct-switch-or k time cpus s o
+  direct-as-before : (cpus : List Cpu) (s : State) (o : Option State) → k < length cpus → Readable time s → LeavesOne (source-direct-switch-or carrying-clock k time cpus s o) → direct-switch-or k time cpus s o ≡ source-direct-switch-or carrying-clock k time cpus s o
   unfolding direct-switch-or source-direct-switch-or
   direct-as-before cpus s (some s′) b h a = refl
   direct-as-before cpus s none b h a = inner-as-before cpus s b h a
 
   -- answer, image and refusal 9 of operations 1 to 3
-  pub as-before : (call : Call) (M : Machine) → k < length (M .cpus) → Readable time (state-of k M) → LeavesOne (source-outcome k time call M) → outcome call k time M ≡ source-outcome k time call M
+  pub as-before : (call : Call) (M : Machine) → k < length (M .cpus) → Readable time (state-of k M) → LeavesOne (source-outcome carrying-clock k time call M) → outcome call k time M ≡ source-outcome carrying-clock k time call M
   unfolding tick source-tick switch direct-switch-to source-direct-switch-to
   as-before by-tick M b h a =
       by-test (ltb ((ticked (state-of k M)) .cpu .block .«pit_ticks») tick-interval) (λ e. rw e)

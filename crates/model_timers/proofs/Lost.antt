@@ -23,6 +23,7 @@ use Rattle.model.proofs.Sorted.{in-inserted}
 use Rattle.model_timers.specs.Timers.{Superseded}
 use Rattle.model_timers.proofs.Served.{still-in}
 use Rattle.model_timers.proofs.Calls.{wake-timer, charge-timers, Left, call-leaves}
+use Rattle.model_timers.proofs.Untouched.{Kept}
 use Rattle.model_timers.proofs.Newest.{selection-serves}
 
 module _ (time : ℕ) (s : State) (t : Timer) where
@@ -72,12 +73,12 @@ module _ (call : Call) (k time : ℕ) (M : Machine) (t : Timer) (b : k < length 
   nothing-lost e = go (call-leaves call k time M b)
     where
       go : Left k time (M .cpus) b (state-of k M) (outcome call k time M) → In t (cpu-at M′ k .timers) ⊎ Superseded k M M′ t
-      go (inl l) = inl (subst (In t) (sym (l .here)) i)
+      go (inl l) = inl (subst (In t) (sym (ap (λ (z : Kept). z .timers) (l .here))) i)
       go (inr l) = of (left-or-gives-way time (state-of k M) t i e)
         where
           of : In t ((before-choice time (state-of k M)) .cpu .timers) ⊎ Gives-way time (state-of k M) t ((before-choice time (state-of k M)) .cpu .timers) → In t (cpu-at M′ k .timers) ⊎ Superseded k M M′ t
-          of (inl j) = inl (subst (In t) (sym (l .here)) j)
-          of (inr g) = inr (record { in-charge = g .in-charge; unfit = g .unfit; newest = subst (In _) (sym (l .here)) (g .newest) })
+          of (inl j) = inl (subst (In t) (sym (ap (λ (z : Kept). z .timers) (l .here))) j)
+          of (inr g) = inr (record { in-charge = g .in-charge; unfit = g .unfit; newest = subst (In _) (sym (ap (λ (z : Kept). z .timers) (l .here))) (g .newest) })
 
   -- due or not: until its context can be read a timer stays, unless a newer one of the context in charge takes its place
   pub unreadable-stays : is-unreadable (state-of k M) (t .«context_ref») ≡ true → In t (cpu-at M′ k .timers) ⊎ Superseded k M M′ t

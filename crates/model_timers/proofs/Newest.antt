@@ -20,6 +20,7 @@ use Rattle.model.proofs.Sorted.{in-insert}
 use Rattle.model_timers.specs.Timers.{Alone}
 use Rattle.model_timers.proofs.Served.{Serves, served}
 use Rattle.model_timers.proofs.Calls.{wake-timer, charge-timers, Left, call-leaves}
+use Rattle.model_timers.proofs.Untouched.{Kept}
 
 -- a timer of t's context that t does not supersede is t
 pub is-newest : (t u : Timer) → superseded t u ≡ false → u .«context_ref» ≡ t .«context_ref» → u ≡ t
@@ -66,13 +67,13 @@ module _ (call : Call) (k time : ℕ) (M : Machine) (b : k < length (M .cpus)) w
   alone-after h = go (call-leaves call k time M b)
     where
       go : Left k time (M .cpus) b (state-of k M) (outcome call k time M) → Alone (cpu-at M′ k .timers)
-      go (inl l) = subst Alone (sym (l .here)) h
-      go (inr l) = subst Alone (sym (l .here)) (alone-before-choice time (state-of k M) h)
+      go (inl l) = subst Alone (sym (ap (λ (z : Kept). z .timers) (l .here))) h
+      go (inr l) = subst Alone (sym (ap (λ (z : Kept). z .timers) (l .here))) (alone-before-choice time (state-of k M) h)
 
   pub others-after : (j : ℕ) → j ≢ k → cpu-at M′ j .timers ≡ cpu-at M j .timers
   unfolding cpu-at
   others-after j n = go (call-leaves call k time M b)
     where
       go : Left k time (M .cpus) b (state-of k M) (outcome call k time M) → cpu-at M′ j .timers ≡ cpu-at M j .timers
-      go (inl l) = l .there j n
-      go (inr l) = l .there j n
+      go (inl l) = ap (λ (z : Kept). z .timers) (l .there j n)
+      go (inr l) = ap (λ (z : Kept). z .timers) (l .there j n)

@@ -1,11 +1,15 @@
--- The calls that decide as the source has them: every due timer is taken out, and one put in removes none. Assumes nothing.
+-- The calls that decide as the source has them: every due timer is taken out, one put in removes none, and what a tick conversion leaves
+-- over is lost. Assumes nothing.
 use mathlib.Core.Bool.{not, false}
 use mathlib.Core.List.{List, []}
 use mathlib.Core.Option.{Option, none, some}
-use Prim.Native.Nat.{ℕ}
+use Prim.Native.Nat.{ℕ, _/_}
 use lib.Dec.{ltb, eqb}
+use Rattle.numbers.specs.Limits.{nanos-per-millisecond}
+use Rattle.cpu_stats.specs.Counted.{time-added}
 use Rattle.columns.specs.Common.{if_then_else_, fold, keep}
-use Rattle.ticks.specs.Ticks.{tick-interval}
+use Rattle.ticks.specs.declared.Spent.{Spent}
+use Rattle.ticks.specs.Ticks.{ticks, tick-interval}
 use Rattle.answer.specs.declared.SwitchResult.the-variants.{Switched}
 use Rattle.answer.specs.Number.{result-number}
 use Rattle.context.specs.Status.{is-runnable}
@@ -13,16 +17,31 @@ use Rattle.charging.specs.Charge.{charged}
 use Rattle.entries.specs.Order.{is-due}
 use Rattle.runnable.specs.Runnable.{update-runnable}
 use Rattle.percpu.specs.Cpu.{Cpu}
-use Rattle.percpu.specs.With.{cpu-timers, cpu-local-wakeup-list}
+use Rattle.percpu.specs.With.{cpu-timers, cpu-local-wakeup-list, cpu-stats, cpu-schedule-time}
 use Rattle.machine.specs.Machine.{Machine}
 use Rattle.model.specs.State.{State, at, on-cpu, put-context, insert-timer, state-of, holder, is-idle}
 use Rattle.model.specs.Wakeup.{wakeups, serve-wakeup}
-use Rattle.model.specs.Turn.{count-switch, times, elapsed, was-idle, inactive}
+use Rattle.model.specs.Turn.{count-switch, elapsed, times, spent, was-idle, inactive}
 use Rattle.model.specs.SwitchTo.{direct-switch-by, try-direct-switch-back}
 use Rattle.model.specs.Schedule.{Outcome, Scheduled, Selected, finish, ticked, selected, picked-as, after-schedule}
 use Rattle.model.specs.Accepted.{Call, by-tick, by-switch, by-direct-switch}
 
--- `drained` and `holder-stopped`, the two places in which they differ
+-- how a turn is measured and kept: as the source does, and with the remainder carried
+pub record Clock : Type 0 where
+  pub spent : ℕ → Cpu → Spent
+  pub times : ℕ → Cpu → Cpu
+
+abbrev pub source-clock : Clock
+source-clock =
+    record {
+      spent = λ time p. record { elapsed = elapsed time p; ticks = ticks (elapsed time p) 0 };
+      times = λ time p. cpu-schedule-time time (cpu-stats (time-added (elapsed time p / nanos-per-millisecond) (p .block .stats)) p);
+    }
+
+abbrev pub carrying-clock : Clock
+carrying-clock = record { spent = spent; times = times }
+
+-- `drained` and `holder-stopped`, the two other places in which they differ
 abbrev pub source-drained : ℕ → State → State
 source-drained time s =
     on-cpu (λ p. cpu-timers (keep (λ t. not (is-due time t)) (p .timers)) (cpu-local-wakeup-list [] p)) s
@@ -37,23 +56,23 @@ source-holder-stopped s =
 unfoldable pub source-serve-wakeups : ℕ → State → State
 source-serve-wakeups time s = fold serve-wakeup (source-drained time s) (wakeups time s)
 
-unfoldable pub source-before-selection : ℕ → State → State
-source-before-selection time s = on-cpu (times time) (source-serve-wakeups time (on-cpu count-switch s))
+unfoldable pub source-before-selection : Clock → ℕ → State → State
+source-before-selection clock time s = on-cpu (clock .times time) (source-serve-wakeups time (on-cpu count-switch s))
 
-unfoldable pub source-charge-holder : ℕ → State → State
-source-charge-holder elapsed s =
+unfoldable pub source-charge-holder : Spent → State → State
+source-charge-holder spent s =
     if is-idle s then s else
     if is-runnable ((holder s) .status)
-    then put-context (s .cpu .block .«sched_ctxt») (charged (s .cpu .block .v) elapsed (holder s)) s
+    then put-context (s .cpu .block .«sched_ctxt») (charged (s .cpu .block .v) spent (holder s)) s
     else source-holder-stopped s
 
-module _ (k time : ℕ) where
-  unfoldable pub source-select-next-context : ℕ → List Cpu → State → Selected
-  source-select-next-context elapsed cpus s = selected k time elapsed cpus (source-charge-holder elapsed s)
+unfoldable pub source-select-next-context : (k time : ℕ) → Spent → List Cpu → State → Selected
+source-select-next-context k time spent cpus s = selected k time spent cpus (source-charge-holder spent s)
 
+module _ (clock : Clock) (k time : ℕ) where
   unfoldable pub source-schedule : List Cpu → State → Scheduled
   source-schedule cpus s =
-      let d = source-select-next-context (elapsed time (s .cpu)) cpus (source-before-selection time s) in
+      let d = source-select-next-context k time (clock .spent time (s .cpu)) cpus (source-before-selection clock time s) in
       picked-as time (was-idle (s .cpu)) (d .rule) (d .cpus) (d .next) (d .state)
 
   unfoldable pub source-switch-inner-by : List Cpu → State → Option State → Outcome

@@ -10,6 +10,7 @@ use lib.ListN.{length}
 use borrow.Author.Tests.{eqb-true, eqb-false, ne-eqb, le-ltb, ltb-true, ltb-false}
 use Rattle.columns.specs.Common.{fold, keep, All}
 use Rattle.columns.proofs.Keep.{all-keep}
+use Rattle.ticks.specs.declared.Spent.{Spent}
 use Rattle.context.specs.Status.{is-runnable}
 use Rattle.entries.specs.declared.Timer.{Timer}
 use Rattle.entries.specs.Order.{sooner, superseded}
@@ -18,7 +19,7 @@ use Rattle.entries.specs.Sorted.{Sorted}
 use Rattle.entries.proofs.Ordered.{timers-ordered, sorted-keep}
 use Rattle.model.specs.State.{State, on-cpu, holder, is-idle, too-many}
 use Rattle.model.specs.Wakeup.{Wakeup, wakeups, drained, serve-wakeup}
-use Rattle.model.specs.Turn.{count-switch, elapsed, holder-stopped, charge-holder, before-selection, before-choice}
+use Rattle.model.specs.Turn.{count-switch, spent, holder-stopped, charge-holder, before-selection, before-choice}
 use Rattle.model.proofs.Cases.{by-test, never, pick}
 use Rattle.model.proofs.Lists.{In, all-at, all-in}
 use Rattle.model.proofs.Sorted.{all-insert, insert-sorted}
@@ -106,7 +107,7 @@ module _ (n time : ℕ) (s : State) (names : All (λ (t : Timer). t .«context_r
       let r : Sorted sooner (u .cpu .timers) = v .rise rise in
       few n ((before-choice time s) .cpu .timers)
       (charge-timers _ u (All (λ (y : Timer). y .«context_ref» < n)) a (λ z y w. all-insert sooner _ t _ x (all-keep (λ (y : Timer). not (superseded t y)) _ (u .cpu .timers) a)))
-      (differ ((before-choice time s) .cpu .timers) (charge-timers (elapsed time (s .cpu)) u (Sorted sooner) r (λ z y w. insert-sorted timers-ordered t _ (sorted-keep (λ (y : Timer). not (superseded t y)) sooner (u .cpu .timers) r))) (alone-before-choice time s alone))
+      (differ ((before-choice time s) .cpu .timers) (charge-timers (spent time (s .cpu)) u (Sorted sooner) r (λ z y w. insert-sorted timers-ordered t _ (sorted-keep (λ (y : Timer). not (superseded t y)) sooner (u .cpu .timers) r))) (alone-before-choice time s alone))
 
   -- so charging never marks a lack of room
   pub charge-room : n ≤ 64 → s .cpu .block .«sched_ctxt» < n → (before-choice time s) .no-room ≡ (before-selection time s) .no-room
@@ -114,13 +115,13 @@ module _ (n time : ℕ) (s : State) (names : All (λ (t : Timer). t .«context_r
   charge-room b h =
       let u : State = before-selection time s in
       let f : length ((before-choice time s) .cpu .timers) ≤ n = charged-few h in
-      marked u (elapsed time (s .cpu)) f
+      marked u (spent time (s .cpu)) f
     where
       or-no : (a b : Bool) → b ≡ false → (a || b) ≡ a
       or-no true b e = refl
       or-no false b e = e
 
-      marked : (u : State) (m : ℕ) → length ((charge-holder m u) .cpu .timers) ≤ n → (charge-holder m u) .no-room ≡ u .no-room
+      marked : (u : State) (m : Spent) → length ((charge-holder m u) .cpu .timers) ≤ n → (charge-holder m u) .no-room ≡ u .no-room
       marked u m f =
           pick (λ (w : State). length (w .cpu .timers) ≤ n → w .no-room ≡ u .no-room) (is-idle u) (λ z g. refl)
           (λ z. pick (λ (w : State). length (w .cpu .timers) ≤ n → w .no-room ≡ u .no-room) (is-runnable ((holder u) .status)) (λ y g. refl)

@@ -13,6 +13,7 @@ use borrow.Author.Tests.{eqb-true, eqb-false}
 use Rattle.columns.specs.Common.{if_then_else_}
 use Rattle.context.specs.declared.Context.{Context}
 use Rattle.context.specs.Status.{is-runnable}
+use Rattle.ticks.specs.declared.Spent.{Spent}
 use Rattle.weights.specs.Weights.{weight}
 use Rattle.charging.specs.Charge.{charged, stopped}
 use Rattle.entries.specs.declared.Entry.{Entry}
@@ -72,7 +73,7 @@ module _ (k time : ℕ) (M : Machine) (S : Sound M) (T : Tidy M) (P : Present M 
         runs-active = λ z. a (sym e ∙ z);
       }
 
-  module _ (n : ℕ) (s : State) (w : Wakes k time M S T P own W A s) where
+  module _ (n : Spent) (s : State) (w : Wakes k time M S T P own W A s) where
     is-h : s .cpu .block .«sched_ctxt» ≡ h
     is-h = ap (λ (z : Roles). z .sched) (w .waking .roles-kept)
 

@@ -9,6 +9,7 @@ use lib.Dec.{ltb, leb, eqb}
 use lib.ListN.{length, length-set}
 use borrow.Author.Tests.{ltb-false, le-leb}
 use Rattle.context.specs.declared.Context.{Context}
+use Rattle.context.specs.Status.{is-runnable}
 use Rattle.runnable.specs.declared.UpdateResult.{UpdateResult}
 use Rattle.runnable.specs.declared.UpdateResult.the-variants.{CanSwitch, Skip, Blocked}
 use Rattle.runnable.specs.Runnable.{update-runnable}
@@ -33,6 +34,13 @@ not-and a b e t = not-is-false b (go a t e)
     go true t e = e
     go false t e = never {b = false} t refl
 
+switch-remainder : (k time x : ℕ) (s : State) → (switch-to k time x s) .cpu .remainder ≡ s .cpu .remainder
+unfolding switch-to
+switch-remainder k time x s =
+    pick (λ (z : State). z .cpu .remainder ≡ s .cpu .remainder)
+    (not (eqb (s .cpu .block .«sched_ctxt») (s .cpu .block .«current_ctxt»)) && not ((at s (s .cpu .block .«current_ctxt»)) .«has_queue_key») && is-runnable ((at s (s .cpu .block .«current_ctxt»)) .status))
+    (λ t. refl) (λ t. refl)
+
 module _ (k time : ℕ) (M : Machine) where
   -- a state that differs from the CPU's in nothing that is seen
   pub record Alike (s : State) : Type 0 where
@@ -48,7 +56,7 @@ module _ (k time : ℕ) (M : Machine) where
       record {
         count = switch-count k time x s ∙ a .count;
         contexts = λ y. switch-view k time seen (λ b i t d. refl) (λ m t d. refl) x s y ∙ a .contexts y;
-        cpu = (λ j. record { stands = switch-standing k time x s j; sched = switch-sched k time x s j }) ∙ a .cpu;
+        cpu = (λ j. record { stands = switch-standing k time x s j; sched = switch-sched k time x s j; remainder = switch-remainder k time x s j }) ∙ a .cpu;
       }
 
   put : (x : ℕ) (d : Context) (s : State) → Switchable (at s x) d → Alike s → Alike (put-context x d s)

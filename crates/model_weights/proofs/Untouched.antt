@@ -1,4 +1,4 @@
--- A call that writes nothing of what tidy and the weights read keeps them all.
+-- A call that writes nothing of what tidy and the weights read keeps them all; it leaves the remainders too.
 use mathlib.Core.Path.{_≡_, refl, subst, sym, ap, _∙_}
 use mathlib.Core.Bool.{Bool, true, false}
 use mathlib.Core.List.{List}
@@ -34,9 +34,10 @@ seen c = record { its-run = run c; its-fixed = fixed c; is-active = c .«is_acti
 pub record Watched : Type 0 where
   pub stands : Standing
   pub sched : ℕ
+  pub remainder : ℕ
 
 abbrev pub watched : Cpu → Watched
-watched p = record { stands = standing p; sched = p .block .«sched_ctxt» }
+watched p = record { stands = standing p; sched = p .block .«sched_ctxt»; remainder = p .remainder }
 
 pub record Untouched (M M′ : Machine) : Type 0 where
   pub count : length (M′ .contexts) ≡ length (M .contexts)

@@ -1,19 +1,21 @@
--- A CPU's lists read from its block, and the CPU found from its words. Assumes nothing.
+-- A CPU's lists and its remainder read from its block, and the CPU found from its words. Assumes nothing.
 use mathlib.Core.Path.{_≡_, refl, sym, ap, _∙_}
 use Prim.Native.Nat.{ℕ, zero, suc, _+_, _-_, _*_, _<_, _≤_}
 use native.Mathlib.Omega.{arith}
-use mathlib.Core.List.{List, [], _∷_, _++_, map}
-use lib.ListN.{length, getD, length-map}
+use mathlib.Core.List.{List, [], _∷_, _++_, append-assoc, map}
+use lib.ListN.{length, getD, set, length-append, length-map}
+use lib.Seq.{getD-at, set-at}
 use Rattle.columns.specs.Common.{tabulate}
-use Rattle.columns.specs.Blocks.{flat, part, col-get}
+use Rattle.columns.specs.Blocks.{flat, length-flat, part, col-get}
 use Rattle.columns.proofs.Tabulate.{tabulate-is, getD-map}
 use Rattle.cpu_stats.specs.Words.{stats-words, stats-of, stats-of-words}
 use Rattle.entries.specs.declared.Entry.{Entry}
 use Rattle.entries.specs.declared.Timer.{Timer}
 use Rattle.percpu.specs.Cpu.{Cpu}
 use Rattle.percpu.specs.Words.{block-words, block-of, block-of-words}
-use Rattle.percpu.specs.Layout.{cpu-words, cpu-of, entry-at, timer-at, no-entry, no-timer, counts, columns, front-length}
-use Rattle.percpu.specs.Places.{local-wakeup-list-column, ipi-context-wakeup-list-column}
+use Rattle.percpu.specs.Layout.{cpu-words, cpu-of, entry-at, timer-at, no-entry, no-timer, counts, columns, last-words, front-length}
+use Rattle.percpu.specs.With.{cpu-remainder}
+use Rattle.percpu.specs.Places.{local-wakeup-list-column, ipi-context-wakeup-list-column, remainder-place}
 
 -- lists that fit into their arrays
 pub record Short (c : Cpu) : Type 0 where
@@ -32,7 +34,7 @@ module _ (c : Cpu) where
   unfolding cpu-words columns
   column-get l d f j i b e h g =
       let n : length (getD (columns c) j []) ≡ length l = rw e (length-map l f)
-      in col-get front (columns c) 25 j (front-length c) b i (rw n h) (rw n g) ∙ ap (λ (x : List ℕ). getD x i 0) e ∙ getD-map f l i d h
+      in col-get front (last-words c) (columns c) 25 j (front-length c) b i (rw n h) (rw n g) ∙ ap (λ (x : List ℕ). getD x i 0) e ∙ getD-map f l i d h
 
   pub entry-is : (i : ℕ) → i < length (c .queue) → length (c .queue) ≤ 64 → entry-at (cpu-words c) i ≡ getD (c .queue) i no-entry
   unfolding entry-at columns
@@ -59,12 +61,30 @@ module _ (c : Cpu) where
   pub local-is : (i : ℕ) → i < length (c .«local_wakeup_list») → length (c .«local_wakeup_list») ≤ 64
       → getD (cpu-words c) (local-wakeup-list-column + i) 0 ≡ getD (c .«local_wakeup_list») i 0
   unfolding cpu-words columns
-  local-is i h g = col-get front (columns c) 25 8 (front-length c) (omega arith) i h g
+  local-is i h g = col-get front (last-words c) (columns c) 25 8 (front-length c) (omega arith) i h g
 
   pub ipi-is : (i : ℕ) → i < length (c .«ipi_context_wakeup_list») → length (c .«ipi_context_wakeup_list») ≤ 64
       → getD (cpu-words c) (ipi-context-wakeup-list-column + i) 0 ≡ getD (c .«ipi_context_wakeup_list») i 0
   unfolding cpu-words columns
-  ipi-is i h g = col-get front (columns c) 25 9 (front-length c) (omega arith) i h g
+  ipi-is i h g = col-get front (last-words c) (columns c) 25 9 (front-length c) (omega arith) i h g
+
+  before-last : length (front ++ flat (columns c)) ≡ remainder-place
+  unfolding columns
+  before-last = rw (length-append, front-length c, length-flat)
+
+  at-last : cpu-words c ≡ (front ++ flat (columns c)) ++ last-words c
+  unfolding cpu-words
+  at-last = sym (append-assoc front (flat (columns c)) (last-words c))
+
+  pub remainder-is : getD (cpu-words c) remainder-place 0 ≡ c .remainder
+  remainder-is = rw at-last (getD-at (front ++ flat (columns c)) (c .remainder) [] 0 remainder-place before-last)
+
+  pub remainder-put : (x : ℕ) → set (cpu-words c) remainder-place x ≡ cpu-words (cpu-remainder x c)
+  unfolding cpu-words counts columns
+  remainder-put x =
+      ap (λ (b : List ℕ). set b remainder-place x) at-last
+      ∙ set-at (front ++ flat (columns c)) (c .remainder) [] x remainder-place before-last
+      ∙ append-assoc front (flat (columns c)) (x ∷ [])
 
   block-is : block-of (cpu-words c) ≡ c .block
   unfolding cpu-words block-words stats-words block-of part
@@ -90,4 +110,4 @@ module _ (c : Cpu) where
 
   pub cpu-of-words : Short c → cpu-of (cpu-words c) ≡ c
   unfolding cpu-of
-  cpu-of-words o = rw (block-is, queue-is (o .queue), timers-is (o .timers), locals-is (o .local), ipis-is (o .ipi))
+  cpu-of-words o = rw (block-is, queue-is (o .queue), timers-is (o .timers), locals-is (o .local), ipis-is (o .ipi), remainder-is)

@@ -3,21 +3,21 @@ use mathlib.Core.Path.{_≡_, refl, sym, ap, _∙_, subst}
 use Prim.Native.Nat.{ℕ, zero, suc, _+_, _-_, _*_, _<_, _≤_}
 use native.Mathlib.Omega.{arith}
 use mathlib.Core.List.{List, [], _∷_, _++_, map}
-use lib.ListN.{length, getD, take, drop, length-take, length-drop, take-append-drop}
-use lib.Seq.{drop-drop, getD-take}
+use lib.ListN.{length, getD, take, drop, length-take, take-append-drop}
+use lib.Seq.{drop-drop, drop-cons, drop-length, getD-take}
 use Rattle.columns.specs.Common.{tabulate}
 use Rattle.columns.specs.Columns.{pad}
 use Rattle.columns.specs.Laws.{length-pad}
-use Rattle.columns.specs.Blocks.{flat, part}
-use Rattle.columns.proofs.Tabulate.{tabulate-is, length-tabulate, map-tabulate, mark-word, part-get, cat-tabulate, column-is}
+use Rattle.columns.specs.Blocks.{flat, part, length-part}
+use Rattle.columns.proofs.Tabulate.{tabulate-is, length-tabulate, map-tabulate, mark-word, part-get, part-part, cat-tabulate, column-is}
 use Rattle.cpu_stats.specs.State.{state-number, state-of, state-forth}
 use Rattle.cpu_stats.specs.Words.{stats-words, stats-of}
 use Rattle.entries.specs.declared.Entry.{Entry}
 use Rattle.entries.specs.declared.Timer.{Timer}
 use Rattle.percpu.specs.Cpu.{Cpu}
 use Rattle.percpu.specs.Words.{block-words, block-of}
-use Rattle.percpu.specs.Layout.{cpu-words, cpu-of, entry-at, timer-at, counts, columns, counter}
-use Rattle.percpu.specs.Places.{local-wakeup-list-column, ipi-context-wakeup-list-column, block-size}
+use Rattle.percpu.specs.Layout.{cpu-words, cpu-of, entry-at, timer-at, counts, columns, last-words, counter}
+use Rattle.percpu.specs.Places.{front-size, local-wakeup-list-column, ipi-context-wakeup-list-column, remainder-place, block-size}
 
 pub record Whole (b : List ℕ) : Type 0 where
   pub size : length b ≡ block-size
@@ -90,12 +90,25 @@ module _ (b : List ℕ) (w : Whole b) where
       )
       (rw l at t)
 
-  back : flat (columns (cpu-of b)) ≡ drop 25 b
-  unfolding flat columns tabulate part
-  back =
-      cat-tabulate (pad 64) 64 (length-pad 64) 10 (λ (j : ℕ). getD (columns (cpu-of b)) j []) (drop 25 b) (rw (length-drop, w .size))
-      (λ j h. each j h ∙ rw (drop-drop))
+  -- the columns, and the one word behind them
+  abbrev inner : List ℕ
+  inner = part b front-size 640
+
+  middle : flat (columns (cpu-of b)) ≡ inner
+  unfolding flat columns tabulate
+  middle =
+      let l : front-size + 640 ≤ length b = rw (w .size) (omega arith)
+      in
+      cat-tabulate (pad 64) 64 (length-pad 64) 10 (λ (j : ℕ). getD (columns (cpu-of b)) j []) inner (length-part b front-size 640 l)
+      (λ j h. each j h ∙ sym (part-part b front-size 640 (64 * j) 64 l (omega arith)))
+
+  last : last-words (cpu-of b) ≡ drop 640 (drop front-size b)
+  unfolding cpu-of
+  last =
+      let l : remainder-place < length b = rw (w .size) (omega arith)
+      in let e : drop (suc remainder-place) b ≡ [] = ap (λ (n : ℕ). drop n b) (sym (w .size)) ∙ drop-length b
+      in rw (drop-drop, drop-cons b remainder-place 0 l, e)
 
   pub cpu-words-of : cpu-words (cpu-of b) ≡ b
-  unfolding cpu-words
-  cpu-words-of = rw (front, back, take-append-drop)
+  unfolding cpu-words part
+  cpu-words-of = rw (front, middle, last, take-append-drop 640 (drop front-size b), take-append-drop)

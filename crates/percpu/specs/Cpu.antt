@@ -1,4 +1,4 @@
--- A CPU: the scalars of its block, its run queue, timers and wake-up lists. Assumes nothing.
+-- A CPU: the scalars of its block, its run queue, timers and wake-up lists, and the last word. Assumes nothing.
 use Prim.Native.Nat.{ℕ}
 use mathlib.Core.List.{List}
 use Rattle.percpu.specs.declared.PercpuBlock.{PercpuBlock}
@@ -12,3 +12,5 @@ pub record Cpu : Type 0 where
   pub timers : List Timer
   pub «local_wakeup_list» : List ℕ
   pub «ipi_context_wakeup_list» : List ℕ
+  -- what its last tick conversion left over
+  pub remainder : ℕ

@@ -1,4 +1,4 @@
--- The words of a CPU's block: its scalars, four counts, and ten columns of 64. Assumes nothing.
+-- The words of a CPU's block: its scalars, four counts, ten columns of 64, and the remainder. Assumes nothing.
 use mathlib.Core.Path.{_≡_, refl, sym, ap, _∙_}
 use Prim.Native.Nat.{ℕ, _+_, _*_}
 use mathlib.Core.List.{List, [], _∷_, _++_, map}
@@ -9,7 +9,7 @@ use Rattle.entries.specs.declared.Entry.{Entry}
 use Rattle.entries.specs.declared.Timer.{Timer}
 use Rattle.percpu.specs.Cpu.{Cpu}
 use Rattle.percpu.specs.Words.{block-words, block-of, length-block-words}
-use Rattle.percpu.specs.Places.{queue-count, timers-count, local-count, ipi-count, front-size, key-vd-column, key-rem-slice-column, key-ctxt-id-column, entry-vtime-column, entry-weight-column, entry-context-ref-column, timer-wake-column, timer-context-ref-column, local-wakeup-list-column, ipi-context-wakeup-list-column, block-size}
+use Rattle.percpu.specs.Places.{queue-count, timers-count, local-count, ipi-count, front-size, key-vd-column, key-rem-slice-column, key-ctxt-id-column, entry-vtime-column, entry-weight-column, entry-context-ref-column, timer-wake-column, timer-context-ref-column, local-wakeup-list-column, ipi-context-wakeup-list-column, remainder-place, block-size}
 
 unfoldable pub counts : Cpu → List ℕ
 counts c =
@@ -29,9 +29,13 @@ columns c =
     ∷ c .«ipi_context_wakeup_list»
     ∷ []
 
+-- what stands behind the columns
+abbrev pub last-words : Cpu → List ℕ
+last-words c = c .remainder ∷ []
+
 -- `flat` fills each array up to 64 words with 0
 unfoldable pub cpu-words : Cpu → List ℕ
-cpu-words c = (block-words (c .block) ++ counts c) ++ flat (columns c)
+cpu-words c = (block-words (c .block) ++ counts c) ++ (flat (columns c) ++ last-words c)
 
 -- entry i of a block's queue, and timer i
 unfoldable pub entry-at : List ℕ → ℕ → Entry
@@ -61,6 +65,7 @@ cpu-of b =
       timers = tabulate (getD b timers-count 0) (timer-at b);
       «local_wakeup_list» = tabulate (getD b local-count 0) (λ (i : ℕ). getD b (local-wakeup-list-column + i) 0);
       «ipi_context_wakeup_list» = tabulate (getD b ipi-count 0) (λ (i : ℕ). getD b (ipi-context-wakeup-list-column + i) 0);
+      remainder = getD b remainder-place 0;
     }
 
 pub front-length : (c : Cpu) → length (block-words (c .block) ++ counts c) ≡ front-size
@@ -69,7 +74,7 @@ front-length c = rw (length-append, length-block-words)
 
 pub length-cpu-words : (c : Cpu) → length (cpu-words c) ≡ block-size
 unfolding cpu-words columns
-length-cpu-words c = rw (length-append, front-length, length-flat)
+length-cpu-words c = rw (length-append, front-length, length-append, length-flat)
 
 -- which word of the block counts array j
 unfoldable pub counter : List ℕ

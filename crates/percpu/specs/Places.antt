@@ -115,5 +115,8 @@ ipi-context-wakeup-list-column = 601
 abbrev pub columns-end : ℕ
 columns-end = 665
 
+abbrev pub remainder-place : ℕ
+remainder-place = 665
+
 abbrev pub block-size : ℕ
-block-size = 665
+block-size = 666

@@ -1,4 +1,4 @@
--- A CPU with one field of its block, or one list, changed. Written by tools/records.py.
+-- A CPU with one field of its block, one list, or the last word changed. Written by tools/records.py.
 use Prim.Native.Nat.{ℕ}
 use mathlib.Core.Bool.{Bool, true, false}
 use mathlib.Core.Path.{_≡_, refl}
@@ -355,6 +355,7 @@ cpu-block x c =
       timers = c .timers;
       «local_wakeup_list» = c .«local_wakeup_list»;
       «ipi_context_wakeup_list» = c .«ipi_context_wakeup_list»;
+      remainder = c .remainder;
     }
 
 abbrev pub cpu-queue : List Entry → Cpu → Cpu
@@ -365,6 +366,7 @@ cpu-queue x c =
       timers = c .timers;
       «local_wakeup_list» = c .«local_wakeup_list»;
       «ipi_context_wakeup_list» = c .«ipi_context_wakeup_list»;
+      remainder = c .remainder;
     }
 
 abbrev pub cpu-timers : List Timer → Cpu → Cpu
@@ -375,6 +377,7 @@ cpu-timers x c =
       timers = x;
       «local_wakeup_list» = c .«local_wakeup_list»;
       «ipi_context_wakeup_list» = c .«ipi_context_wakeup_list»;
+      remainder = c .remainder;
     }
 
 abbrev pub cpu-local-wakeup-list : List ℕ → Cpu → Cpu
@@ -385,6 +388,7 @@ cpu-local-wakeup-list x c =
       timers = c .timers;
       «local_wakeup_list» = x;
       «ipi_context_wakeup_list» = c .«ipi_context_wakeup_list»;
+      remainder = c .remainder;
     }
 
 abbrev pub cpu-ipi-context-wakeup-list : List ℕ → Cpu → Cpu
@@ -395,6 +399,18 @@ cpu-ipi-context-wakeup-list x c =
       timers = c .timers;
       «local_wakeup_list» = c .«local_wakeup_list»;
       «ipi_context_wakeup_list» = x;
+      remainder = c .remainder;
+    }
+
+abbrev pub cpu-remainder : ℕ → Cpu → Cpu
+cpu-remainder x c =
+    record {
+      block = c .block;
+      queue = c .queue;
+      timers = c .timers;
+      «local_wakeup_list» = c .«local_wakeup_list»;
+      «ipi_context_wakeup_list» = c .«ipi_context_wakeup_list»;
+      remainder = x;
     }
 
 abbrev pub cpu-present : Bool → Cpu → Cpu

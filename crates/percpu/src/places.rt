@@ -75,4 +75,6 @@ pub const IPI_CONTEXT_WAKEUP_LIST: usize = 601;
 
 pub const COLUMNS_END: usize = 665;
 
-pub const BLOCK_SIZE: usize = 665;
+pub const REMAINDER: usize = 665;
+
+pub const BLOCK_SIZE: usize = 666;

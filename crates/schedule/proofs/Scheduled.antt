@@ -12,7 +12,7 @@ use Rattle.machine.specs.Machine.{Machine, cpu-at}
 use Rattle.machine.specs.Encode.{encode}
 use Rattle.machine.specs.Shape.{Fits, Image}
 use Rattle.model.specs.State.{State, state-of}
-use Rattle.model.specs.Turn.{elapsed, was-idle, charge-holder, before-selection}
+use Rattle.model.specs.Turn.{spent, was-idle, charge-holder, before-selection}
 use Rattle.model.specs.Schedule.{Selected, Scheduled, select-next-context, picked-as, schedule}
 use Rattle.model.proofs.NoRoom as no-room
 use Rattle.stages.specs.Stage.{Stage, Staged, Ranged}
@@ -33,7 +33,7 @@ use Rattle.model.specs.Handover.{hand-over}
 
 module _ (k time : ℕ) where
   abbrev next : List Cpu → State → Selected
-  next cpus s = select-next-context k time (elapsed time (s .cpu)) cpus (before-selection time s)
+  next cpus s = select-next-context k time (spent time (s .cpu)) cpus (before-selection time s)
 
   -- what was picked, in three parts
   picked-state : (was : Bool) (rule : Rule) (cpus : List Cpu) (o : Option ℕ) (s : State) → handed time was o s ≡ (picked-as time was rule cpus o s) .state
@@ -65,8 +65,8 @@ module _ (k time : ℕ) where
   unfolding select-next-context
   begun-full cpus s e =
       next-full cpus s
-      (keeps-full k time (elapsed time (s .cpu)) cpus (charge-holder (elapsed time (s .cpu)) (before-selection time s))
-      (no-room.charge-full (elapsed time (s .cpu)) (before-selection time s) e))
+      (keeps-full k time (spent time (s .cpu)) cpus (charge-holder (spent time (s .cpu)) (before-selection time s))
+      (no-room.charge-full (spent time (s .cpu)) (before-selection time s) e))
 
 pub schedule-unbegun : {c n k : ℕ} {m m' m'' : List ℕ} {turn : Turn} {q : Ruled} (time : ℕ)
     → Stage c n k m m' true turn (λ (s : State). before-selection time s) (λ (s : State). turn-of time (s .cpu))
@@ -79,19 +79,19 @@ module _ {c n k : ℕ} {m m' : List ℕ} {turn : Turn} (time : ℕ) (h : k < c)
   turn-is : (M : Machine) → m ≡ encode M → Fits c n M → turn ≡ turn-of time (cpu-at M k)
   turn-is M e o = t .stage M e o .answer refl
 
-  next-part : {m'' : List ℕ} {w : Ruled} {full : Bool} → Part c n k m' m'' full w (λ (cpus : List Cpu) (s : State). of-selected (select-next-context k time (turn .elapsed) cpus s))
+  next-part : {m'' : List ℕ} {w : Ruled} {full : Bool} → Part c n k m' m'' full w (λ (cpus : List Cpu) (s : State). of-selected (select-next-context k time (turn .spent) cpus s))
       → Part c n k m m'' full w (λ (cpus : List Cpu) (s : State). of-selected (next k time cpus s))
   next-part u =
       part-as (stage-part h t u)
       (λ M e o cpus z.
-      let y : select-next-context k time (turn .elapsed) cpus (before-selection time (state-of k M)) ≡ next k time cpus (state-of k M) = ap (λ (x : Turn). select-next-context k time (x .elapsed) cpus (before-selection time (state-of k M))) (turn-is M e o)
+      let y : select-next-context k time (turn .spent) cpus (before-selection time (state-of k M)) ≡ next k time cpus (state-of k M) = ap (λ (x : Turn). select-next-context k time (x .spent) cpus (before-selection time (state-of k M))) (turn-is M e o)
       in (ap (λ (d : Selected). d .state) y, ap (λ (d : Selected). d .cpus) y, λ f g. g ∙ ap (λ (d : Selected). ruled (d .next) (d .rule)) y))
 
-  pub schedule-full : {m'' m''' : List ℕ} {w q : Ruled} → Part c n k m' m'' true w (λ (cpus : List Cpu) (s : State). of-selected (select-next-context k time (turn .elapsed) cpus s))
+  pub schedule-full : {m'' m''' : List ℕ} {w q : Ruled} → Part c n k m' m'' true w (λ (cpus : List Cpu) (s : State). of-selected (select-next-context k time (turn .spent) cpus s))
       → Part c n k m m''' true q (λ (cpus : List Cpu) (s : State). of-scheduled (schedule k time cpus s))
   schedule-full u = part-full (λ (cpus : List Cpu) (s : State). of-scheduled (schedule k time cpus s)) (next-part u) (next-full k time)
 
-  pub schedule-room : {m'' m''' : List ℕ} {w : Ruled} → Part c n k m' m'' false w (λ (cpus : List Cpu) (s : State). of-selected (select-next-context k time (turn .elapsed) cpus s))
+  pub schedule-room : {m'' m''' : List ℕ} {w : Ruled} → Part c n k m' m'' false w (λ (cpus : List Cpu) (s : State). of-selected (select-next-context k time (turn .spent) cpus s))
       → Staged c n k m'' m''' false (λ (s : State). handed time (turn .«was_idle») (w .who) s)
       → Part c n k m m''' false w (λ (cpus : List Cpu) (s : State). of-scheduled (schedule k time cpus s))
   unfolding schedule

@@ -7,6 +7,8 @@ use Prim.Native.Nat.{ℕ, _+_, _<_, _≤_}
 use native.Mathlib.Omega.{arith}
 use lib.ListN.{length, getD, set}
 use Rattle.columns.specs.Common.{fold}
+use Rattle.ticks.specs.Ticks.{max-ticks}
+use Rattle.ticks.proofs.Laws.{ticks-high}
 use Rattle.percpu.specs.Cpu.{Cpu}
 use Rattle.machine.specs.Machine.{Machine, cpu-at, no-cpu}
 use Rattle.machine.specs.Encode.{encode}
@@ -16,9 +18,9 @@ use Rattle.model.specs.State.{State, state-of, on-cpu}
 use Rattle.model.specs.Turn.{count-switch, elapsed, times, before-selection}
 use Rattle.model.specs.Wakeup.{Wakeup, WakeupResult, dropped, locked, woken-only, entered, wakeup-result, put-back, enter, wake-as, serve-wakeup, serve-wakeups, drained, wakeups}
 use Rattle.stages.specs.Stage.{put-state, Stage, Staged, CpuBelow, StateBelow, Below, Ranged}
-use Rattle.stages.proofs.Compose.{stage-then, stage-full, stage-as}
+use Rattle.stages.proofs.Compose.{state-put, stage-then, stage-full, stage-as}
 use Rattle.turn.specs.declared.timing.Turn.{Turn}
-use Rattle.turn.specs.Turn.{turn-of}
+use Rattle.turn.specs.Turn.{turn-of, InTime}
 use Rattle.stages.proofs.Kept.{cpu-more}
 use Rattle.turn.proofs.Bounded.{times-below}
 use Rattle.wakeup.proofs.Bounded.{serve-wakeups-below}
@@ -92,10 +94,14 @@ module _ {c n k time : ℕ} {m m' : List ℕ} (h : k < c) (a : CanBegin c n k ti
         ipi-name = o .ipi-name;
         keys-rise = o .keys-rise;
         timers-rise = o .timers-rise;
+        remainder = o .remainder;
       }
 
   served-below : StateBelow n t-counted b-woken (serve-wakeups time counted)
   served-below = serve-wakeups-below time counted counted-fits (a .counted)
+
+  served-time : elapsed time ((serve-wakeups time counted) .cpu) ≤ max-elapsed
+  served-time = subst (λ (x : Turn). x .spent .elapsed ≤ max-elapsed) (sym (turn-kept time counted)) (a .in-time)
 
   module _ {m'' : List ℕ} where
     pub begun-full : {r : Turn} → Staged c n k m' m'' true (λ (s : State). serve-wakeups time s)
@@ -110,17 +116,32 @@ module _ {c n k time : ℕ} {m m' : List ℕ} (h : k < c) (a : CanBegin c n k ti
       pub served-ranged : Ranged c n t-counted b-woken m''
       served-ranged = ranged-at t-counted b-woken (omega arith) (omega arith) h (stage-then h t u) start served-below
 
+      pub served-in-time : InTime c n k time m''
+      served-in-time =
+          let z = stage-then h t u
+          in let y = z .stage (a .M) (a .eq) (a .fits)
+          in let l : k < length (a .M .cpus) = omega (arith, a .fits .cpus)
+          in let w : state-of k (put-state k (serve-wakeups time counted) (a .M)) ≡ serve-wakeups time counted = state-put k (serve-wakeups time counted) (a .M) l (sym (y .room))
+          in record {
+            M = put-state k (serve-wakeups time counted) (a .M);
+            eq = y .after refl;
+            fits = y .fits refl;
+            in-time = subst (λ (s : State). elapsed time (s .cpu) ≤ max-elapsed) (sym w) served-time;
+          }
+
       -- v: times are kept
       module _ {m''' : List ℕ} {r : Turn} (v : Stage c n k m'' m''' false r (λ (s : State). on-cpu (times time) s) (λ (s : State). turn-of time (s .cpu))) where
         pub begun : Stage c n k m m''' false r (λ (s : State). before-selection time s) (λ (s : State). turn-of time (s .cpu))
         unfolding before-selection
         begun = stage-as (stage-then h (stage-then h t u) v) (λ M e o. (refl, λ z y. y ∙ turn-kept time (on-cpu count-switch (state-of k M))))
 
-        pub begun-elapsed : r .elapsed ≤ max-elapsed
-        begun-elapsed = subst (λ (x : Turn). x .elapsed ≤ max-elapsed) (sym (begun .stage (a .M) (a .eq) (a .fits) .answer refl)) (a .in-time)
+        pub begun-ticks : r .spent .ticks ≤ max-ticks
+        begun-ticks =
+            subst (λ (x : Turn). x .spent .ticks ≤ max-ticks) (sym (begun .stage (a .M) (a .eq) (a .fits) .answer refl))
+            (ticks-high (elapsed time (cpu-at (a .M) k)) (cpu-at (a .M) k .remainder) (a .in-time) (a .fits .cpu k h .remainder))
 
         pub begun-ranged : time ≤ max-number → Ranged c n t-timed b-woken m'''
         unfolding before-selection
         begun-ranged l =
             ranged-at t-timed b-woken (omega arith) (omega arith) h begun start
-            (times-below time (serve-wakeups time counted) (omega arith) (subst (λ (x : Turn). x .elapsed ≤ max-elapsed) (sym (turn-kept time counted)) (a .in-time)) served-below)
+            (times-below time (serve-wakeups time counted) (omega arith) served-time served-below)

@@ -49,7 +49,8 @@ pub fn schedule(m: &mut [u64], c: usize, n: usize, k: usize, time: u64) -> Next
         return selecting::no_room();
     }
     let turn = begun.turn;
-    let next = selecting::select_next_context(m, c, n, k, time, turn.elapsed);
+    let spent = turn.spent;
+    let next = selecting::select_next_context(m, c, n, k, time, spent);
     if next.full {
         return selecting::no_room();
     }

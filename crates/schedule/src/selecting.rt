@@ -2,6 +2,7 @@
 use crate::choosing;
 use answer::Rule;
 use picked::Picked;
+use ticks::Spent;
 ghost use mathlib.Core.Path.{_≡_};
 ghost use mathlib.Core.Bool.{true, false};
 ghost use mathlib.Core.List.{List};
@@ -14,7 +15,7 @@ ghost use Rattle.stages.specs.Stage.{Ranged};
 ghost use Rattle.picked.specs.Names.{picked-of};
 ghost use Rattle.schedule.specs.Part.{ruled, of-selected, Part};
 ghost use Rattle.schedule.specs.Named.{NamedBelow};
-ghost use Rattle.numbers.specs.Limits.{max-elapsed};
+ghost use Rattle.ticks.specs.Ticks.{max-ticks};
 ghost use Rattle.stages.specs.Bounds.{t-timed, b-woken, b-charged, b-advanced};
 
 pub struct Next {
@@ -36,11 +37,11 @@ pub fn no_room() -> Next
 }
 
 // After the holder is charged.
-fn selected(m: &mut [u64], c: usize, n: usize, k: usize, time: u64, elapsed: u64) -> Next
+fn selected(m: &mut [u64], c: usize, n: usize, k: usize, time: u64, spent: Spent) -> Next
     requires { ⌜ Image c n (now m) ⌝ }
-    requires { ⌜ (k < c) × (elapsed ≤ max-elapsed) ⌝ }
+    requires { ⌜ (k < c) × (spent .ticks ≤ max-ticks) ⌝ }
     requires { ⌜ Ranged c n t-timed b-charged (now m) ⌝ }
-    ensures { λ r. ⌜ Part c n k (now (m .entry)) (now (m .exit)) (r .full) (ruled (picked-of (r .context)) (r .rule)) (λ (cpus : List Cpu) (s : State). of-selected (selected k time elapsed cpus s)) ⌝ }
+    ensures { λ r. ⌜ Part c n k (now (m .entry)) (now (m .exit)) (r .full) (ruled (picked-of (r .context)) (r .rule)) (λ (cpus : List Cpu) (s : State). of-selected (selected k time spent cpus s)) ⌝ }
     ensures { λ r. ⌜ (r .full ≡ false → NamedBelow n (picked-of (r .context)) × Ranged c n t-timed b-advanced (now (m .exit))) ⌝ }
 {
     let runs = choosing::prev_runnable(m, c, n, k);
@@ -51,8 +52,7 @@ fn selected(m: &mut [u64], c: usize, n: usize, k: usize, time: u64, elapsed: u64
     let winner = moved.winner;
     let rule = moved.rule;
     let won = winner.is_some();
-    let gained = ticks::elapsed_ticks(elapsed);
-    if handover::settle(m, c, n, k, gained, won, runs) {
+    if handover::settle(m, c, n, k, spent.ticks, won, runs) {
         return no_room();
     }
     Next {
@@ -68,16 +68,16 @@ pub fn select_next_context(
     n: usize,
     k: usize,
     time: u64,
-    elapsed: u64,
+    spent: Spent,
 ) -> Next
     requires { ⌜ Image c n (now m) ⌝ }
-    requires { ⌜ (k < c) × (elapsed ≤ max-elapsed) ⌝ }
+    requires { ⌜ (k < c) × (spent .ticks ≤ max-ticks) ⌝ }
     requires { ⌜ Ranged c n t-timed b-woken (now m) ⌝ }
-    ensures { λ r. ⌜ Part c n k (now (m .entry)) (now (m .exit)) (r .full) (ruled (picked-of (r .context)) (r .rule)) (λ (cpus : List Cpu) (s : State). of-selected (select-next-context k time elapsed cpus s)) ⌝ }
+    ensures { λ r. ⌜ Part c n k (now (m .entry)) (now (m .exit)) (r .full) (ruled (picked-of (r .context)) (r .rule)) (λ (cpus : List Cpu) (s : State). of-selected (select-next-context k time spent cpus s)) ⌝ }
     ensures { λ r. ⌜ (r .full ≡ false → NamedBelow n (picked-of (r .context)) × Ranged c n t-timed b-advanced (now (m .exit))) ⌝ }
 {
-    if turn::charge_holder(m, c, n, k, elapsed) {
+    if turn::charge_holder(m, c, n, k, spent) {
         return no_room();
     }
-    selected(m, c, n, k, time, elapsed)
+    selected(m, c, n, k, time, spent)
 }

@@ -17,8 +17,10 @@ use Rattle.entries.specs.Queue.{queue-insert, queue-remove}
 use Rattle.percpu.specs.declared.PercpuBlock.{PercpuBlock}
 use Rattle.percpu.specs.Cpu.{Cpu}
 use Rattle.percpu.specs.Words.{block-words, block-of, block-of-words}
-use Rattle.percpu.specs.With.{cpu-block, cpu-queue, cpu-queue-len, cpu-local-wakeup-list}
+use Rattle.percpu.specs.With.{cpu-block, cpu-queue, cpu-queue-len, cpu-local-wakeup-list, cpu-remainder}
+use Rattle.percpu.specs.Places.{remainder-place}
 use Rattle.percpu.specs.Layout.{cpu-words, counts, columns}
+use Rattle.percpu.proofs.Read.{remainder-put}
 use Rattle.run_queue.specs.Put.{no-room, queue-put}
 use Rattle.wakeup_lists.proofs.Pushed.{local-listed}
 
@@ -29,6 +31,9 @@ loaded b r p e z = e ∙ ap (λ (l : List ℕ). block-of (take 21 l)) z ∙ bloc
 pub stored : (b l : List ℕ) (v : PercpuBlock) (p : Cpu) → l ≡ block-words v → b ≡ cpu-words p → putMid 0 21 b l ≡ cpu-words (cpu-block v p)
 unfolding cpu-words block-words stats-words counts columns
 stored b l v p e z = rw (e, z)
+
+pub remainder-stored : (b : List ℕ) (x : ℕ) (p : Cpu) → b ≡ cpu-words p → set b remainder-place x ≡ cpu-words (cpu-remainder x p)
+remainder-stored b x p z = rw z (remainder-put p x)
 
 -- the length published
 published-len : (p : Cpu) → set (cpu-words p) 9 (getD (cpu-words p) 21 0) ≡ cpu-words (cpu-queue-len (length (p .queue)) p)

@@ -18,7 +18,8 @@ use Rattle.entries.specs.Queue.{remove, queue-insert, queue-remove, timer-inser
 use Rattle.entries.specs.Sorted.{Sorted}
 use Rattle.percpu.specs.declared.PercpuBlock.{PercpuBlock}
 use Rattle.percpu.specs.Cpu.{Cpu}
-use Rattle.percpu.specs.With.{cpu-block, cpu-queue, cpu-queue-len, cpu-timers, cpu-local-wakeup-list}
+use Rattle.percpu.specs.With.{cpu-block, cpu-queue, cpu-queue-len, cpu-timers, cpu-local-wakeup-list, cpu-remainder}
+use Rattle.ticks.specs.Ticks.{max-remainder}
 use Rattle.percpu.specs.Layout.{no-entry, no-timer}
 use Rattle.machine.specs.Shape.{EntryFits, CpuFits}
 use Rattle.model.proofs.Sorted.{all-insert, all-remove, insert-sorted, remove-sorted}
@@ -52,6 +53,7 @@ fits-queue n len q p o l a s =
       ipi-name = o .ipi-name;
       keys-rise = s;
       timers-rise = o .timers-rise;
+      remainder = o .remainder;
     }
 
 entries-fit : (n : ℕ) (p : Cpu) → CpuFits n p → All (EntryFits n) (p .queue)
@@ -92,6 +94,26 @@ fits-block n b p f o =
       ipi-name = o .ipi-name;
       keys-rise = o .keys-rise;
       timers-rise = o .timers-rise;
+      remainder = o .remainder;
+    }
+
+pub fits-remainder : (n x : ℕ) (p : Cpu) → x ≤ max-remainder → CpuFits n p → CpuFits n (cpu-remainder x p)
+fits-remainder n x p h o =
+    record {
+      current = o .current;
+      sched = o .sched;
+      idle = o .idle;
+      queue = o .queue;
+      timers = o .timers;
+      local = o .local;
+      ipi = o .ipi;
+      entry = o .entry;
+      timer = o .timer;
+      local-name = o .local-name;
+      ipi-name = o .ipi-name;
+      keys-rise = o .keys-rise;
+      timers-rise = o .timers-rise;
+      remainder = h;
     }
 
 pub fits-timers : (n : ℕ) (l : List Timer) (p : Cpu) → CpuFits n p → length l ≤ 64 → All (λ (t : Timer). t .«context_ref» < n) l → Sorted sooner l → CpuFits n (cpu-timers l p)
@@ -110,6 +132,7 @@ fits-timers n l p o b a s =
       ipi-name = o .ipi-name;
       keys-rise = o .keys-rise;
       timers-rise = s;
+      remainder = o .remainder;
     }
 
 timer-names : (n : ℕ) (p : Cpu) → CpuFits n p → All (λ (t : Timer). t .«context_ref» < n) (p .timers)
@@ -144,6 +167,7 @@ fits-local n x p h t o =
       ipi-name = o .ipi-name;
       keys-rise = o .keys-rise;
       timers-rise = o .timers-rise;
+      remainder = o .remainder;
     }
   where
     all-more : (l : List ℕ) → All (λ (y : ℕ). y < n) l → All (λ (y : ℕ). y < n) (l ++ (x ∷ []))

@@ -24,9 +24,9 @@ use Rattle.entries.specs.Sorted.{Sorted}
 use Rattle.percpu.specs.declared.PercpuBlock.{PercpuBlock}
 use Rattle.percpu.specs.Cpu.{Cpu}
 use Rattle.percpu.specs.Words.{block-words}
-use Rattle.percpu.specs.With.{cpu-block, cpu-queue, cpu-queue-len, cpu-timers, cpu-local-wakeup-list}
+use Rattle.percpu.specs.With.{cpu-block, cpu-queue, cpu-queue-len, cpu-timers, cpu-local-wakeup-list, cpu-remainder}
 use Rattle.percpu.specs.Layout.{cpu-words, counts, entry-at, no-entry}
-use Rattle.percpu.proofs.Read.{entry-is}
+use Rattle.percpu.proofs.Read.{entry-is, remainder-is}
 use Rattle.run_queue.specs.Put.{no-room}
 use Rattle.timers.specs.Put.{timer-put, newest, no-room as no-timer-room}
 use Rattle.machine.specs.Machine.{Machine, cpu-at, no-cpu, set-context, set-cpu}
@@ -39,8 +39,9 @@ use Rattle.model.specs.State.{State, state-of, put-context, on-cpu, insert-entr
 use Rattle.stages.specs.Stage.{put-state, StageAt, Stage, Staged}
 use Rattle.stages.specs.Read.{BlockFits, EntryRead}
 use Rattle.stages.proofs.Compose.{staged}
-use Rattle.stages.proofs.Fitting.{fits-inserted, fits-removed, fits-block, fits-timers-left, fits-timer-inserted, fits-local}
-use Rattle.percpu.specs.Places.{queue-count, timers-count, block-size}
+use Rattle.stages.proofs.Fitting.{fits-inserted, fits-removed, fits-block, fits-remainder, fits-timers-left, fits-timer-inserted, fits-local}
+use Rattle.percpu.specs.Places.{queue-count, timers-count, remainder-place, block-size}
+use Rattle.ticks.specs.Ticks.{max-remainder}
 
 -- the count of the queue
 module _ {c n : ℕ} (m : List ℕ) (k : ℕ) (h : k < c) (M : Machine) (e : m ≡ encode M) (o : Fits c n M) where
@@ -51,6 +52,12 @@ module _ {c n : ℕ} (m : List ℕ) (k : ℕ) (h : k < c) (M : Machine) (e : m �
   pub timers-counted : getD m (cpu-place n k + timers-count) 0 ≡ length (cpu-at M k .timers)
   unfolding cpu-words block-words stats-words counts
   timers-counted = block-word m k M e o 22 h (omega arith)
+
+  pub remainder-read : getD m (cpu-place n k + remainder-place) 0 ≡ cpu-at M k .remainder
+  remainder-read = block-word m k M e o remainder-place h (omega arith) ∙ remainder-is (cpu-at M k)
+
+pub remainder-small : {c n : ℕ} {m : List ℕ} (i : Image c n m) (k : ℕ) → k < c → getD m (cpu-place n k + remainder-place) 0 ≤ max-remainder
+remainder-small {m = m} i k h = rw (remainder-read m k h (i .M) (i .eq) (i .fits)) (i .fits .cpu k h .remainder)
 
 pub queue-small : {c n : ℕ} {m : List ℕ} (i : Image c n m) (k : ℕ) → k < c → getD m (cpu-place n k + queue-count) 0 ≤ 64
 queue-small {m = m} i k h = rw (queue-counted m k h (i .M) (i .eq) (i .fits)) (i .fits .cpu k h .queue)
@@ -95,6 +102,9 @@ module _ {c n : ℕ} {m : List ℕ} (i : Image c n m) (k : ℕ) {at : ℕ} (z : 
 
   pub staged-block : (b : PercpuBlock) → BlockFits n b → ((p : Cpu) → lent ≡ cpu-words p → l ≡ cpu-words (cpu-block b p)) → Staged c n k m back false (λ (s : State). on-cpu (λ (p : Cpu). cpu-block b p) s)
   staged-block b q f = staged-cpu (λ (p : Cpu). cpu-block b p) (λ p o z. f p z) (λ p o. fits-block n b p q o)
+
+  pub staged-remainder : (x : ℕ) → x ≤ max-remainder → ((p : Cpu) → lent ≡ cpu-words p → l ≡ cpu-words (cpu-remainder x p)) → Staged c n k m back false (λ (s : State). on-cpu (cpu-remainder x) s)
+  staged-remainder x q f = staged-cpu (cpu-remainder x) (λ p o z. f p z) (λ p o. fits-remainder n x p q o)
 
   pub staged-entry : (r : Bool) (e : Entry) → EntryFits n e
       → ((p : Cpu) → lent ≡ cpu-words p → length (p .queue) ≤ 64 → Sorted entry-before (p .queue)

@@ -13,7 +13,7 @@ ghost use Rattle.entries.specs.Order.{entry-before};
 ghost use Rattle.entries.specs.Queue.{queue-insert, queue-remove};
 ghost use Rattle.entries.specs.Sorted.{Sorted};
 ghost use Rattle.percpu.specs.Cpu.{Cpu};
-ghost use Rattle.percpu.specs.With.{cpu-block, cpu-queue, cpu-queue-len};
+ghost use Rattle.percpu.specs.With.{cpu-block, cpu-queue, cpu-queue-len, cpu-remainder};
 ghost use Rattle.percpu.specs.Layout.{cpu-words};
 ghost use Rattle.run_queue.specs.Put.{no-room};
 ghost use Rattle.percpu.specs.Places.{queue-count, block-size};
@@ -31,6 +31,13 @@ pub fn store(b: &mut [u64], v: PercpuBlock)
     ensures { λ r. ⌜ ((p : Cpu) → now (b .entry) ≡ cpu-words p → now (b .exit) ≡ cpu-words (cpu-block v p)) ⌝ }
 {
     percpu::store_block(&mut b[0..places::SCALARS_SIZE], v);
+}
+
+pub fn store_remainder(b: &mut [u64], x: u64)
+    requires { ⌜ length (now b) ≡ block-size ⌝ }
+    ensures { λ r. ⌜ ((p : Cpu) → now (b .entry) ≡ cpu-words p → now (b .exit) ≡ cpu-words (cpu-remainder x p)) ⌝ }
+{
+    b[places::REMAINDER] = x;
 }
 
 // The queue's length is published.

@@ -13,8 +13,9 @@ ghost use mathlib.Core.Bool.{Bool, true, false};
 ghost use Prim.Native.Nat.{ℕ, _+_, _*_, _<_, _≤_};
 ghost use lib.ListN.{length, getD};
 ghost use Rattle.percpu.specs.Cpu.{Cpu};
-ghost use Rattle.percpu.specs.With.{cpu-block};
+ghost use Rattle.percpu.specs.With.{cpu-block, cpu-remainder};
 ghost use Rattle.percpu.specs.Layout.{no-entry};
+ghost use Rattle.ticks.specs.Ticks.{max-remainder};
 ghost use Rattle.machine.specs.Machine.{Machine, cpu-at};
 ghost use Rattle.machine.specs.Encode.{encode, cpu-place};
 ghost use Rattle.machine.specs.Shape.{ContextFits, EntryFits, Image, Fits};
@@ -42,6 +43,26 @@ pub fn store_block(m: &mut [u64], c: usize, n: usize, k: usize, b: PercpuBlock)
     let at = machine::cpu_place(n, k);
     let end = at + places::BLOCK_SIZE;
     block::store(&mut m[at..end], b);
+}
+
+// What the last tick conversion left over.
+pub fn remainder(m: &[u64], c: usize, n: usize, k: usize) -> u64
+    requires { ⌜ Image c n (now m) ⌝ }
+    requires { ⌜ k < c ⌝ }
+    ensures { λ r. ⌜ (r ≤ max-remainder) × ((M : Machine) → now (m .entry) ≡ encode M → Fits c n M → r ≡ cpu-at M k .remainder) ⌝ }
+{
+    let at = machine::cpu_place(n, k) + places::REMAINDER;
+    m[at]
+}
+
+pub fn store_remainder(m: &mut [u64], c: usize, n: usize, k: usize, x: u64)
+    requires { ⌜ Image c n (now m) ⌝ }
+    requires { ⌜ (k < c) × (x ≤ max-remainder) ⌝ }
+    ensures { λ r. ⌜ Staged c n k (now (m .entry)) (now (m .exit)) false (λ (s : State). on-cpu (cpu-remainder x) s) ⌝ }
+{
+    let at = machine::cpu_place(n, k);
+    let end = at + places::BLOCK_SIZE;
+    block::store_remainder(&mut m[at..end], x);
 }
 
 pub fn store_context(m: &mut [u64], c: usize, n: usize, k: usize, x: usize, q: Context)

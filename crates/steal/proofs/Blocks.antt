@@ -66,7 +66,7 @@ marked-is b p z h = rw (h, z, count-word p, none-is-empty (p .queue)) (marked p)
 
 -- a CPU whose scalars change but not its names
 same-fits : (n : ℕ) (p p' : Cpu) → p' .block .«current_ctxt» ≡ p .block .«current_ctxt» → p' .block .«sched_ctxt» ≡ p .block .«sched_ctxt» → p' .block .«idle_ctxt» ≡ p .block .«idle_ctxt»
-    → p' ≡ record { block = p' .block; queue = p .queue; timers = p .timers; «local_wakeup_list» = p .«local_wakeup_list»; «ipi_context_wakeup_list» = p .«ipi_context_wakeup_list» }
+    → p' ≡ record { block = p' .block; queue = p .queue; timers = p .timers; «local_wakeup_list» = p .«local_wakeup_list»; «ipi_context_wakeup_list» = p .«ipi_context_wakeup_list»; remainder = p .remainder }
     → CpuFits n p → CpuFits n p'
 same-fits n p p' a b d e o =
     subst (CpuFits n) (sym e)
@@ -84,6 +84,7 @@ same-fits n p p' a b d e o =
       ipi-name = o .ipi-name;
       keys-rise = o .keys-rise;
       timers-rise = o .timers-rise;
+      remainder = o .remainder;
     })
 
 pub fits-weight : (n w : ℕ) (p : Cpu) → CpuFits n p → CpuFits n (cpu-total-weight w p)

@@ -12,8 +12,8 @@ use Rattle.context.specs.Status.{is-runnable}
 use Rattle.cpu_stats.specs.declared.CpuState.{CpuState}
 use Rattle.cpu_stats.specs.declared.CpuState.the-variants.{Idle, Kernel, User}
 use Rattle.cpu_stats.specs.declared.CpuStats.{CpuStats}
-use Rattle.ticks.specs.Ticks.{ticks, max-ticks}
-use Rattle.ticks.proofs.Laws.{ticks-high}
+use Rattle.ticks.specs.declared.Spent.{Spent}
+use Rattle.ticks.specs.Ticks.{max-ticks}
 use Rattle.weights.specs.Weights.{weight, full-slice, min-weight}
 use Rattle.weights.proofs.Table.{weight-low}
 use Rattle.charging.specs.Charge.{charged, stopped, yield-bound}
@@ -96,24 +96,23 @@ times-below {n} {t} {b} time s l e o =
     }
 
 -- a charge is divided by a weight of at least 15
-module _ (v e : ℕ) (q : Context) (l : e ≤ max-elapsed) (p : q .prio ≤ 39) (r : q .«rem_slice» ≤ full-slice) where
+module _ (v : ℕ) (e : Spent) (q : Context) (l : e .ticks ≤ max-ticks) (p : q .prio ≤ 39) (r : q .«rem_slice» ≤ full-slice) where
   heavy : min-weight ≤ weight (q .prio)
   heavy = weight-low (q .prio) (omega arith)
 
-  turn-small : ticks e / weight (q .prio) ≤ 143280097139511575
+  turn-small : e .ticks / weight (q .prio) ≤ 143280097139511575
   turn-small =
-      let h : ticks e ≤ max-ticks = ticks-high e (omega arith)
-      in let w : min-weight ≤ weight (q .prio) = heavy
+      let w : min-weight ≤ weight (q .prio) = heavy
       in div-le-of-le-mul (weight (q .prio)) (omega arith)
 
-  slice-small : (q .«rem_slice» - ticks e) / weight (q .prio) ≤ 644245095
+  slice-small : (q .«rem_slice» - e .ticks) / weight (q .prio) ≤ 644245095
   slice-small = let w : min-weight ≤ weight (q .prio) = heavy in div-le-of-le-mul (weight (q .prio)) (omega arith)
 
   vtime-small : charged v e q .vtime ≤ max (q .vtime) v + 143280097783756670
   unfolding charged
   vtime-small =
-      by-test (ltb e yield-bound) (λ y. rw y (omega (arith, turn-small, slice-small)))
-      (λ n. rw n (by-test (eqb (q .«rem_slice» - ticks e) 0) (λ s. rw s (omega (arith, turn-small))) (λ s. rw s (omega (arith, turn-small)))))
+      by-test (ltb (e .elapsed) yield-bound) (λ y. rw y (omega (arith, turn-small, slice-small)))
+      (λ n. rw n (by-test (eqb (q .«rem_slice» - e .ticks) 0) (λ s. rw s (omega (arith, turn-small))) (λ s. rw s (omega (arith, turn-small)))))
 
   charged-below : {t b : ℕ} → v ≤ b → ContextBelow t b q → ContextBelow t (b + 288230376151711744) (charged v e q)
   charged-below {t} {b} h o =
@@ -176,7 +175,7 @@ module _ {c n t b : ℕ} (s : State) (f : CpuFits n (s .cpu)) (g : (x : ℕ) →
   unfolding holder-stopped
   stop-below = pick (StateBelow n t b) ((holder s) .«has_wake») (λ e. newest-kept (inactive s) inactive-below _ (held .wake)) (λ e. inactive-below)
 
-  pub charge-below : (e : ℕ) → e ≤ max-elapsed → StateBelow n t (b + 288230376151711744) (charge-holder e s)
+  pub charge-below : (e : Spent) → e .ticks ≤ max-ticks → StateBelow n t (b + 288230376151711744) (charge-holder e s)
   unfolding charge-holder
   charge-below e l =
       let h : t ≤ t = omega arith

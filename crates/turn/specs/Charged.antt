@@ -4,6 +4,7 @@ use Prim.Native.Nat.{ℕ, _-_}
 use Rattle.columns.specs.Common.{if_then_else_}
 use Rattle.context.specs.declared.Context.{Context}
 use Rattle.context.specs.Status.{is-runnable}
+use Rattle.ticks.specs.declared.Spent.{Spent}
 use Rattle.weights.specs.Weights.{weight}
 use Rattle.charging.specs.Charge.{charged, stopped}
 use Rattle.percpu.specs.declared.PercpuBlock.{PercpuBlock}
@@ -21,6 +22,6 @@ left x b q s = put-context x (stopped q) (on-cpu (λ (p : Cpu). cpu-block (weigh
 unfoldable pub stopped-by : ℕ → PercpuBlock → Context → State → State
 stopped-by x b q s = if q .«has_wake» then insert-newest-timer (record { wake = q .wake; «context_ref» = x }) (left x b q s) else left x b q s
 
-unfoldable pub charged-by : ℕ → ℕ → PercpuBlock → Context → State → State
-charged-by elapsed x b q s =
-    if is-runnable (q .status) then put-context x (charged (b .v) elapsed q) s else stopped-by x b q s
+unfoldable pub charged-by : Spent → ℕ → PercpuBlock → Context → State → State
+charged-by spent x b q s =
+    if is-runnable (q .status) then put-context x (charged (b .v) spent q) s else stopped-by x b q s

@@ -2,6 +2,7 @@
 use context::Context;
 use entries::Timer;
 use percpu::PercpuBlock;
+use ticks::Spent;
 ghost use mathlib.Core.Path.{_≡_};
 ghost use mathlib.Core.Bool.{Bool, false};
 ghost use Prim.Native.Nat.{ℕ, _<_, _≤_};
@@ -12,7 +13,7 @@ ghost use Rattle.model.specs.Turn.{charge-holder};
 ghost use Rattle.stages.specs.Stage.{Staged, Ranged};
 ghost use Rattle.stages.specs.Read.{BlockFits};
 ghost use Rattle.turn.specs.Charged.{weight-left, left, stopped-by, charged-by};
-ghost use Rattle.numbers.specs.Limits.{max-elapsed};
+ghost use Rattle.ticks.specs.Ticks.{max-ticks};
 ghost use Rattle.stages.specs.Bounds.{t-timed, b-woken};
 
 // The total weight without a context that stops.
@@ -73,7 +74,7 @@ fn charge_context(
     c: usize,
     n: usize,
     k: usize,
-    elapsed: u64,
+    spent: Spent,
     x: usize,
     b: PercpuBlock,
     q: Context,
@@ -82,12 +83,12 @@ fn charge_context(
     requires { ⌜ (k < c) × (x < n) ⌝ }
     requires { ⌜ BlockFits n b ⌝ }
     requires { ⌜ ContextFits c q ⌝ }
-    requires { ⌜ Chargeable (b .v) elapsed q ⌝ }
-    ensures { λ r. ⌜ Staged c n k (now (m .entry)) (now (m .exit)) r (λ (s : State). charged-by elapsed x b q s) ⌝ }
+    requires { ⌜ Chargeable (b .v) spent q ⌝ }
+    ensures { λ r. ⌜ Staged c n k (now (m .entry)) (now (m .exit)) r (λ (s : State). charged-by spent x b q s) ⌝ }
 {
     let status = q.status;
     if status.is_runnable() {
-        let charged = charging::charge_runnable(q, b.v, elapsed);
+        let charged = charging::charge_runnable(q, b.v, spent);
         stages::store_context(m, c, n, k, x, charged);
         return false;
     }
@@ -95,11 +96,11 @@ fn charge_context(
 }
 
 // True if there is no room for the timer of a holder that stopped.
-pub fn charge_holder(m: &mut [u64], c: usize, n: usize, k: usize, elapsed: u64) -> bool
+pub fn charge_holder(m: &mut [u64], c: usize, n: usize, k: usize, spent: Spent) -> bool
     requires { ⌜ Image c n (now m) ⌝ }
-    requires { ⌜ (k < c) × (elapsed ≤ max-elapsed) ⌝ }
+    requires { ⌜ (k < c) × (spent .ticks ≤ max-ticks) ⌝ }
     requires { ⌜ Ranged c n t-timed b-woken (now m) ⌝ }
-    ensures { λ r. ⌜ Staged c n k (now (m .entry)) (now (m .exit)) r (λ (s : State). charge-holder elapsed s) ⌝ }
+    ensures { λ r. ⌜ Staged c n k (now (m .entry)) (now (m .exit)) r (λ (s : State). charge-holder spent s) ⌝ }
 {
     let b = stages::load_block(m, c, n, k);
     if b.sched_ctxt == b.idle_ctxt {
@@ -107,5 +108,5 @@ pub fn charge_holder(m: &mut [u64], c: usize, n: usize, k: usize, elapsed: u64) 
     }
     let x = numbers::index(b.sched_ctxt);
     let q = machine::load(m, c, n, x);
-    charge_context(m, c, n, k, elapsed, x, b, q)
+    charge_context(m, c, n, k, spent, x, b, q)
 }

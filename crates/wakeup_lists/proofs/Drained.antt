@@ -17,7 +17,7 @@ use Rattle.cpu_stats.specs.Words.{stats-words}
 use Rattle.percpu.specs.Cpu.{Cpu}
 use Rattle.percpu.specs.With.{cpu-local-wakeup-list, cpu-ipi-context-wakeup-list}
 use Rattle.percpu.specs.Words.{block-words}
-use Rattle.percpu.specs.Layout.{cpu-words, counts, columns, front-length}
+use Rattle.percpu.specs.Layout.{cpu-words, counts, columns, last-words, front-length}
 use Rattle.percpu.proofs.Read.{ipi-is}
 use Rattle.wakeup_lists.proofs.Pushed.{Listed, local-listed, ipi-listed}
 use Rattle.percpu.specs.Places.{local-wakeup-list-column, ipi-context-wakeup-list-column}
@@ -67,9 +67,9 @@ pub cleared : (b a : List ℕ) (c : Cpu) → b ≡ cpu-words c → a ≡ replica
     → set (splice b ipi-context-wakeup-list-column 64 a) 24 0 ≡ cpu-words (cpu-ipi-context-wakeup-list [] c)
 unfolding cpu-words pad
 cleared b a c e z =
-    let i : splice (cpu-words c) ipi-context-wakeup-list-column 64 (replicate 64 0) ≡ (block-words (c .block) ++ counts c) ++ flat (columns (cpu-ipi-context-wakeup-list [] c))
-    = col-splice (block-words (c .block) ++ counts c) (columns c) 25 9 (front-length c) (ipi-listed c .place) []
-    ∙ ap (λ (k : List (List ℕ)). (block-words (c .block) ++ counts c) ++ flat k) (sym (ipi-listed c .other []))
+    let i : splice (cpu-words c) ipi-context-wakeup-list-column 64 (replicate 64 0) ≡ (block-words (c .block) ++ counts c) ++ (flat (columns (cpu-ipi-context-wakeup-list [] c)) ++ last-words c)
+    = col-splice (block-words (c .block) ++ counts c) (last-words c) (columns c) 25 9 (front-length c) (ipi-listed c .place) []
+    ∙ ap (λ (k : List (List ℕ)). (block-words (c .block) ++ counts c) ++ (flat k ++ last-words c)) (sym (ipi-listed c .other []))
     in rw (z, e) (ap (λ (m : List ℕ). set m 24 0) i ∙ ipi-listed c .counted [])
 
 -- and the local list's
@@ -77,7 +77,7 @@ pub cleared-local : (b a : List ℕ) (c : Cpu) → b ≡ cpu-words c → a ≡ r
     → set (splice b local-wakeup-list-column 64 a) 23 0 ≡ cpu-words (cpu-local-wakeup-list [] c)
 unfolding cpu-words pad
 cleared-local b a c e z =
-    let i : splice (cpu-words c) local-wakeup-list-column 64 (replicate 64 0) ≡ (block-words (c .block) ++ counts c) ++ flat (columns (cpu-local-wakeup-list [] c))
-    = col-splice (block-words (c .block) ++ counts c) (columns c) 25 8 (front-length c) (local-listed c .place) []
-    ∙ ap (λ (k : List (List ℕ)). (block-words (c .block) ++ counts c) ++ flat k) (sym (local-listed c .other []))
+    let i : splice (cpu-words c) local-wakeup-list-column 64 (replicate 64 0) ≡ (block-words (c .block) ++ counts c) ++ (flat (columns (cpu-local-wakeup-list [] c)) ++ last-words c)
+    = col-splice (block-words (c .block) ++ counts c) (last-words c) (columns c) 25 8 (front-length c) (local-listed c .place) []
+    ∙ ap (λ (k : List (List ℕ)). (block-words (c .block) ++ counts c) ++ (flat k ++ last-words c)) (sym (local-listed c .other []))
     in rw (z, e) (ap (λ (m : List ℕ). set m 23 0) i ∙ local-listed c .counted [])

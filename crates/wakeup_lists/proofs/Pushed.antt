@@ -12,14 +12,14 @@ use Rattle.cpu_stats.specs.Words.{stats-words}
 use Rattle.percpu.specs.Cpu.{Cpu}
 use Rattle.percpu.specs.With.{cpu-local-wakeup-list, cpu-ipi-context-wakeup-list}
 use Rattle.percpu.specs.Words.{block-words}
-use Rattle.percpu.specs.Layout.{cpu-words, counts, columns, front-length}
+use Rattle.percpu.specs.Layout.{cpu-words, counts, columns, last-words, front-length}
 
 -- a list of a CPU that lies in column j and is counted by a word; `put` is the CPU with another list there
 pub record Listed (c : Cpu) (j count : ℕ) (l : List ℕ) (put : List ℕ → Cpu) : Type 0 where
   pub place : j < length (columns c)
   pub column : getD (columns c) j [] ≡ l
   pub other : (k : List ℕ) → columns (put k) ≡ set (columns c) j k
-  pub counted : (k : List ℕ) → set ((block-words (c .block) ++ counts c) ++ flat (columns (put k))) count (length k) ≡ cpu-words (put k)
+  pub counted : (k : List ℕ) → set ((block-words (c .block) ++ counts c) ++ (flat (columns (put k)) ++ last-words c)) count (length k) ≡ cpu-words (put k)
   pub count-is : getD (cpu-words c) count 0 ≡ length l
 
 pub local-listed : (c : Cpu) → Listed c 8 23 (c .«local_wakeup_list») (λ (l : List ℕ). cpu-local-wakeup-list l c)
@@ -43,7 +43,7 @@ module _ {c : Cpu} {j count : ℕ} {l : List ℕ} {put : List ℕ → Cpu} (list
       let k : n ≡ length l = hn ∙ rw e (listed .count-is)
       in let s : length l + 1 ≡ length (l ++ (x ∷ [])) = rw (length-append)
       in let i : splice (cpu-words c) (25 + 64 * j) 64 (column-insert (part (cpu-words c) (25 + 64 * j) 64) (length l) (length l) x)
-      ≡ (block-words (c .block) ++ counts c) ++ flat (columns (put (l ++ (x ∷ []))))
-      = col-insert (block-words (c .block) ++ counts c) (columns c) 25 j (front-length c) (listed .place) (length l) (length l) x (ap length (listed .column)) (omega arith) (rw k at r)
+      ≡ (block-words (c .block) ++ counts c) ++ (flat (columns (put (l ++ (x ∷ [])))) ++ last-words c)
+      = col-insert (block-words (c .block) ++ counts c) (last-words c) (columns c) 25 j (front-length c) (listed .place) (length l) (length l) x (ap length (listed .column)) (omega arith) (rw k at r)
       ∙ rw (listed .column, insert-last l x, listed .other)
       in rw (ha, hw, e, k, s) (ap (λ (m : List ℕ). set m count (length (l ++ (x ∷ [])))) i ∙ listed .counted (l ++ (x ∷ [])))

@@ -65,6 +65,7 @@ module _ {c n : ℕ} {m : List ℕ} (i : Image c n m) (k : ℕ) {at : ℕ} (z : 
         ipi-name = o .ipi-name;
         keys-rise = o .keys-rise;
         timers-rise = o .timers-rise;
+        remainder = o .remainder;
       })
 
 -- timer j judged: r says that its context cannot be read

@@ -53,7 +53,7 @@ fn sleeps(image: &mut [u64], context: u64, wake: u64) {
 }
 
 /// The timers here after an accepted switch, by the changed build and by the kernel; all other
-/// words are the same.
+/// words are the same, but for the remainder, which only the former stores.
 fn left(image: &[u64]) -> [Timers; 2] {
     assert_eq!(check::refusal(image, &SWITCH), 0);
     let (mut ours, mut theirs) = (image.to_vec(), image.to_vec());
@@ -65,6 +65,7 @@ fn left(image: &[u64]) -> [Timers; 2] {
     let left = [&ours, &theirs].map(|image| View(image).timers(0).collect());
     for image in [&mut ours, &mut theirs] {
         put_timers(image, BLOCK, &[]);
+        image[BLOCK + b::REMAINDER] = 0;
     }
     assert_eq!(ours, theirs);
     left

@@ -8,7 +8,7 @@ use crate::{
 };
 use image::{
     Answer, Call, MAX_CONTEXTS, MAX_CPUS, OPERATIONS, RULES, TotalWeight, View, check, decision,
-    length, newest,
+    length, newest, remainder,
 };
 
 /// How many words of a generated image may be other than 0: the list stays short.
@@ -25,7 +25,7 @@ fn short(image: &[u64]) -> bool {
 
 /// Prints the calls of a recorded list, and `each` generated ones of every operation, of
 /// groups, of decisions with an unreadable due timer and of those that remove one; a twentieth
-/// as many of each rule; sums of weights.
+/// as many of each rule; sums of weights. These carry no remainder; decisions that do are last.
 pub fn calls(list: &str, seed: u64, each: u64) -> bool {
     let mut number = 0;
     let mut print = |text: String| {
@@ -38,7 +38,7 @@ pub fn calls(list: &str, seed: u64, each: u64) -> bool {
         }
     }
     let mut left = [each; OPERATIONS.len()];
-    take(Stream::new(seed), |next, _| {
+    take(Stream::new(seed).without_remainders(), |next, _| {
         let wanted = left.get_mut(next.call.operation.wrapping_sub(1) as usize);
         if let Some(left) = wanted.filter(|left| short(&next.image) && **left > 0) {
             *left -= 1;
@@ -46,7 +46,7 @@ pub fn calls(list: &str, seed: u64, each: u64) -> bool {
         }
         left.iter().any(|left| *left > 0)
     });
-    let mut groups = Groups::new(seed);
+    let mut groups = Groups::new(seed).without_remainders();
     let mut left = each;
     while left > 0 {
         let next = groups.next();
@@ -58,11 +58,12 @@ pub fn calls(list: &str, seed: u64, each: u64) -> bool {
             print(format!("g {}", line(group_case(&next.call, &next.image))));
         }
     }
-    decisions(seed, each, decision::unreadable_due, &mut print);
-    decisions(seed, each, newest::supersedes, &mut print);
+    let timers = || Stream::timers(seed).without_remainders();
+    decisions(timers(), each, decision::unreadable_due, &mut print);
+    decisions(timers(), each, newest::supersedes, &mut print);
     let mut left = [each / 20; RULES.len()];
     left[0] = 0;
-    take(Stream::rules(seed), |next, answer| {
+    take(Stream::rules(seed).without_remainders(), |next, answer| {
         let left_of = &mut left[answer.rule as usize];
         if short(&next.image) && *left_of > 0 {
             *left_of -= 1;
@@ -71,7 +72,7 @@ pub fn calls(list: &str, seed: u64, each: u64) -> bool {
         left.iter().any(|left| *left > 0)
     });
     let mut left = each;
-    take(Stream::new(seed), |next, _| {
+    take(Stream::new(seed).without_remainders(), |next, _| {
         if short(&next.image) {
             left -= 1;
             let call = TotalWeight { cpu: next.call.cpu };
@@ -79,13 +80,34 @@ pub fn calls(list: &str, seed: u64, each: u64) -> bool {
         }
         left > 0
     });
+    let carrying = Stream::rules(seed).carrying();
+    decisions(carrying, each / 2, one_more, &mut print);
+    decisions(
+        Stream::chains(seed).carrying(),
+        each / 2,
+        carried,
+        &mut print,
+    );
     true
 }
 
-/// So many decisions with timers of this sort, of short images.
-fn decisions(seed: u64, each: u64, which: fn(View, &Call) -> bool, print: &mut impl FnMut(String)) {
+fn carried(image: View, call: &Call) -> bool {
+    decision::is_made(image, call) && remainder::carried(image, call) != 0
+}
+
+fn one_more(image: View, call: &Call) -> bool {
+    remainder::one_more(image, call).is_some()
+}
+
+/// So many decisions of this sort, of short images.
+fn decisions(
+    stream: Stream,
+    each: u64,
+    which: fn(View, &Call) -> bool,
+    print: &mut impl FnMut(String),
+) {
     let mut left = each;
-    take(Stream::timers(seed), |next, _| {
+    take(stream, |next, _| {
         let (call, image) = (&next.call, &next.image);
         let passes = || check::refusal(image, call) == 0;
         if short(image) && passes() && which(View(image), call) {

@@ -1,13 +1,13 @@
-//! How many decisions had which sorts of due timers, and of timers of the holder.
+//! How many decisions had which sorts of due timers, of timers of the holder, and of remainders.
 
 use image::{
     Call, ROOM, View, block as b, context as c,
     decision::{self, Due, Record},
-    newest,
+    newest, remainder,
 };
 
 /// Sorts of decisions; one may be of several. The indented ones depart from the kernel.
-const SORTS: [&str; 17] = [
+const SORTS: [&str; 21] = [
     "held to the changed build",
     "  due timers that cannot be read",
     "    written by another CPU",
@@ -22,6 +22,10 @@ const SORTS: [&str; 17] = [
     "    not due, by a later wake",
     "    by an earlier wake",
     "    not due, one of 64: no room in the source",
+    "  a remainder is carried",
+    "    and makes one tick more",
+    "    idle is in charge, or the holder has stopped",
+    "    the total weight is 0",
     "a timer of the holder has just its wake",
     "a due timer fits, and is read by another CPU",
     "a due timer is read and no longer fits",
@@ -42,6 +46,8 @@ impl Sorts {
             .into_iter()
             .chain(unreadable(image, call, &due))
             .chain(newer(image, call))
+            .chain(carried(image, call))
+            .chain([itself(image, call)])
             .chain(readable(image, &due));
         for (count, holds) in self.0.iter_mut().zip(sorts) {
             *count += u64::from(holds);
@@ -84,17 +90,35 @@ fn unreadable(image: View, call: &Call, due: &[Due]) -> [bool; 8] {
     ]
 }
 
-fn newer(image: View, call: &Call) -> [bool; 6] {
+/// A timer that is put in is in the set already.
+fn itself(image: View, call: &Call) -> bool {
     let put = newest::put_in(image, call);
-    let itself = put.is_some_and(|put| image.timers(call.cpu as usize).any(|timer| timer == put));
+    put.is_some_and(|put| image.timers(call.cpu as usize).any(|timer| timer == put))
+}
+
+fn newer(image: View, call: &Call) -> [bool; 5] {
+    let put = newest::put_in(image, call);
     let Some(((wake, _), (old, _))) = put.zip(newest::superseded(image, call)) else {
-        return [false, false, false, false, false, itself];
+        return [false; 5];
     };
     let due = old <= call.time + 1;
     let mut stays = image.timers(call.cpu as usize).map(|timer| timer.0);
     let full = image.block(call.cpu as usize, b::TIMERS_COUNT) as usize == ROOM
         && stays.all(|wake| wake > call.time + 1);
-    [true, due, !due && old < wake, old > wake, full, itself]
+    [true, due, !due && old < wake, old > wake, full]
+}
+
+fn carried(image: View, call: &Call) -> [bool; 4] {
+    let at = |word| image.block(call.cpu as usize, word);
+    let status = image.context(at(b::SCHED_CTXT) as usize, c::STATUS);
+    let uncharged = at(b::SCHED_CTXT) == at(b::IDLE_CTXT) || status != c::RUNNABLE;
+    let carried = remainder::carried(image, call) != 0;
+    [
+        carried,
+        remainder::one_more(image, call).is_some(),
+        carried && uncharged,
+        carried && at(b::TOTAL_WEIGHT) == 0,
+    ]
 }
 
 fn readable(image: View, due: &[Due]) -> [bool; 2] {

@@ -1,14 +1,15 @@
 //! What a call must answer: rows 1 to 8 by the own reading of the table, the rest by
-//! the kernel's run: by the changed build where a due timer is unreadable or a timer put in
-//! removes another, else by the unchanged one. The rule of a decision is the one that the marks
-//! in the changed build note.
+//! the kernel's run: by the changed build where a due timer is unreadable, a timer put in removes
+//! another or a remainder is carried here, else by the unchanged one and an own reading of the
+//! remainder. Both are held to each other in every case. The rule of a decision is the one that
+//! the marks in the changed build note.
 
 use crate::ask::Ask;
 use image::Answer;
 #[cfg(feature = "oracle")]
 use {
     crate::{generate::weight, weighing},
-    image::{Call, Fault, View, block, decision, newest, rule, structure},
+    image::{Call, Fault, View, block, decision, newest, remainder, rule, structure},
 };
 
 /// The kernel's CPUs are global: one test at a time.
@@ -44,7 +45,8 @@ pub fn expected(image: &[u64], call: &impl Ask) -> Result<Expected, Contradictio
 }
 
 /// Both builds of the kernel are run on what may be a decision. The changed one must leave
-/// what the unchanged one leaves, but for the unreadable and the superseded timers.
+/// what the unchanged one leaves, but for the unreadable and the superseded timers, and for what
+/// the carried remainder adds.
 #[cfg(feature = "oracle")]
 fn run(image: &[u64], ask: &impl Ask) -> Result<Expected, Contradiction> {
     let mut after = image.to_vec();
@@ -57,14 +59,14 @@ fn run(image: &[u64], ask: &impl Ask) -> Result<Expected, Contradiction> {
     weighing::kept(weighed, &answer, &after)?;
     counted(image, call, &answer, &after)?;
     doubled(image, call, &answer, &after)?;
-    let want = by_the_source(image, call)?;
     let mut after = image.to_vec();
     let answer = known(changed::oracle::call(&mut after, call))?;
+    let want = by_the_source(image, call, answer.rule)?;
     // Only the changed text notes a rule.
     let unnamed = Answer { rule: 0, ..answer };
     if (unnamed, &after) != (want.0, &want.1) {
         return Err(Contradiction(
-            "the changed build departs from the kernel in more than the unreadable and the superseded timers".into(),
+            "the changed build departs from the kernel in more than the unreadable and the superseded timers and the carried remainder".into(),
         ));
     }
     roomy()?;
@@ -96,15 +98,21 @@ fn whole(answer: &Answer, after: &[u64]) -> Result<(), Contradiction> {
 }
 
 /// The changed build's answer, worked out from the source's own: the source finds the set
-/// without the timer that is superseded, and the unreadable ones are put back after it.
+/// without the timer that is superseded, and the unreadable ones are put back after it; what the
+/// carried remainder adds is an own reading.
 #[cfg(feature = "oracle")]
-fn by_the_source(image: &[u64], call: &Call) -> Result<(Answer, Vec<u64>), Contradiction> {
+fn by_the_source(
+    image: &[u64],
+    call: &Call,
+    rule: u64,
+) -> Result<(Answer, Vec<u64>), Contradiction> {
     let before = newest::without_superseded(View(image), call);
-    let mut after = before.clone();
+    let mut after = remainder::source_before(View(&before), call, weight);
     let answer = known(kernel::oracle::call(&mut after, call))?;
     match answer.refusal {
         0 => {
-            let after = decision::with_unreadable(View(&before), call, &after);
+            let mut after = decision::with_unreadable(View(&before), call, &after);
+            remainder::source_after(View(image), call, rule, &mut after);
             Ok((answer, after))
         }
         _ => Ok((answer, image.to_vec())),

@@ -24,6 +24,7 @@ mod replay;
 mod report;
 mod rules;
 mod run;
+mod sums;
 mod tally;
 #[cfg(feature = "oracle")]
 mod times;
@@ -47,6 +48,8 @@ fn main() -> ExitCode {
         ["chain", seed, calls] => run::chain(number(seed), number(calls)),
         ["timers", seed, count] => run::timers(number(seed), number(count)),
         ["rules", seed, count] => run::rules(number(seed), number(count)),
+        ["remainders", seed, count] => run::remainders(number(seed), number(count)),
+        ["carried", seed, calls] => run::carried(number(seed), number(calls)),
         ["groups", seed, count] => run::groups(number(seed), number(count)),
         ["totals", seed, count] => weights::totals(number(seed), number(count)),
         #[cfg(feature = "oracle")]
@@ -64,7 +67,7 @@ fn main() -> ExitCode {
         #[cfg(feature = "oracle")]
         ["answers", seed, count, to] => power::answers(number(seed), number(count), to),
         #[cfg(feature = "oracle")]
-        ["against", seed, from] => power::against(number(seed), from),
+        ["against", seed, count, from] => power::against(number(seed), number(count), from),
         #[cfg(feature = "branches")]
         ["branches", seed, count] => branches::print(number(seed), number(count)),
         #[cfg(feature = "branches")]

@@ -62,32 +62,45 @@ fn edited() -> &'static str {
     }
 }
 
+/// The cases of `harness/run`, then a third as many that carry remainders.
+fn streams(seed: u64, count: u64) -> [(&'static str, Stream, u64); 2] {
+    let carrying = Stream::new(seed).carrying();
+    [
+        ("", Stream::new(seed), count),
+        ("carrying ", carrying, count / 3),
+    ]
+}
+
 pub fn answers(seed: u64, count: u64, to: &str) -> bool {
     assert_eq!((kernel::EDITED, changed::EDITED), ("", ""));
-    let mut stream = Stream::new(seed);
     let mut bytes = Vec::new();
-    for _ in 0..count {
-        let case = stream.next();
-        let (digest, after) = digest(&case);
-        bytes.extend(digest.to_le_bytes());
-        stream.answered(&after);
+    for (_, mut stream, count) in streams(seed, count) {
+        for _ in 0..count {
+            let case = stream.next();
+            let (digest, after) = digest(&case);
+            bytes.extend(digest.to_le_bytes());
+            stream.answered(&after);
+        }
     }
     fs::write(to, bytes).unwrap();
     true
 }
 
-pub fn against(seed: u64, from: &str) -> bool {
+pub fn against(seed: u64, count: u64, from: &str) -> bool {
     let bytes = fs::read(from).unwrap();
-    let mut stream = Stream::new(seed);
-    for (number, want) in bytes.chunks(8).enumerate() {
-        let case = stream.next();
-        let (got, after) = digest(&case);
-        if got.to_le_bytes() != want {
-            let kind = format!("{:?}", case.kind).to_lowercase();
-            println!("{} | {number} ({kind})", edited());
-            return true;
+    let mut wanted = bytes.chunks(8);
+    for (name, mut stream, count) in streams(seed, count) {
+        for number in 0..count {
+            let case = stream.next();
+            let (got, after) = digest(&case);
+            let want = wanted.next().expect("as many answers as cases");
+            if got.to_le_bytes() != want {
+                let kind = format!("{:?}", case.kind).to_lowercase();
+                println!("{} | {name}{number} ({kind})", edited());
+                return true;
+            }
+            stream.answered(&after);
         }
-        stream.answered(&after);
     }
     println!("{} | not in {}", edited(), bytes.len() / 8);
     true

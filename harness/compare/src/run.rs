@@ -4,7 +4,8 @@ use crate::{
     ask::Ask,
     expected::{Contradiction, Expected, expected},
     generate::{Case, Groups, Stream},
-    report,
+    port, report,
+    sums::Sums,
     tally::Tally,
 };
 use image::{Answer, Call, Group};
@@ -29,6 +30,19 @@ pub fn rules(seed: u64, count: u64) -> bool {
     all(Stream::rules(seed), seed, count)
 }
 
+/// Remainders that are carried, in cases of all kinds, with timers that cannot be read or are
+/// superseded, and by rules that are seldom met.
+pub fn remainders(seed: u64, count: u64) -> bool {
+    all(Stream::new(seed).carrying(), seed, count / 2)
+        && all(Stream::timers(seed).carrying(), seed, count / 4)
+        && all(Stream::rules(seed).carrying(), seed, count / 4)
+}
+
+/// Long chains in which each call finds the remainders that the last one left.
+pub fn carried(seed: u64, calls: u64) -> bool {
+    all(Stream::chains(seed).carrying(), seed, calls)
+}
+
 /// An edited kernel is no oracle.
 pub fn unedited() {
     #[cfg(feature = "oracle")]
@@ -37,18 +51,31 @@ pub fn unedited() {
 
 fn all(mut stream: Stream, seed: u64, count: u64) -> bool {
     unedited();
+    let name = stream.name();
     let mut tally = Tally::default();
+    let mut sums = Sums::default();
+    // Without the kernel and without a port no call is made.
+    let summed = stream.carries() && (port::THERE || cfg!(feature = "oracle"));
     for number in 0..count {
         let case = stream.next();
         let Some((answer, after)) = one(&case) else {
-            println!("case {number} of seed {seed}");
+            println!("case {number} of seed {seed}{name}");
             return false;
         };
+        if summed && !sums.hold(&case, &answer, &after) {
+            report::case(&case);
+            println!("case {number} of seed {seed}{name}");
+            println!("ticks and remainder are not the time that has passed");
+            return false;
+        }
         tally.call(&case, &answer);
         stream.answered(&after);
     }
-    println!("{count} cases of seed {seed}, no difference");
+    println!("{count} cases of seed {seed}{name}, no difference");
     tally.print_calls();
+    if summed {
+        sums.print();
+    }
     true
 }
 

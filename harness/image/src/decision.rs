@@ -1,7 +1,7 @@
 //! Which calls make a decision, and the timers that come due in it: an own reading of
 //! document 01 and of the source, of images and calls that rows 1 to 8 let pass.
 
-use crate::{Call, View, block as b, context as c, newest, put_timers};
+use crate::{Call, View, block as b, context as c, newest, put_timers, remainder};
 use std::collections::BTreeSet;
 
 /// Whether the call runs `schedule`.
@@ -91,11 +91,13 @@ pub fn unreadable_due(image: View, call: &Call) -> bool {
     is_made(image, call) && due(image, call).any(|timer| timer.unreadable())
 }
 
-/// Whether the call's answer is that of the changed build: a due timer is unreadable, or the
-/// timer put in removes another. Elsewhere the source itself decides: it then leaves at most
-/// one timer of each context.
+/// Whether the call's answer is that of the changed build: a due timer is unreadable, the timer
+/// put in removes another, or a remainder is carried here. Elsewhere the source itself decides,
+/// the word of the remainder aside: it then leaves at most one timer of each context.
 pub fn departs(image: View, call: &Call) -> bool {
-    unreadable_due(image, call) || newest::supersedes(image, call)
+    unreadable_due(image, call)
+        || newest::supersedes(image, call)
+        || remainder::carried(image, call) != 0
 }
 
 /// The image that the source leaves, with the unreadable timers in the set that it has lost

@@ -1,6 +1,6 @@
 //! The machine image of document 01: places of its words, their names, and an own
-//! reading of the table of refused calls, of decisions, of their rules and of weights. And the cue
-//! board of document 02.
+//! reading of the table of refused calls, of decisions, of their rules, of weights and of carried
+//! remainders. And the cue board of document 02.
 
 pub mod board;
 pub mod check;
@@ -9,6 +9,7 @@ pub mod name;
 pub mod newest;
 mod places;
 pub mod ranges;
+pub mod remainder;
 pub mod rule;
 pub mod served;
 pub mod structure;
@@ -25,6 +26,8 @@ pub const ROOM: usize = 64;
 pub const NUMBER_MAX: u64 = (1 << 62) - 1;
 /// The whole slice of a context, in scaled ticks.
 pub const SLICE_MAX: u64 = 9 << 30;
+/// The most that a CPU carries of a tick.
+pub const REMAINDER_MAX: u64 = 2_249_999;
 
 #[derive(Clone, Copy, Debug, PartialEq, Eq, Default)]
 pub struct Call {

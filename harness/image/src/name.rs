@@ -26,6 +26,9 @@ pub fn of(cpus: u64, contexts: u64, index: usize) -> String {
     if word < block::SINGLE {
         return format!("cpu {cpu} {}", block::NAMES[word]);
     }
+    if word >= block::LAST {
+        return format!("cpu {cpu} {}", block::LAST_NAMES[word - block::LAST]);
+    }
     let (column, slot) = ((word - block::SINGLE) / ROOM, (word - block::SINGLE) % ROOM);
     let (list, field) = block::COLUMN_NAMES[column];
     format!("cpu {cpu} {list}[{slot}]{field}")
@@ -40,8 +43,9 @@ mod tests {
         assert_eq!(of(2, 3, 0), "cpu count C");
         assert_eq!(of(2, 3, 2 + 26 + 17), "context 1 vtime");
         assert_eq!(of(2, 3, 80 + 10), "cpu 0 published_weight");
-        assert_eq!(of(2, 3, 745 + 153 + 5), "cpu 1 queue[5].key.ctxt_id");
+        assert_eq!(of(2, 3, 746 + 153 + 5), "cpu 1 queue[5].key.ctxt_id");
         assert_eq!(of(2, 3, 80 + 664), "cpu 0 ipi_context_wakeup_list[63]");
-        assert_eq!(of(2, 3, 80 + 2 * 665), "word 1410");
+        assert_eq!(of(2, 3, 80 + 665), "cpu 0 remainder");
+        assert_eq!(of(2, 3, 80 + 2 * 666), "word 1412");
     }
 }

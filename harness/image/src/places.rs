@@ -67,7 +67,7 @@ pub mod context {
     ];
 }
 
-/// Words of a CPU's block: single ones, then columns of 64.
+/// Words of a CPU's block: single ones, then columns of 64, then the last ones.
 pub mod block {
     pub const PRESENT: usize = 0;
     pub const CURRENT_CTXT: usize = 1;
@@ -106,7 +106,10 @@ pub mod block {
     pub const TIMER_CONTEXT_REF: usize = 473;
     pub const LOCAL_WAKEUP_LIST: usize = 537;
     pub const IPI_CONTEXT_WAKEUP_LIST: usize = 601;
-    pub const WORDS: usize = 665;
+    pub const LAST: usize = 665;
+
+    pub const REMAINDER: usize = 665;
+    pub const WORDS: usize = 666;
 
     /// The columns that each count word speaks for.
     pub const COLUMNS: [(usize, &[usize]); 4] = [
@@ -153,6 +156,7 @@ pub mod block {
         "local_count",
         "ipi_count",
     ];
+    pub const LAST_NAMES: [&str; 1] = ["remainder"];
 
     /// Names of the columns: before and after the slot in brackets.
     pub const COLUMN_NAMES: [(&str, &str); 10] = [

@@ -1,6 +1,8 @@
 //! Row 3: the range of each word.
 
-use crate::{MAX_CONTEXTS, MAX_CPUS, NUMBER_MAX, ROOM, SLICE_MAX, View, block, context};
+use crate::{
+    MAX_CONTEXTS, MAX_CPUS, NUMBER_MAX, REMAINDER_MAX, ROOM, SLICE_MAX, View, block, context,
+};
 use std::ops::RangeInclusive;
 
 const ID_MAX: u64 = u32::MAX as u64;
@@ -27,6 +29,9 @@ pub fn range(image: View, index: usize) -> RangeInclusive<u64> {
     let word = (place - records) % block::WORDS;
     if word < block::SINGLE {
         return 0..=single_max(image, word);
+    }
+    if word == block::REMAINDER {
+        return 0..=REMAINDER_MAX;
     }
     match block::SINGLE + (word - block::SINGLE) / ROOM * ROOM {
         block::ENTRY_WEIGHT => WEIGHTS,
@@ -74,6 +79,7 @@ fn one_block(image: View, cpu: usize) -> bool {
         return (0..block::WORDS).all(|place| word(place) == 0);
     }
     (0..block::SINGLE).all(|place| word(place) <= single_max(image, place))
+        && word(block::REMAINDER) <= REMAINDER_MAX
         && block::COLUMNS.iter().all(|(count, columns)| {
             columns
                 .iter()

@@ -3,7 +3,7 @@
 //! that takes locks or ends early.
 
 use crate::{
-    Call, SLICE_MAX, View, block as b, context as c,
+    Call, SLICE_MAX, View, block as b, context as c, remainder,
     served::{serves_own, stole, wakeups},
     tidy,
 };
@@ -100,8 +100,8 @@ impl<'a> Moment<'a> {
         let ids: Vec<u64> = moment.records.iter().map(|r| r[c::DEBUG_ID]).collect();
         let key = |e: &Entry| (e.vd, Reverse(e.rem_slice), ids[e.context as usize]);
         moment.queue.sort_by_key(key);
-        let elapsed = call.time.saturating_sub(at(b::SCHEDULE_TIME));
-        moment.holder = moment.charged(elapsed, weight);
+        let elapsed = remainder::elapsed(image, call);
+        moment.holder = moment.charged(elapsed, remainder::ticks(image, call), weight);
         moment
     }
 
@@ -135,15 +135,14 @@ impl<'a> Moment<'a> {
     }
 
     /// Nobody if it is idle or not runnable.
-    fn charged(&self, elapsed: u64, weight: fn(u64) -> u64) -> Option<Holder> {
+    fn charged(&self, elapsed: u64, ticks: u64, weight: fn(u64) -> u64) -> Option<Holder> {
         let record = &self.records[self.sched as usize];
         if self.sched == self.idle || record[c::STATUS] != c::RUNNABLE {
             return None;
         }
         let weight = weight(record[c::PRIO]);
-        let ticks = u128::from(elapsed) * (1 << 30) / 2_250_000;
-        let left = u128::from(record[c::REM_SLICE]).saturating_sub(ticks) as u64;
-        let mut vtime = record[c::VTIME] + (ticks / u128::from(weight)) as u64;
+        let left = record[c::REM_SLICE].saturating_sub(ticks);
+        let mut vtime = record[c::VTIME] + ticks / weight;
         vtime = vtime.max(self.v);
         // Less than half of three timer ticks is a yield, which gives the rest away.
         let yields = 2 * elapsed < 3 * 2_250_000;

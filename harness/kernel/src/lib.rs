@@ -42,6 +42,7 @@ mod ptrace {
 pub mod branches;
 mod load;
 pub mod oracle;
+mod remainder;
 mod rule;
 mod store;
 

@@ -12,6 +12,7 @@ use crate::{
     },
     cpu_set::{LogicalCpuId, LogicalCpuSet},
     percpu::PercpuBlock,
+    remainder,
     sync::{CleanLockToken, Held},
 };
 use core::sync::atomic::Ordering;
@@ -31,6 +32,9 @@ pub struct Machine {
 
 pub fn machine(image: View) -> Machine {
     let slots = contexts(image);
+    for cpu in 0..image.cpus() {
+        remainder::put(cpu, image.block(cpu, b::REMAINDER));
+    }
     let blocks = (0..image.cpus())
         .map(|cpu| image.present(cpu).then(|| block::block(image, cpu, &slots)))
         .collect();

@@ -1,5 +1,6 @@
 //! From the kernel's structures back to the image. Marks that the kernel does not
-//! have (gone, present) stay as they are; locks must be as they were.
+//! have (gone, present) stay as they are; locks must be as they were. The remainders
+//! are those that were kept aside.
 
 use crate::{
     context::{
@@ -7,6 +8,7 @@ use crate::{
     },
     load::{Machine, Slot},
     percpu::PercpuBlock,
+    remainder,
     sync::{CleanLockToken, Held},
 };
 use core::sync::atomic::Ordering;
@@ -24,6 +26,7 @@ pub fn machine(machine: &mut Machine, image: &mut [u64]) {
         if let Some(block) = block {
             let at = View(image).block_at(cpu);
             one_block(block, &machine.slots, &mut image[at..at + b::WORDS]);
+            image[at + b::REMAINDER] = remainder::get(cpu);
         }
     }
 }
@@ -118,7 +121,7 @@ fn one_block(block: &mut PercpuBlock, slots: &[Slot], words: &mut [u64]) {
     (words[b::V], words[b::TOTAL_WEIGHT]) = queue.virtual_time();
 
     words[b::QUEUE_COUNT..b::SINGLE].fill(0);
-    words[b::SINGLE..].fill(0);
+    words[b::SINGLE..b::LAST].fill(0);
     for (slot, entry) in queue.entries().enumerate() {
         words[b::QUEUE_COUNT] += 1;
         words[b::KEY_VD + slot] = entry.vd;

@@ -1,11 +1,12 @@
 //! Stands in for the port: the table, the kernel and, for the rule and where the port departs from
-//! it, its changed build behind the port's interface. The comparison is tried on it, and edits of
-//! the table show whether it would see a port that reads the table otherwise.
+//! it, its changed build behind the port's interface. What a carried remainder adds is the own
+//! reading. The comparison is tried on it, and edits of the table show whether it would see a port
+//! that reads the table otherwise.
 
 mod board;
 mod group;
 
-use image::{Answer, Call, Group, TotalWeight, View, check, decision, total_weight};
+use image::{Answer, Call, Group, TotalWeight, View, check, decision, remainder, total_weight};
 
 /// # Safety
 /// `image` points to `len` words.
@@ -30,15 +31,29 @@ pub unsafe extern "C" fn ronthuyal_call(
         return Answer::refused(refusal);
     }
     let rule = rule(words, &call);
-    let answer = match decision::departs(View(words), &call) {
-        true => changed::oracle::call(words, &call),
-        false => kernel::oracle::call(words, &call),
+    let before = words.to_vec();
+    let mut after = remainder::source_before(View(&before), &call, weight);
+    let answer = match decision::departs(View(&after), &call) {
+        true => changed::oracle::call(&mut after, &call),
+        false => kernel::oracle::call(&mut after, &call),
     };
-    match answer {
-        Ok(answer) => Answer { rule, ..answer },
+    let Ok(answer) = answer else {
         // No row has this number: an edited table let a call pass that has no answer.
-        Err(_) => Answer::refused(u64::MAX),
+        return Answer::refused(u64::MAX);
+    };
+    if answer.refusal == 0 {
+        remainder::source_after(View(&before), &call, rule, &mut after);
+        words.copy_from_slice(&after);
     }
+    Answer { rule, ..answer }
+}
+
+/// That of a priority; an edited table may let one pass that has none.
+fn weight(prio: u64) -> u64 {
+    let weights = kernel::context::switch::SCHED_PRIO_TO_WEIGHT;
+    weights
+        .get(prio as usize)
+        .map_or(1, |weight| *weight as u64)
 }
 
 /// The changed build notes the rule of a decision.
@@ -72,7 +87,6 @@ pub unsafe extern "C" fn ronthuyal_total_weight(image: *const u64, len: usize, c
     if refusal != 0 {
         return Answer::refused(refusal);
     }
-    let weight = |prio| kernel::context::switch::SCHED_PRIO_TO_WEIGHT[prio as usize] as u64;
     Answer {
         result: total_weight::total(View(words), cpu as usize, weight),
         ..Answer::default()

@@ -7,7 +7,7 @@ use super::{
     rng::Rng,
     values,
 };
-use image::{SLICE_MAX, block as b, context as c};
+use image::{SLICE_MAX, block as b, context as c, remainder};
 
 /// What charging leaves of a runnable holder.
 pub struct Charged {
@@ -16,19 +16,19 @@ pub struct Charged {
     pub rem_slice: u64,
 }
 
-fn charged(record: &[u64; c::WORDS], v: u64, elapsed: u64) -> Charged {
-    let weight = u128::from(values::weight(record[c::PRIO]));
-    let ticks = (u128::from(elapsed) << 30) / 2_250_000;
-    let mut rem_slice = record[c::REM_SLICE].saturating_sub(ticks as u64);
-    let mut vtime = (record[c::VTIME] + (ticks / weight) as u64).max(v);
+fn charged(record: &[u64; c::WORDS], v: u64, elapsed: u64, carried: u64) -> Charged {
+    let weight = values::weight(record[c::PRIO]);
+    let (ticks, _) = remainder::converted(elapsed, carried);
+    let mut rem_slice = record[c::REM_SLICE].saturating_sub(ticks);
+    let mut vtime = (record[c::VTIME] + ticks / weight).max(v);
     if elapsed < 3_375_000 {
-        vtime += (u128::from(rem_slice) / weight) as u64;
+        vtime += rem_slice / weight;
         rem_slice = 0;
     }
     let mut vd = record[c::VD];
     if rem_slice == 0 {
         rem_slice = SLICE_MAX;
-        vd = vtime + (u128::from(SLICE_MAX) / weight) as u64;
+        vd = vtime + SLICE_MAX / weight;
     }
     Charged {
         vtime,
@@ -74,7 +74,7 @@ pub fn at_the_choice(machine: &Machine, at: usize, time: u64) -> Charged {
     let word = machine.cpu[at].word;
     let holder = machine.record[machine.cpu[at].sched()];
     let elapsed = time.saturating_sub(word[b::SCHEDULE_TIME]).min(1 << 52);
-    charged(&holder, word[b::V], elapsed)
+    charged(&holder, word[b::V], elapsed, machine.cpu[at].remainder)
 }
 
 /// Brings records to their changed entries; of an untidy machine not all.

@@ -70,7 +70,7 @@ fn word(rng: &mut Rng, image: &mut [u64]) {
         1 => old.wrapping_sub(1),
         2 => rng.pick(&[NUMBER_MAX, NUMBER_MAX + 1, u64::MAX]),
         3 => rng.pick(&[0, 1, 2, 14, 15]),
-        4 => image[rng.below(image.len())],
+        4 => image[anywhere(rng, image)],
         5 => rng.next(),
         // A word's own limits, and one beyond.
         _ => {
@@ -88,11 +88,7 @@ fn word(rng: &mut Rng, image: &mut [u64]) {
 /// the end of what is used.
 fn place(rng: &mut Rng, image: &[u64]) -> usize {
     let view = View(image);
-    let sized = image.len() > 2
-        && (1..=4).contains(&image[0])
-        && (1..=64).contains(&image[1])
-        && image.len() == length(view.cpus(), view.contexts());
-    if !sized {
+    if !sized(image) {
         return rng.below(2);
     }
     let block = view.block_at(rng.below(view.cpus()));
@@ -104,6 +100,25 @@ fn place(rng: &mut Rng, image: &[u64]) -> usize {
             let used = (image[block + count] as usize).min(ROOM - 1);
             block + rng.pick(columns) + rng.below(used + 1)
         }
-        _ => rng.below(image.len()),
+        _ => anywhere(rng, image),
     }
+}
+
+/// A word of an image, but no remainder: those are drawn from a stream of their own.
+fn anywhere(rng: &mut Rng, image: &[u64]) -> usize {
+    let view = View(image);
+    if !sized(image) {
+        return rng.below(image.len());
+    }
+    let drawn = rng.below(image.len() - view.cpus());
+    let passed = drawn.saturating_sub(view.block_at(0)) / (b::WORDS - 1);
+    drawn + passed
+}
+
+fn sized(image: &[u64]) -> bool {
+    let view = View(image);
+    image.len() > 2
+        && (1..=4).contains(&image[0])
+        && (1..=64).contains(&image[1])
+        && image.len() == length(view.cpus(), view.contexts())
 }

@@ -17,6 +17,14 @@ impl Groups {
         }
     }
 
+    /// The same groups with no remainder anywhere.
+    pub fn without_remainders(self) -> Self {
+        Self {
+            images: self.images.without_remainders(),
+            ..self
+        }
+    }
+
     pub fn next(&mut self) -> Case<Group> {
         let Case {
             kind,

@@ -19,6 +19,7 @@ pub struct Cpu {
     pub timers: Vec<(u64, usize)>,
     pub local: Vec<usize>,
     pub ipi: Vec<usize>,
+    pub remainder: u64,
 }
 
 impl Cpu {
@@ -30,6 +31,7 @@ impl Cpu {
             timers: Vec::new(),
             local: Vec::new(),
             ipi: Vec::new(),
+            remainder: 0,
         }
     }
 }
@@ -113,5 +115,6 @@ impl Machine {
         for (slot, context) in cpu.ipi.iter().enumerate() {
             words[b::IPI_CONTEXT_WAKEUP_LIST + slot] = *context as u64;
         }
+        words[b::REMAINDER] = cpu.remainder;
     }
 }

@@ -9,6 +9,7 @@ mod damage;
 mod full;
 mod group;
 pub mod machine;
+mod remainders;
 pub mod rng;
 mod rules;
 mod seats;
@@ -29,12 +30,14 @@ pub use {group::mask, values::weight};
 
 use case::Choice;
 use image::{Call, NUMBER_MAX, View, block as b, check};
+use remainders::Remainders;
 use rng::Rng;
 use tidy::Size;
 use values::Scale;
 
 pub struct Stream {
     rng: Rng,
+    remainders: Remainders,
     choice: Choice,
     /// The image after the last call, and how many calls the chain still has.
     chain: Option<(Vec<u64>, Scale, usize)>,
@@ -64,14 +67,42 @@ impl Stream {
     fn of(seed: u64, choice: Choice) -> Self {
         Self {
             rng: Rng::new(seed),
+            remainders: Remainders::elsewhere(seed),
             choice,
             chain: None,
         }
     }
+    /// The same cases with no remainder anywhere.
+    pub fn without_remainders(self) -> Self {
+        Self {
+            remainders: self.remainders.nothing(),
+            ..self
+        }
+    }
+    /// The same kinds of cases with remainders that are carried.
+    pub fn carrying(self) -> Self {
+        Self {
+            remainders: self.remainders.anything(),
+            ..self
+        }
+    }
+    pub fn carries(&self) -> bool {
+        self.remainders.are_carried()
+    }
+    /// What tells the parts of one command apart.
+    pub fn name(&self) -> &'static str {
+        match self.choice {
+            _ if !self.carries() => "",
+            Choice::Timers => ", carrying, timers",
+            Choice::Rules => ", carrying, rules",
+            _ => ", carrying",
+        }
+    }
 
     pub fn next(&mut self) -> Case {
-        if let Some((image, scale, left)) = self.chain.take() {
+        if let Some((mut image, scale, left)) = self.chain.take() {
             let call = self.call(&image, scale.time);
+            self.remainders.settle(&mut image, Some(call.cpu));
             if left > 0 {
                 self.chain = Some((image.clone(), scale, left - 1));
             }
@@ -130,6 +161,7 @@ impl Stream {
         ) {
             aimed = timers::aimed(rng, &machine);
         }
+        self.remainders.put(&scale, &mut machine, aimed);
         if rng.once_in(2) {
             aim::at_holder(rng, &mut machine, aimed, scale.time, !spoiled);
         }
@@ -176,6 +208,12 @@ impl Stream {
                 let at = View(&image).block_at(other);
                 image[at + b::QUEUE_LOCKED] = 1;
             }
+        }
+        // Damage may name another CPU.
+        let cpu = (kind != Kind::Damaged).then_some(call.cpu);
+        self.remainders.settle(&mut image, cpu);
+        if kind != Kind::Chain {
+            self.remainders.spoil(&mut image);
         }
         if kind == Kind::Damaged {
             damage::spoil(&mut self.rng, &mut image, &mut call);

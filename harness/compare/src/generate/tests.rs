@@ -1,5 +1,7 @@
 use super::{Kind, Stream};
-use image::{ROOM, View, block as b, check, decision, newest, structure, tidy};
+use image::{
+    REMAINDER_MAX, ROOM, View, block as b, check, decision, newest, remainder, structure, tidy,
+};
 
 /// Cases of the kind tidy are tidy, those of the kind untidy mostly not, and both
 /// have images that rows 1 to 4 let pass.
@@ -132,4 +134,61 @@ fn on_two(image: View) -> bool {
     let sets: Vec<u64> = (0..image.cpus()).map(timed).collect();
     let together = |at: usize| sets[..at].iter().any(|set| set & sets[at] != 0);
     (1..sets.len()).any(together)
+}
+
+/// Every sort of remainder is here, and each leads to a tick more and to none; over the range, and
+/// of an absent CPU, it is what the call is refused for.
+#[test]
+fn remainders() {
+    let decides = |image: View, call: &image::Call| decision::is_made(image, call);
+    for wanted in [0, 1, 777, 1_234_567, REMAINDER_MAX] {
+        let with = count(Stream::new(1).carrying(), |image, call| {
+            decides(image, call) && remainder::carried(image, call) == wanted
+        });
+        assert!(with > 100, "{wanted}: {with}");
+    }
+    let left = |wanted: u64| {
+        count(Stream::new(1).carrying(), |image, call| {
+            decides(image, call) && remainder::left(image, call) == wanted
+        })
+    };
+    assert!(left(0) > 100 && left(REMAINDER_MAX) > 100);
+    let more = count(Stream::new(1).carrying(), |image, call| {
+        remainder::one_more(image, call).is_some()
+    });
+    assert!(more > 1000, "{more}");
+    let mut stream = Stream::new(1).carrying();
+    let [mut over, mut absent] = [0, 0];
+    for _ in 0..20_000 {
+        let case = stream.next();
+        if check::refusal(&case.image, &case.call) != 3 || case.kind == Kind::Damaged {
+            continue;
+        }
+        let image = View(&case.image);
+        for cpu in 0..image.cpus() {
+            let remainder = image.block(cpu, b::REMAINDER);
+            over += u64::from(image.present(cpu) && remainder > REMAINDER_MAX);
+            absent += u64::from(!image.present(cpu) && remainder > 0);
+        }
+    }
+    assert!(over > 100 && absent > 20, "{over} {absent}");
+}
+
+/// Other streams carry nothing on the CPU of the call, and something on others.
+#[test]
+fn nothing_carried_here() {
+    for stream in [Stream::new(1), Stream::timers(1), Stream::rules(1)] {
+        let (mut stream, mut elsewhere) = (stream, 0);
+        for _ in 0..5000 {
+            let case = stream.next();
+            if check::refusal(&case.image, &case.call) != 0 {
+                continue;
+            }
+            let image = View(&case.image);
+            assert_eq!(remainder::carried(image, &case.call), 0);
+            let mut all = (0..image.cpus()).map(|cpu| image.block(cpu, b::REMAINDER));
+            elsewhere += u64::from(all.any(|remainder| remainder > 0));
+        }
+        assert!(elsewhere > 500, "{elsewhere}");
+    }
 }

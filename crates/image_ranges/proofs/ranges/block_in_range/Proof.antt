@@ -1,6 +1,7 @@
 use Rattle.image_ranges.specs.Ranges.{block-in-range, block-most, block-in-range-to, block-most-to}
-use borrow.Author.Tests.{eq-eqb, ne-eqb, not-true, not-false}
+use borrow.Author.Tests.{eq-eqb, ne-eqb, not-true, not-false, le-leb, lt-leb}
 use Prim.Native.Nat.{_-_}
+use Rattle.ticks.specs.Ticks.{max-remainder}
 use mathlib.Core.Path.{sym, _∙_}
 use borrow.Author.Needs.{needs}
 use Rattle.image_ranges.proofs.ranges.block_in_range.Statement.{statement}
@@ -29,16 +30,23 @@ returns-2 : tie.Need-returns-2
 unfolding block-in-range-to block-most-to
 returns-2 c = rw (ne-eqb _ 0 (c .before .before .before .if1 .left), sym (c .before .within .ensures) ∙ not-true _ (c .if2 .taken))
 
-arrays-in-range-requires : tie.Need-arrays-in-range-requires
-unfolding block-most-to
-arrays-in-range-requires c κs = (c .before .before .before .before .before .before .pre .0, (sym (c .before .within .ensures) ∙ not-false _ (c .if2 .left), c .before .before .before .before .before .before .pre .1))
+shared-slice-read-if3 : tie.Need-shared-slice-read-if3
+shared-slice-read-if3 c = search needs
 
 returns-3 : tie.Need-returns-3
 unfolding block-in-range-to block-most-to
-returns-3 c = rw (ne-eqb _ 0 (c .before .before .before .before .if1 .left), sym (c .before .before .within .ensures) ∙ not-false _ (c .before .if2 .left)) (c .arrays-in-range .ensures)
+returns-3 c = rw (ne-eqb _ 0 (c .before .before .before .before .before .if1 .left), sym (c .before .before .before .within .ensures) ∙ not-false _ (c .before .before .if2 .left), lt-leb _ max-remainder (c .if3 .taken))
+
+arrays-in-range-requires : tie.Need-arrays-in-range-requires
+unfolding block-most-to
+arrays-in-range-requires c κs = (c .before .before .before .before .before .before .before .before .pre .0, (sym (c .before .before .before .within .ensures) ∙ not-false _ (c .before .before .if2 .left), c .before .before .before .before .before .before .before .before .pre .1))
+
+returns-4 : tie.Need-returns-4
+unfolding block-in-range-to block-most-to
+returns-4 c = rw (ne-eqb _ 0 (c .before .before .before .before .before .before .if1 .left), sym (c .before .before .before .before .within .ensures) ∙ not-false _ (c .before .before .before .if2 .left), le-leb _ max-remainder (c .before .if3 .left)) (c .arrays-in-range .ensures)
 
 pub block-in-range-spec : {M : Type 1} → statement M
 block-in-range-spec =
     tie.close
     (tie.spec
-    shared-slice-read-if1 zero-words-requires returns sub-last slice-aggregate-within within-requires returns-2 arrays-in-range-requires returns-3)
+    shared-slice-read-if1 zero-words-requires returns sub-last slice-aggregate-within within-requires returns-2 shared-slice-read-if3 returns-3 arrays-in-range-requires returns-4)

@@ -1,15 +1,16 @@
 use mathlib.Core.Logic.{⊎-elim}
-use Prim.Native.Nat.{_-_, _≤_}
+use Prim.Native.Nat.{_+_, _-_, _≤_}
 use borrow.Author.Needs.{needs}
+use Rattle.machine.specs.Encode.{max-image-size}
 use native.Mathlib.Omega.{arith}
 use Rattle.replay.proofs.image.differ.Statement.{statement}
 use Rattle.replay.proofs.image.differ.Tie as tie
 
 abbrev Inv-loop : tie.InvT-loop
-Inv-loop m old count₀ i₀ count i = (i ≤ 4327) × (count ≤ i)
+Inv-loop m old count₀ i₀ count i = (i ≤ max-image-size + 1) × (count ≤ i)
 
 abbrev μ-loop : tie.MeasureT-loop
-μ-loop m old count₀ i₀ count i = 4327 - i
+μ-loop m old count₀ i₀ count i = max-image-size + 1 - i
 
 loop-holds : tie.Need-loop-holds Inv-loop μ-loop
 loop-holds c = search needs

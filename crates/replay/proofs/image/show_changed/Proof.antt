@@ -1,13 +1,14 @@
-use Prim.Native.Nat.{_-_, _≤_}
+use Prim.Native.Nat.{_+_, _-_, _≤_}
 use borrow.Author.Needs.{needs}
+use Rattle.machine.specs.Encode.{max-image-size}
 use Rattle.replay.proofs.image.show_changed.Statement.{statement}
 use Rattle.replay.proofs.image.show_changed.Tie as tie
 
 abbrev Inv-loop : tie.InvT-loop
-Inv-loop m old i₀ i = i ≤ 4327
+Inv-loop m old i₀ i = i ≤ max-image-size + 1
 
 abbrev μ-loop : tie.MeasureT-loop
-μ-loop m old i₀ i = 4327 - i
+μ-loop m old i₀ i = max-image-size + 1 - i
 
 loop-holds : tie.Need-loop-holds Inv-loop μ-loop
 loop-holds c = search needs

@@ -13,13 +13,13 @@ charge-runnable-requires : tie.Need-charge-runnable-requires
 charge-runnable-requires c κs = search needs
 
 store-context-requires : tie.Need-store-context-requires
-store-context-requires c κs = (c .before .before .before .before .before .pre .0, (c .before .before .before .before .before .pre .1 .0, subst (ContextFits _) (sym (c .before .charge-runnable .ensures)) (charged-fits (c .before .before .before .before .before .args .b .v) (c .before .before .before .before .before .args .elapsed) (c .before .before .before .before .before .args .q) (c .before .before .before .before .before .pre .1 .1 .1 .0))))
+store-context-requires c κs = (c .before .before .before .before .before .pre .0, (c .before .before .before .before .before .pre .1 .0, subst (ContextFits _) (sym (c .before .charge-runnable .ensures)) (charged-fits (c .before .before .before .before .before .args .b .v) (c .before .before .before .before .before .args .spent) (c .before .before .before .before .before .args .q) (c .before .before .before .before .before .pre .1 .1 .1 .0))))
 
 same-length : tie.Need-same-length
 same-length c = search needs
 
 returns : tie.Need-returns
-returns c = charged-runnable (c .before .before .before .before .before .before .before .before .args .x) (c .before .before .before .before .before .before .before .before .args .b) (c .before .before .before .before .before .before .before .before .args .q) (c .before .before .before .before .before .before .before .before .args .elapsed) (sym (c .before .before .before .before .before .before .is-runnable .ensures) ∙ c .before .before .before .before .before .if1 .taken) (c .before .before .before .before .charge-runnable .ensures) (c .before .before .store-context .ensures)
+returns c = charged-runnable (c .before .before .before .before .before .before .before .before .args .x) (c .before .before .before .before .before .before .before .before .args .b) (c .before .before .before .before .before .before .before .before .args .q) (c .before .before .before .before .before .before .before .before .args .spent) (sym (c .before .before .before .before .before .before .is-runnable .ensures) ∙ c .before .before .before .before .before .if1 .taken) (c .before .before .before .before .charge-runnable .ensures) (c .before .before .store-context .ensures)
 
 stop-holder-requires : tie.Need-stop-holder-requires
 stop-holder-requires c κs = search needs
@@ -28,7 +28,7 @@ same-length-2 : tie.Need-same-length-2
 same-length-2 c = search needs
 
 returns-2 : tie.Need-returns-2
-returns-2 c = charged-stopped (c .before .before .before .before .before .before .before .args .x) (c .before .before .before .before .before .before .before .args .b) (c .before .before .before .before .before .before .before .args .q) (c .before .before .before .before .before .before .before .args .elapsed) (sym (c .before .before .before .before .before .is-runnable .ensures) ∙ c .before .before .before .before .if1 .left) (c .before .before .stop-holder .ensures)
+returns-2 c = charged-stopped (c .before .before .before .before .before .before .before .args .x) (c .before .before .before .before .before .before .before .args .b) (c .before .before .before .before .before .before .before .args .q) (c .before .before .before .before .before .before .before .args .spent) (sym (c .before .before .before .before .before .is-runnable .ensures) ∙ c .before .before .before .before .if1 .left) (c .before .before .stop-holder .ensures)
 
 pub charge-context-spec : {M : Type 1} → statement M
 charge-context-spec =

@@ -1,0 +1,4 @@
+pub mod Carrying
+pub mod Measured
+pub mod AsBefore
+pub mod Conserved
