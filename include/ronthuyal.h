@@ -3,7 +3,7 @@
 #ifndef RONTHUYAL_H
 #define RONTHUYAL_H
 
-#define RONTHUYAL_VERSION "0.9.0"
+#define RONTHUYAL_VERSION "0.10.0"
 
 #include <stddef.h>
 #include <stdint.h>
@@ -46,6 +46,24 @@ struct ronthuyal_answer ronthuyal_unblock_group(uint64_t *image, size_t length, 
 /* No operation, and no time: result is the weight of the CPU, added up from its queue entries, also of those whose
    context is gone, and the context in charge if it is active. The image is left as it is. */
 struct ronthuyal_answer ronthuyal_total_weight(const uint64_t *image, size_t length, uint64_t cpu);
+
+/* What a switch at that time would answer, and leave on that CPU: who is in charge, who is current, and V. Where it
+   would be refused all but the refusal is 0. */
+struct ronthuyal_asked {
+    uint64_t refusal;
+    uint64_t result;
+    uint64_t in_charge;
+    uint64_t current;
+    uint64_t v;
+};
+
+/* No operation: asks. The image is left as it is. */
+struct ronthuyal_asked ronthuyal_ask(const uint64_t *image, size_t length, uint64_t cpu, uint64_t time);
+
+/* No operation: makes the switch if it gives what was asked, in all five words. Else the refusal is the switch's own,
+   or 13 where it would be accepted and gives something else. */
+struct ronthuyal_answer ronthuyal_commit(uint64_t *image, size_t length, uint64_t cpu, uint64_t time, uint64_t refusal,
+                                         uint64_t result, uint64_t in_charge, uint64_t current, uint64_t v);
 
 /* Operations. */
 enum {

@@ -12,10 +12,10 @@ COLUMNS = {array.item: array_place(array) for array in ARRAYS}
 
 class Case(NamedTuple):
     title: str
-    call: tuple  # operation, CPU, time, context; of a group "g", CPU, time, mask; of a weight "w", CPU
+    call: tuple  # operation, CPU, time, context; "g", CPU, time, mask; "w", CPU; "a", CPU, time; "c", CPU, time, reply
     length: int
     words: dict
-    answer: tuple  # refusal, result, interrupt mark
+    answer: tuple  # refusal, result, interrupt mark; of "a" the five numbers
     after: dict  # words after the call
     whole: bool  # whether these are all the words that it changes
     rule: int | None = None  # of a decision, where it is worked out by hand

@@ -6,6 +6,7 @@ after harness/run has built the harness; RONTHUYAL_COMPARE names another build o
 import os
 import subprocess
 
+import ask_cases
 import group_cases
 import image_cases
 import newest_cases
@@ -15,7 +16,7 @@ import rule_cases
 import switch_cases
 import timer_cases
 import weight_cases
-from case import Case
+from case import Case, Machine
 
 KERNEL = [os.environ.get("RONTHUYAL_COMPARE", "harness/target/release/compare"), "answers"]
 
@@ -28,25 +29,54 @@ def pairs(words):
     return [number for pair in sorted(words.items()) for number in pair]
 
 
-def list_of(items):
+def line_of(case, call):
+    words = {place: word for place, word in case.words.items() if word}
+    return numbers(call, (case.length, len(words)), pairs(words))
+
+
+def list_of(items, line):
+    """The titles, and a line for each case."""
     lines = []
     for item in items:
-        if isinstance(item, str):
-            lines.append("# " + item)
-            continue
-        words = {place: word for place, word in item.words.items() if word}
-        lines += ["# " + item.title, numbers(item.call, (item.length, len(words)), pairs(words))]
+        lines += ["# " + item] if isinstance(item, str) else ["# " + item.title, line(item)]
     return "\n".join(lines) + "\n"
+
+
+def asked(case, line):
+    """The five numbers of the kernel's switch."""
+    refusal, result, _, _, _, *changed = map(int, line.split())
+    if refusal:
+        return refusal, 0, 0, 0, 0
+    cpu, machine = case.call[1], Machine(case.words[0], case.words[1])
+    after = {**case.words, **dict(zip(changed[::2], changed[1::2]))}
+    return (0, result, *(after.get(machine.on(cpu, word), 0) for word in ("sched_ctxt", "current_ctxt", "v")))
+
+
+def switch_of(case):
+    """What the kernel is asked for: to ask and to commit is a switch at that time."""
+    return (2, *case.call[1:3], 0) if case.call[0] in ("a", "c") else case.call
+
+
+def told(case, line):
+    """What is printed, from what the kernel answers: a commit is refused by 13 if its reply is not the switch's."""
+    if case.call[0] == "a":
+        return numbers(asked(case, line))
+    if case.call[0] == "c" and line.split()[0] == "0" and asked(case, line) != case.call[3:]:
+        return "13 0 0 0 0"
+    return line
 
 
 def check(case, line):
     """That the kernel's answer has what the case says."""
+    if case.call[0] == "a":
+        assert tuple(map(int, line.split())) == case.answer, (case.title, line)
+        return
     refusal, result, interrupt, rule, count, *changed = map(int, line.split())
     changed = dict(zip(changed[::2], changed[1::2]))
     after = {**case.words, **changed}
     assert (refusal, result, interrupt) == case.answer, (case.title, line)
-    # Only operations 1 to 3 decide, and a refused call does not.
-    expected = case.rule if case.call[0] in (1, 2, 3) and not refusal else 0
+    # Only operations 1 to 3 and a commit decide, and a refused call does not.
+    expected = case.rule if case.call[0] in (1, 2, 3, "c") and not refusal else 0
     assert expected in (None, rule), (case.title, rule, expected)
     for place, word in case.after.items():
         assert after.get(place, 0) == word, (case.title, place, after.get(place, 0), word)
@@ -55,16 +85,19 @@ def check(case, line):
 
 def main():
     items = (image_cases.CASES + switch_cases.CASES + refused_cases.CASES + group_cases.CASES
-             + timer_cases.CASES + newest_cases.CASES + rule_cases.CASES + weight_cases.CASES + remainder_cases.CASES)
-    calls = list_of(items)
-    answers = subprocess.run(KERNEL, input=calls, capture_output=True, text=True, check=True).stdout
+             + timer_cases.CASES + newest_cases.CASES + rule_cases.CASES + weight_cases.CASES + remainder_cases.CASES
+             + ask_cases.CASES)
+    switches = list_of(items, lambda case: line_of(case, switch_of(case)))
+    answers = subprocess.run(KERNEL, input=switches, capture_output=True, text=True, check=True).stdout
     lines = [line for line in answers.splitlines() if not line.startswith("#")]
     cases = [item for item in items if isinstance(item, Case)]
+    lines = [told(case, line) for case, line in zip(cases, lines, strict=True)]
     for case, line in zip(cases, lines, strict=True):
         check(case, line)
+    answered = iter(lines)
     with open("crates/cases/stdin", "w") as stdin, open("crates/cases/stdout", "w") as stdout:
-        stdin.write(calls)
-        stdout.write(answers)
+        stdin.write(list_of(items, lambda case: line_of(case, case.call)))
+        stdout.write(list_of(items, lambda case: next(answered)))
 
 
 main()

@@ -191,6 +191,7 @@ class Call(NamedTuple):
     reads: bool  # whether it leaves the image as it is
     result: str
     says: str
+    gives: str = "answer"  # the struct of the header that it answers with
 
 
 OPERATIONS = [
@@ -211,6 +212,9 @@ CALLS = [
     Call("total_weight", (), True, "the sum",
          "adds up the weights of the CPU's queue entries, also of those whose context is gone, and the priority's weight "
          "of the context in charge if it is active"),
+    Call("ask", ("time",), True, "as 2", "what a switch at that time would answer, and leave on that CPU", "asked"),
+    Call("commit", ("time", "refusal", "result", "in_charge", "current", "v"), False, "as 2",
+         "operation 2, if what `ask` would answer now is this reply, in all five words"),
 ]
 
 REFUSALS = [
@@ -225,6 +229,10 @@ REFUSALS = [
     "operations 1 to 3: the time is over 2^52 - 1 ns past the CPU's `schedule_time`",
     "a queue, timer set or list would get its 65th item",
 ]
+# Those of a call without a number; 10 to 12 are the cue board's.
+MORE_REFUSALS = {
+    13: "a commit: the switch would be accepted now, and what it gives is not the reply",
+}
 
 
 class Rule(NamedTuple):

@@ -6,9 +6,9 @@ Run it from the root of the repository after a list changes."""
 import os
 import re
 
-from layout import (ANY, ARRAYS, BLOCK_WORDS, CALLS, CONTEXTS, CPUS, ID_MAX, LAST, LAST_PLACE, NUMBER_MAX, OPERATIONS,
-                    PRIO_MAX, RECORD, RECORD_WORDS, REFUSALS, REMAINDER_MAX, ROOM, RULES, SINGLE, SIZES, SLICE_MAX,
-                    STATE, STATUS, TURN_MAX, WEIGHT_MAX, WEIGHT_MIN, array_place)
+from layout import (ANY, ARRAYS, BLOCK_WORDS, CALLS, CONTEXTS, CPUS, ID_MAX, LAST, LAST_PLACE, MORE_REFUSALS, NUMBER_MAX,
+                    OPERATIONS, PRIO_MAX, RECORD, RECORD_WORDS, REFUSALS, REMAINDER_MAX, ROOM, RULES, SINGLE, SIZES,
+                    SLICE_MAX, STATE, STATUS, TURN_MAX, WEIGHT_MAX, WEIGHT_MIN, array_place)
 
 BY = "Written by tools/places.py"
 LIMITS = [("CPUS", CPUS), ("CONTEXTS", CONTEXTS), ("ROOM", ROOM), ("NUMBER_MAX", NUMBER_MAX), ("ID_MAX", ID_MAX),
@@ -107,23 +107,41 @@ NOTES = {
 /* No operation, and no time: result is the weight of the CPU, added up from its queue entries, also of those whose
    context is gone, and the context in charge if it is active. The image is left as it is. */
 """,
+    "ask": """
+/* What a switch at that time would answer, and leave on that CPU: who is in charge, who is current, and V. Where it
+   would be refused all but the refusal is 0. */
+struct ronthuyal_asked {
+    uint64_t refusal;
+    uint64_t result;
+    uint64_t in_charge;
+    uint64_t current;
+    uint64_t v;
+};
+
+/* No operation: asks. The image is left as it is. */
+""",
+    "commit": """
+/* No operation: makes the switch if it gives what was asked, in all five words. Else the refusal is the switch's own,
+   or 13 where it would be accepted and gives something else. */
+""",
 }
 
 
-def c_call(name, takes, reads=False):
-    start = "struct ronthuyal_answer ronthuyal_%s(" % name
+def c_call(name, takes, reads=False, gives="answer"):
+    start = "struct ronthuyal_%s ronthuyal_%s(" % (gives, name)
     image = "const uint64_t *image" if reads else "uint64_t *image"
     words = image + ", size_t length, uint64_t cpu" + "".join(", uint64_t " + word for word in takes)
-    line = start + words + ");"
-    if len(line) <= 120:
-        return line
-    first, last = words.rsplit(", ", 1)
-    return start + first + ",\n" + " " * len(start) + last + ");"
+    lines = [start]
+    for word in (words + ");").split(", "):
+        if len(lines[-1] + word) + 1 > 120:
+            lines.append(" " * len(start))
+        lines[-1] += word + ("" if word.endswith(";") else ", ")
+    return "\n".join(line.rstrip() for line in lines)
 
 
 def header():
     calls = [c_call(operation.name, ("time", "context") if operation.takes else ("time",)) for operation in OPERATIONS]
-    calls += [NOTES[call.name] + c_call(call.name, call.takes, call.reads) for call in CALLS]
+    calls += [NOTES[call.name] + c_call(call.name, call.takes, call.reads, call.gives) for call in CALLS]
     out = [HEADER % (BY, open("VERSION").read().strip()) + "\n".join(calls), ""]
 
     def enum(title, pairs):
@@ -179,7 +197,8 @@ def tables():
     calls = [["`ronthuyal_%s(%s)`" % (call.name, ", ".join(("image", "cpu") + call.takes)), call.says, call.result]
              for call in CALLS]
     rules = [["%d" % number, rule.says, rule.when] for number, rule in enumerate(RULES, 1)]
-    refusals = [["%d" % number, says] for number, says in enumerate(REFUSALS, 1)]
+    numbered = [*enumerate(REFUSALS, 1), *MORE_REFUSALS.items()]
+    refusals = [["%d" % number, says] for number, says in numbered]
     return {"record": table(head, rows(enumerate(RECORD))),
             "block": table(head, rows(list(enumerate(SINGLE)) + last())),
             "arrays": table(["from word", "name", "says", "unit", "range", "used slots", "broken: refusal"], arrays),

@@ -4,10 +4,12 @@
 use std::{env, fs, path::PathBuf};
 
 /// An archive's index holds the names of its global symbols, ended by zeros.
-const EXPORTS: [&str; 3] = [
+const EXPORTS: [&str; 5] = [
     "ronthuyal_call\0",
     "ronthuyal_unblock_group\0",
     "ronthuyal_total_weight\0",
+    "ronthuyal_ask\0",
+    "ronthuyal_commit\0",
 ];
 const CUE_BOARD_EXPORTS: [&str; 2] = ["cue_board_add\0", "cue_board_next\0"];
 

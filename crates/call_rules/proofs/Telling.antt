@@ -23,11 +23,11 @@ use Rattle.context_ops.specs.declared.named.Named.{Named}
 use Rattle.context_ops.specs.declared.named.Named.the-variants as names
 use Rattle.context_ops.specs.Reply.{Reply, reply, refuse, replied, reply-to, reply-on}
 use Rattle.switch_ops.specs.Reply.{refusal, decide-on, decide-by, decide, direct-switch-by, direct-switch}
-use Rattle.ronthuyal.specs.declared.Checked.{Checked}
-use Rattle.ronthuyal.specs.declared.Checked.the-variants.{Refused, Passed}
-use Rattle.ronthuyal.specs.Call.{check, checked-by, checked}
-use Rattle.ronthuyal.proofs.Accepts.{refused-not}
-use Rattle.ronthuyal.proofs.Called.{is-refused, call-none}
+use Rattle.calls.specs.declared.Checked.{Checked}
+use Rattle.calls.specs.declared.Checked.the-variants.{Refused, Passed}
+use Rattle.calls.specs.Call.{check, checked-by, checked}
+use Rattle.calls.proofs.Accepts.{refused-not}
+use Rattle.calls.proofs.Called.{is-refused, call-none}
 use Rattle.ronthuyal.proofs.Demanded.{WasAccepted, accepted-by, accepted-to}
 
 -- of an answer whose call's outcome is o

@@ -28,7 +28,7 @@ use Rattle.context_ops.specs.Reply.{Reply, reply}
 use Rattle.model.proofs.Lists.{fold-keeps}
 use Rattle.group_ops.specs.Group.{names-refusal, also-unblock, unblock-each, group-on, unblock-group}
 use Rattle.group_ops.proofs.Unblocking.{unblock-rule}
-use Rattle.ronthuyal.specs.Call.{unblock-context-call, drain-ipi-context-wakeups-call, block-call, hard-block-call, no-operation-call, unblock-group-call, call}
+use Rattle.calls.specs.Call.{unblock-context-call, drain-ipi-context-wakeups-call, block-call, hard-block-call, no-operation-call, unblock-group-call, call}
 use Rattle.ronthuyal.specs.Demand.{StandsFor}
 use Rattle.ronthuyal.proofs.Demanded.{WasAccepted, stands-tick, stands-switch, stands-direct, stands-none}
 use Rattle.call_rules.specs.Rule.{RuleTold}

@@ -15,7 +15,7 @@ use Rattle.model.specs.Accepted.{Call, by-tick, by-switch, by-direct-switch, ou
 use Rattle.model_ticks.specs.Turns.{decision-by, turn-ended}
 use Rattle.model_ticks.proofs.Conserved.{charged-by-turn}
 use Rattle.context_ops.specs.Reply.{Reply, reply}
-use Rattle.ronthuyal.specs.Call.{call}
+use Rattle.calls.specs.Call.{call}
 use Rattle.ronthuyal.specs.Demand.{StandsFor}
 use Rattle.call_weights.specs.Kept.{operation-call}
 use Rattle.call_weights.proofs.Came.{Came}

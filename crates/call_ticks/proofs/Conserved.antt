@@ -30,8 +30,8 @@ use Rattle.model_weights.proofs.Untouched.{Untouched}
 use Rattle.model_weights.proofs.Operations.{block-untouched, drain-untouched, unblock-untouched, group-untouched}
 use Rattle.model_ticks.specs.Turns.{no-turn, turn-ended}
 use Rattle.model_ticks.proofs.Conserved.{untouched-keeps, call-conserves}
-use Rattle.ronthuyal.specs.Call.{check, unblock-group-call, call}
-use Rattle.ronthuyal.proofs.Accepts.{refused-not}
+use Rattle.calls.specs.Call.{check, unblock-group-call, call}
+use Rattle.calls.proofs.Accepts.{refused-not}
 use Rattle.ronthuyal.proofs.Left.{through}
 use Rattle.call_weights.specs.Kept.{ImageCall, operation-call, group-call, reply-of, image-after}
 use Rattle.call_weights.proofs.Came.{Came}

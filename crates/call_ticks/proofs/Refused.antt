@@ -20,9 +20,9 @@ use Rattle.context_ops.specs.declared.named.Named.the-variants.{Refused as NotN
 use Rattle.context_ops.specs.Named.{named}
 use Rattle.context_ops.specs.Reply.{Reply, refuse, replied, reply-to, reply-on}
 use Rattle.switch_ops.specs.Reply.{refusal, decide-on, decide-by, decide, direct-switch-by, direct-switch}
-use Rattle.ronthuyal.specs.declared.Checked.{Checked}
-use Rattle.ronthuyal.specs.declared.Checked.the-variants.{Refused, Passed}
-use Rattle.ronthuyal.specs.Call.{check, checked-by, checked, call}
+use Rattle.calls.specs.declared.Checked.{Checked}
+use Rattle.calls.specs.declared.Checked.the-variants.{Refused, Passed}
+use Rattle.calls.specs.Call.{check, checked-by, checked, call}
 use Rattle.ronthuyal.proofs.Least.{refused-group}
 use Rattle.call_weights.specs.Kept.{ImageCall, operation-call, group-call, reply-of}
 

@@ -34,8 +34,8 @@ use Rattle.context_ops.specs.Operations.{unblock-context, drain-ipi-context-wak
 use Rattle.context_ops.specs.Reply.{Reply, reply, refuse, replied, reply-to, reply-on}
 use Rattle.group_ops.specs.Group.{unblock-each, group-on, unblock-group}
 use Rattle.switch_ops.specs.Reply.{refusal, decide-on, decide-by, decide, direct-switch-by, direct-switch}
-use Rattle.ronthuyal.specs.Call.{checked, unblock-context-call, drain-ipi-context-wakeups-call, block-call, hard-block-call, unblock-group-call}
-use Rattle.ronthuyal.proofs.Accepts.{refused-not}
+use Rattle.calls.specs.Call.{checked, unblock-context-call, drain-ipi-context-wakeups-call, block-call, hard-block-call, unblock-group-call}
+use Rattle.calls.proofs.Accepts.{refused-not}
 use Rattle.ronthuyal.proofs.Leaving.{StandsFor, after, here, is-present, live-name}
 use Rattle.ronthuyal.proofs.Left.{through}
 use Rattle.ronthuyal.proofs.Reached.{short}

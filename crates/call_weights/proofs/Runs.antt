@@ -29,13 +29,13 @@ use Rattle.model_weights.specs.Runs.{Steady}
 use Rattle.model_weights.proofs.Decision.{decides-agree}
 use Rattle.model_weights.proofs.Steadiness.{untouched-steady, call-steady}
 use Rattle.model_weights.proofs.Operations.{block-untouched, drain-untouched, unblock-untouched, group-untouched}
-use Rattle.ronthuyal.specs.declared.Checked.{Checked}
-use Rattle.ronthuyal.specs.declared.Checked.the-variants.{Refused, Passed}
-use Rattle.ronthuyal.specs.Call.{check, checked-by, tick-call, switch-call, direct-switch-to-call, unblock-context-call, drain-ipi-context-wakeups-call, block-call, hard-block-call, unblock-group-call, no-operation-call, call}
+use Rattle.calls.specs.declared.Checked.{Checked}
+use Rattle.calls.specs.declared.Checked.the-variants.{Refused, Passed}
+use Rattle.calls.specs.Call.{check, checked-by, tick-call, switch-call, direct-switch-to-call, unblock-context-call, drain-ipi-context-wakeups-call, block-call, hard-block-call, unblock-group-call, no-operation-call, call}
 use Rattle.ronthuyal.specs.Demand.{StandsFor}
-use Rattle.ronthuyal.proofs.Accepts.{refused-not}
+use Rattle.calls.proofs.Accepts.{refused-not}
 use Rattle.ronthuyal.proofs.Demanded.{stands-tick, stands-switch, stands-direct, stands-none}
-use Rattle.ronthuyal.proofs.Called.{is-refused, call-none}
+use Rattle.calls.proofs.Called.{is-refused, call-none}
 use Rattle.ronthuyal.proofs.Left.{through}
 use Rattle.call_weights.specs.Kept.{WeightKept, ImageCall, operation-call, group-call, reply-of, Inside, AcceptedRun, image-after}
 use Rattle.call_weights.proofs.Came.{Came, by, to, drained, called, grouped}

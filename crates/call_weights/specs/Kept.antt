@@ -8,7 +8,7 @@ use Rattle.model.specs.Tidy.{Tidy}
 use Rattle.model.specs.Accepted.{Call, decides, ServesOwn}
 use Rattle.context_ops.specs.Reply.{Reply}
 use Rattle.model_weights.specs.Weighed.{Weighed, Agree}
-use Rattle.ronthuyal.specs.Call.{call, unblock-group-call}
+use Rattle.calls.specs.Call.{call, unblock-group-call}
 use Rattle.ronthuyal.specs.Demand.{StandsFor}
 
 -- m is the image before the call and m' the image after it: under the conditions of `DemandMet` and of the ticket, an accepted decision

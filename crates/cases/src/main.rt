@@ -1,4 +1,5 @@
-// Document 01's cases that are not starred, its traps, its table of refused calls, groups, due timers, the newest timer, and weights added up.
+// Document 01's cases that are not starred, its traps, its table of refused calls, groups, due timers, the newest timer, weights added up, and
+// asking and committing.
 fn main() {
     replay::run();
 }

@@ -15,9 +15,9 @@ use Rattle.context_ops.specs.declared.named.Named.the-variants.{Refused, Found}
 use Rattle.context_ops.specs.Named.{named}
 use Rattle.context_ops.specs.Operations.{unblock-context}
 use Rattle.context_ops.specs.Reply.{Reply, reply, replied, reply-to}
-use Rattle.ronthuyal.specs.declared.Checked.{Checked}
-use Rattle.ronthuyal.specs.declared.Checked.the-variants.{Refused as NotPassed, Passed}
-use Rattle.ronthuyal.specs.Call.{check, checked-by, unblock-context-call}
+use Rattle.calls.specs.declared.Checked.{Checked}
+use Rattle.calls.specs.declared.Checked.the-variants.{Refused as NotPassed, Passed}
+use Rattle.calls.specs.Call.{check, checked-by, unblock-context-call}
 use Rattle.board.specs.Board.{Board, cue-at, put-number}
 use Rattle.board.proofs.Sized.{sized-is}
 use Rattle.cues.specs.declared.Due.{Due}

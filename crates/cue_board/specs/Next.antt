@@ -4,7 +4,7 @@ use mathlib.Core.List.{List}
 use lib.Dec.{eqb}
 use Rattle.columns.specs.Common.{if_then_else_}
 use Rattle.context_ops.specs.Reply.{Reply}
-use Rattle.ronthuyal.specs.Call.{unblock-context-call}
+use Rattle.calls.specs.Call.{unblock-context-call}
 use Rattle.board.specs.Board.{Cue, put-number, cue-at}
 use Rattle.cues.specs.declared.Due.{Due}
 use Rattle.cues.specs.declared.Due.the-variants.{Refused, Nothing, Slot}

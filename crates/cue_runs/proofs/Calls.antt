@@ -12,7 +12,7 @@ use Rattle.columns.specs.Blocks.{part}
 use Rattle.columns.proofs.Tests.{by-test}
 use Rattle.numbers.specs.Limits.{word-range}
 use Rattle.context_ops.specs.Reply.{Reply}
-use Rattle.ronthuyal.specs.Call.{unblock-context-call}
+use Rattle.calls.specs.Call.{unblock-context-call}
 use Rattle.board.specs.Board.{Cue, is-sized, row-size, row-place, put-number, capacity, stored, handed-out, offered, cue-at}
 use Rattle.slots.proofs.Rows.{length-padded}
 use Rattle.board.proofs.Sized.{sized-is}

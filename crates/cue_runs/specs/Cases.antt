@@ -6,7 +6,7 @@ use lib.ListN.{replicate, set}
 use Rattle.columns.specs.Common.{tabulate}
 use Rattle.columns.specs.Blocks.{part, splice}
 use Rattle.image.specs.Refusal.{image-refusal}
-use Rattle.ronthuyal.specs.Call.{check, checked-by}
+use Rattle.calls.specs.Call.{check, checked-by}
 use Rattle.le_bytes.specs.LeBytes.{from-le-bytes, to-le-bytes}
 use Rattle.board.specs.Board.{Cue, is-sized, padded, offered, put-number, cue-at, cues}
 use Rattle.slots.specs.Slots.{put-numbers, put-lengths, put-rows, put-cue}

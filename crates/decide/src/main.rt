@@ -3,9 +3,9 @@
 mod input;
 mod output;
 
+use asked::Asked;
 use libc::STDIN_FILENO;
 use libc::STDOUT_FILENO;
-use output::Line;
 ghost use Prim.Native.Nat.{_+_, _≤_};
 ghost use lib.ListN.{length};
 ghost use Rattle.machine.specs.Encode.{max-image-size};
@@ -15,11 +15,11 @@ fn show(n: u64) {
     io::print_decimal(STDOUT_FILENO, n);
 }
 
-fn print(line: Line) {
+fn print(line: Asked) {
     io::print_decimal(STDOUT_FILENO, line.refusal);
     show(line.result);
-    show(line.sched_ctxt);
-    show(line.current_ctxt);
+    show(line.in_charge);
+    show(line.current);
     show(line.v);
     io::write_all(STDOUT_FILENO, b"\n");
 }

@@ -1,6 +1,7 @@
 // The words of an image as the text lists them, and what a call made of them.
 use crate::text;
 use answer::Answer;
+use asked::Asked;
 use libc::STDOUT_FILENO;
 
 // As long as the longest image, and one word more: such an image is refused by its length.
@@ -83,5 +84,14 @@ pub fn answer(a: Answer, m: &[u64], old: &[u64]) {
     show_answer(a);
     show(differ(m, old));
     show_changed(m, old);
+    io::write_all(STDOUT_FILENO, b"\n");
+}
+
+pub fn asked(r: Asked) {
+    io::print_decimal(STDOUT_FILENO, r.refusal);
+    show(r.result);
+    show(r.in_charge);
+    show(r.current);
+    show(r.v);
     io::write_all(STDOUT_FILENO, b"\n");
 }

@@ -1,8 +1,9 @@
 // Replays calls that a text lists: a case is the numbers operation, CPU, time, context, the image's length, how many of its
 // words are not 0, and these as pairs of place and value. A line that begins with g wakes a group: CPU, time, mask, then
-// the image as before. One that begins with w adds up a weight: CPU, then the image. Printed are refusal, result, interrupt
-// mark and rule, how many words the call changed, and these as pairs of place and new value. A line that begins with # is
-// printed as it is.
+// the image as before. One that begins with w adds up a weight: CPU, then the image. One that begins with c commits: CPU,
+// time, the five numbers of the reply, then the image. Printed are refusal, result, interrupt mark and rule, how many words
+// the call changed, and these as pairs of place and new value. A line that begins with a asks: CPU, time, then the image;
+// printed are the five numbers. A line that begins with # is printed as it is.
 mod image;
 mod listed;
 mod text;

@@ -2,6 +2,7 @@
 use crate::image;
 use crate::text;
 use answer::Answer;
+use asked::Asked;
 use libc::STDOUT_FILENO;
 
 struct Head {
@@ -36,6 +37,28 @@ fn read_sizes(s: &[u8], from: usize, cpu: u64, time: u64, named: u64) -> Head {
     }
 }
 
+// A reply that is committed to.
+struct Given {
+    reply: Asked,
+    end: usize,
+}
+
+fn read_reply(s: &[u8], from: usize) -> Given {
+    let refusal = text::next(s, from);
+    let result = text::next(s, refusal.end);
+    let in_charge = text::next(s, result.end);
+    let current = text::next(s, in_charge.end);
+    let v = text::next(s, current.end);
+    let reply = Asked {
+        refusal: refusal.value,
+        result: result.value,
+        in_charge: in_charge.value,
+        current: current.value,
+        v: v.value,
+    };
+    Given { reply, end: v.end }
+}
+
 fn prepare(s: &[u8], h: Head, m: &mut [u64], old: &mut [u64]) -> usize {
     image::clear(m);
     image::clear(old);
@@ -64,6 +87,35 @@ fn add_up(m: &[u64], h: Head) -> Answer {
         return ronthuyal::ronthuyal_total_weight(&m[0..n], h.cpu);
     }
     ronthuyal::ronthuyal_total_weight(m, h.cpu)
+}
+
+fn put_question(m: &[u64], h: Head) -> Asked {
+    let n = numbers::index(h.length);
+    if n <= m.len() {
+        return ronthuyal::ronthuyal_ask(&m[0..n], h.cpu, h.time);
+    }
+    ronthuyal::ronthuyal_ask(m, h.cpu, h.time)
+}
+
+fn commit_on(m: &mut [u64], h: Head, r: Asked) -> Answer {
+    ronthuyal::ronthuyal_commit(
+        m,
+        h.cpu,
+        h.time,
+        r.refusal,
+        r.result,
+        r.in_charge,
+        r.current,
+        r.v,
+    )
+}
+
+fn play_commit(m: &mut [u64], h: Head, r: Asked) -> Answer {
+    let n = numbers::index(h.length);
+    if n <= m.len() {
+        return commit_on(&mut m[0..n], h, r);
+    }
+    commit_on(m, h, r)
 }
 
 // One case, and where the text goes on.
@@ -95,6 +147,28 @@ fn total_weight(s: &[u8], from: usize, m: &mut [u64], old: &mut [u64]) -> usize 
     end
 }
 
+// A case that asks, from behind its a, and where the text goes on.
+fn question(s: &[u8], from: usize, m: &mut [u64], old: &mut [u64]) -> usize {
+    let cpu = text::next(s, from);
+    let time = text::next(s, cpu.end);
+    let h = read_sizes(s, time.end, cpu.value, time.value, 0);
+    let end = prepare(s, h, m, old);
+    image::asked(put_question(m, h));
+    end
+}
+
+// A case that commits, from behind its c, and where the text goes on.
+fn commit(s: &[u8], from: usize, m: &mut [u64], old: &mut [u64]) -> usize {
+    let cpu = text::next(s, from);
+    let time = text::next(s, cpu.end);
+    let given = read_reply(s, time.end);
+    let h = read_sizes(s, given.end, cpu.value, time.value, 0);
+    let end = prepare(s, h, m, old);
+    let a = play_commit(m, h, given.reply);
+    image::answer(a, m, old);
+    end
+}
+
 // A line that is printed as it is, and where the text goes on.
 fn comment(s: &[u8], from: usize) -> usize {
     let end = text::line_end(s, from);
@@ -118,6 +192,14 @@ fn item(s: &[u8], from: usize, m: &mut [u64], old: &mut [u64]) -> usize {
     let weighed = text::after(s, from, b'w');
     if from < weighed {
         return total_weight(s, weighed, m, old);
+    }
+    let asked = text::after(s, from, b'a');
+    if from < asked {
+        return question(s, asked, m, old);
+    }
+    let committed = text::after(s, from, b'c');
+    if from < committed {
+        return commit(s, committed, m, old);
     }
     case(s, from, m, old)
 }

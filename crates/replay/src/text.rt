@@ -28,6 +28,12 @@ fn is_mark(b: u8) -> bool {
     if b == b'w' {
         return true;
     }
+    if b == b'a' {
+        return true;
+    }
+    if b == b'c' {
+        return true;
+    }
     is_digit(b)
 }
 
@@ -55,7 +61,7 @@ fn digit(b: u8) -> u64 {
     0
 }
 
-// The first place from `from` on that is a digit, #, g or w, or the length.
+// The first place from `from` on that is a digit, #, g, w, a or c, or the length.
 pub fn skip(s: &[u8], from: usize) -> usize {
     let mut i = from;
     while i < s.len() {

@@ -25,12 +25,12 @@ use Rattle.answer.specs.declared.Answer.{Answer}
 use Rattle.context_ops.specs.Reply.{reply, refuse, replied}
 use Rattle.switch_ops.specs.Reply.{refusal, decide-on, decide-by, decide, direct-switch-by, direct-switch, Replies}
 use Rattle.image.proofs.Admitted as admitted
-use Rattle.ronthuyal.specs.declared.Checked.{Checked}
-use Rattle.ronthuyal.specs.declared.Checked.the-variants.{Refused, Passed}
-use Rattle.ronthuyal.specs.Call.{check}
+use Rattle.calls.specs.declared.Checked.{Checked}
+use Rattle.calls.specs.declared.Checked.the-variants.{Refused, Passed}
+use Rattle.calls.specs.Call.{check}
 use Rattle.ronthuyal.specs.Demand.{StandsFor, DemandMet}
-use Rattle.ronthuyal.proofs.Called.{is-refused, call-none, call-machine}
-use Rattle.ronthuyal.proofs.Accepts.{refused-not}
+use Rattle.calls.proofs.Called.{is-refused, call-none, call-machine}
+use Rattle.calls.proofs.Accepts.{refused-not}
 
 -- what an accepted call says of the machine
 pub record WasAccepted (M : Machine) (k time : ℕ) (call : Call) : Type 0 where
@@ -90,7 +90,7 @@ stands-none operation context a b c (by-direct-switch x) s = c (s .0)
 
 -- p: the image passed
 module _ {time : ℕ} (m : List ℕ) (p : admitted.Passed time m) where
-  demanded : {r : ℕ} {m' : List ℕ} (operation context cpu : ℕ) (call : Call) → ((d : Call) → StandsFor operation context d → d ≡ call)
+  pub demanded : {r : ℕ} {m' : List ℕ} (operation context cpu : ℕ) (call : Call) → ((d : Call) → StandsFor operation context d → d ≡ call)
       → (r ≡ 0 → WasAccepted (decode m) cpu time call) → (r ≡ 0 → decode m' ≡ (outcome call cpu time (decode m)) .machine)
       → DemandMet m m' operation cpu time context r
   demanded {r} {m'} operation context cpu call only was after =

@@ -5,7 +5,7 @@ use mathlib.Core.List.{List}
 use lib.Dec.{eqb}
 use borrow.Author.Tests.{ne-eqb}
 use Rattle.context_ops.specs.Reply.{Reply}
-use Rattle.ronthuyal.specs.Call.{
+use Rattle.calls.specs.Call.{
   tick-call,
   switch-call,
   direct-switch-to-call,

@@ -23,13 +23,13 @@ use Rattle.context_ops.specs.Operations.{unblock-context}
 use Rattle.context_ops.specs.Reply.{Reply, reply, refuse, replied, reply-to}
 use Rattle.context_ops.proofs.Resolved.{absent-cpu}
 use Rattle.group_ops.specs.Group.{first-check, names-refusal, unblock-each, group-on, unblock-group}
-use Rattle.ronthuyal.specs.declared.Checked.{Checked}
-use Rattle.ronthuyal.specs.declared.Checked.the-variants.{Refused, Passed}
-use Rattle.ronthuyal.specs.Call.{check, checked, checked-by, unblock-context-call, unblock-group-call}
+use Rattle.calls.specs.declared.Checked.{Checked}
+use Rattle.calls.specs.declared.Checked.the-variants.{Refused, Passed}
+use Rattle.calls.specs.Call.{check, checked, checked-by, unblock-context-call, unblock-group-call}
 use Rattle.ronthuyal.specs.Leaves.{Leaves}
 use Rattle.ronthuyal.specs.Singles.{singles, image-after, zero-answer, joined-answer, joined, none-named}
-use Rattle.ronthuyal.proofs.Called.{is-refused, call-none, call-refused}
-use Rattle.ronthuyal.proofs.Accepts.{refused-not}
+use Rattle.calls.proofs.Called.{is-refused, call-none, call-refused}
+use Rattle.calls.proofs.Accepts.{refused-not}
 use Rattle.ronthuyal.proofs.Leaving.{Unraised}
 use Rattle.ronthuyal.proofs.Left.{unraised-left}
 use Rattle.ronthuyal.proofs.Reached.{start, call-on}

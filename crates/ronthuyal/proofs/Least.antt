@@ -17,9 +17,9 @@ use Rattle.model.proofs.Cases.{pick}
 use Rattle.answer.specs.declared.Answer.{Answer}
 use Rattle.context_ops.specs.Reply.{Reply, replied}
 use Rattle.group_ops.specs.Group.{first-check, names-refusal, unblock-each, group-on, unblock-group}
-use Rattle.ronthuyal.specs.declared.Checked.{Checked}
-use Rattle.ronthuyal.specs.declared.Checked.the-variants.{Refused, Passed}
-use Rattle.ronthuyal.specs.Call.{check, checked-by, unblock-group-call}
+use Rattle.calls.specs.declared.Checked.{Checked}
+use Rattle.calls.specs.declared.Checked.the-variants.{Refused, Passed}
+use Rattle.calls.specs.Call.{check, checked-by, unblock-group-call}
 use Rattle.ronthuyal.specs.Singles.{singles, image-after, zero-answer, joined-answer, joined, Met, Least}
 use Rattle.ronthuyal.proofs.Grouped.{group-is-singles}
 use Rattle.numbers.specs.Limits.{max-word}

@@ -31,7 +31,7 @@ use Rattle.context_ops.specs.Named.{named-on, named-context}
 use Rattle.context_ops.specs.Operations.{unblock-context, drain-ipi-context-wakeups, block-with}
 use Rattle.context_ops.specs.Reply.{Reply, reply, replied, reply-to, reply-on}
 use Rattle.switch_ops.specs.Reply.{refusal, decide-on, decide-by, direct-switch-by}
-use Rattle.ronthuyal.proofs.Accepts.{refused-not}
+use Rattle.calls.proofs.Accepts.{refused-not}
 use Rattle.numbers.specs.Limits.{max-number}
 
 -- m' stands for a machine of which P holds

@@ -22,14 +22,14 @@ use Rattle.model_leaves.proofs.Passing.{MachineRaised, cpus-are, names-are, len
 use Rattle.answer.specs.declared.Answer.{Answer}
 use Rattle.context_ops.specs.Named.{named}
 use Rattle.context_ops.specs.Reply.{Reply, reply}
-use Rattle.ronthuyal.specs.declared.Checked.{Checked}
-use Rattle.ronthuyal.specs.declared.Checked.the-variants.{Refused, Passed}
-use Rattle.ronthuyal.specs.Call.{check, checked, checked-by, tick-call, switch-call, direct-switch-to-call, unblock-context-call, drain-ipi-context-wakeups-call, block-call, hard-block-call, call}
+use Rattle.calls.specs.declared.Checked.{Checked}
+use Rattle.calls.specs.declared.Checked.the-variants.{Refused, Passed}
+use Rattle.calls.specs.Call.{check, checked, checked-by, tick-call, switch-call, direct-switch-to-call, unblock-context-call, drain-ipi-context-wakeups-call, block-call, hard-block-call, call}
 use Rattle.ronthuyal.specs.Demand.{DemandMet}
 use Rattle.ronthuyal.specs.Leaves.{Left, Leaves}
 use Rattle.ronthuyal.proofs.Dispatched.{is-tick, is-switch, is-direct-switch-to}
-use Rattle.ronthuyal.proofs.Called.{is-refused, call-none}
-use Rattle.ronthuyal.proofs.Accepts.{refused-not}
+use Rattle.calls.proofs.Called.{is-refused, call-none}
+use Rattle.calls.proofs.Accepts.{refused-not}
 use Rattle.ronthuyal.proofs.Leaving.{Formed, Unraised, unraised-formed, by, directly, on, to, block-in-range, unblock-in-range}
 use Rattle.numbers.specs.Limits.{max-number, max-word}
 

@@ -1,5 +1,3 @@
-pub mod Called
-pub mod Accepts
 pub mod Demanded
 pub mod Dispatched
 pub mod Leaving
@@ -11,3 +9,4 @@ pub mod OneByOne
 pub mod Grouped
 pub mod OneBit
 pub mod Least
+pub mod Asking

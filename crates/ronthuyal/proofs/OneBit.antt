@@ -20,9 +20,9 @@ use Rattle.context_ops.specs.declared.named.Named.the-variants as names
 use Rattle.context_ops.specs.Named.{named}
 use Rattle.context_ops.specs.Reply.{Reply, reply, refuse, replied, reply-to}
 use Rattle.group_ops.specs.Group.{first-check, unblock-group}
-use Rattle.ronthuyal.specs.declared.Checked.{Checked}
-use Rattle.ronthuyal.specs.declared.Checked.the-variants.{Refused, Passed}
-use Rattle.ronthuyal.specs.Call.{check, checked-by, unblock-context-call, unblock-group-call}
+use Rattle.calls.specs.declared.Checked.{Checked}
+use Rattle.calls.specs.declared.Checked.the-variants.{Refused, Passed}
+use Rattle.calls.specs.Call.{check, checked-by, unblock-context-call, unblock-group-call}
 use Rattle.ronthuyal.specs.Singles.{singles, image-after, joined-answer, joined}
 use Rattle.ronthuyal.proofs.Reached.{given}
 use Rattle.group_ops.proofs.Unblocking.{mark-either}

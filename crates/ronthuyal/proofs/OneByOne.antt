@@ -20,7 +20,7 @@ use Rattle.context_ops.specs.Operations.{unblock-context}
 use Rattle.context_ops.specs.Reply.{Reply, reply, refuse, replied}
 use Rattle.group_ops.specs.Group.{first-check, name-refusal, names-refusal, also-unblock, unblock-each}
 use Rattle.group_ops.proofs.Unblocking.{mark-either}
-use Rattle.ronthuyal.specs.Call.{unblock-context-call}
+use Rattle.calls.specs.Call.{unblock-context-call}
 use Rattle.ronthuyal.specs.Singles.{singles, image-after, zero-answer, joined-answer}
 use Rattle.ronthuyal.proofs.Reached.{Reached, start, OfName, given, Ends, misnamed, full, done, ends}
 

@@ -35,8 +35,8 @@ use Rattle.context_ops.specs.Operations.{unblock-context}
 use Rattle.context_ops.specs.Reply.{Reply, replied, reply-to}
 use Rattle.context_ops.proofs.Resolved.{IsFound, found}
 use Rattle.group_ops.specs.Group.{name-refusal}
-use Rattle.ronthuyal.specs.Call.{checked-by, unblock-context-call}
-use Rattle.ronthuyal.proofs.Called.{check-passed}
+use Rattle.calls.specs.Call.{checked-by, unblock-context-call}
+use Rattle.calls.proofs.Called.{check-passed}
 use Rattle.ronthuyal.proofs.Leaving.{InRange}
 use Rattle.ronthuyal.proofs.Left.{unraised-left}
 use Rattle.ronthuyal.proofs.Passing.{passes-again}

@@ -1,4 +1,3 @@
-pub mod Call
 pub mod Demand
 pub mod Leaves
 pub mod Singles

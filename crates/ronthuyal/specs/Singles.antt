@@ -10,7 +10,7 @@ use Rattle.machine.specs.declared.CpuLookup.the-variants.{Present, Absent}
 use Rattle.answer.specs.declared.Answer.{Answer}
 use Rattle.context_ops.specs.Reply.{Reply, reply, refuse}
 use Rattle.group_ops.specs.Group.{first-check}
-use Rattle.ronthuyal.specs.Call.{unblock-context-call}
+use Rattle.calls.specs.Call.{unblock-context-call}
 
 -- each call is on the image that the one before it left: the answers in order, and the image after the last
 unfoldable pub singles : List ℕ → (cpu time : ℕ) → List ℕ → List Answer

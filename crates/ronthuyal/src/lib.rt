@@ -1,9 +1,10 @@
 // The calls, of any words: the image is checked, and refused by document 01's number or worked on.
 use answer::Answer;
+use asked::Asked;
+use calls::Checked;
 ghost use mathlib.Core.Path.{_≡_};
 ghost use Rattle.context_ops.specs.Reply.{reply};
-ghost use Rattle.ronthuyal.specs.Call.{
-  check,
+ghost use Rattle.calls.specs.Call.{
   tick-call,
   switch-call,
   direct-switch-to-call,
@@ -16,25 +17,11 @@ ghost use Rattle.ronthuyal.specs.Call.{
   no-operation-call,
   call,
 };
+ghost use Rattle.asked.specs.OfReply.{asked};
+ghost use Rattle.ask.specs.Ask.{ask, commit};
 ghost use Rattle.ronthuyal.specs.Demand.{DemandMet};
 ghost use Rattle.ronthuyal.specs.Leaves.{Leaves};
 ghost use Rattle.numbers.specs.Limits.{max-number, max-word};
-
-// What the check of an image gives: its refusal, or the counts of its CPUs and contexts.
-pub enum Checked {
-    Refused(u64),
-    Passed(usize, usize),
-}
-
-pub fn check(image: &[u64], time: u64) -> Checked
-    ensures { λ r. ⌜ r ≡ check (now (image .entry)) time ⌝ }
-{
-    let number = image::refusal(image, time);
-    if number != 0 {
-        return Checked::Refused(number);
-    }
-    Checked::Passed(numbers::index(image[0]), numbers::index(image[1]))
-}
 
 // Operation 1. The result is 0 if no switch is due, else as in operation 2.
 #[no_mangle]
@@ -43,7 +30,7 @@ pub extern "C" fn ronthuyal_tick(image: &mut [u64], cpu: u64, time: u64) -> Answ
     ensures { λ r. ⌜ DemandMet (now (image .entry)) (now (image .exit)) 1 cpu time 0 (r .refusal) ⌝ }
     ensures { λ r. ⌜ Leaves max-word (now (image .entry)) (now (image .exit)) (r .refusal) ⌝ }
 {
-    let checked = check(image, time);
+    let checked = calls::check(image, time);
     match checked {
         Checked::Refused(number) => answer::refused(number),
         Checked::Passed(c, n) => switch_ops::tick(image, c, n, cpu, time),
@@ -57,7 +44,7 @@ pub extern "C" fn ronthuyal_switch(image: &mut [u64], cpu: u64, time: u64) -> An
     ensures { λ r. ⌜ DemandMet (now (image .entry)) (now (image .exit)) 2 cpu time 0 (r .refusal) ⌝ }
     ensures { λ r. ⌜ Leaves max-word (now (image .entry)) (now (image .exit)) (r .refusal) ⌝ }
 {
-    let checked = check(image, time);
+    let checked = calls::check(image, time);
     match checked {
         Checked::Refused(number) => answer::refused(number),
         Checked::Passed(c, n) => switch_ops::switch(image, c, n, cpu, time),
@@ -76,7 +63,7 @@ pub extern "C" fn ronthuyal_direct_switch_to(
     ensures { λ r. ⌜ DemandMet (now (image .entry)) (now (image .exit)) 3 cpu time context (r .refusal) ⌝ }
     ensures { λ r. ⌜ Leaves max-word (now (image .entry)) (now (image .exit)) (r .refusal) ⌝ }
 {
-    let checked = check(image, time);
+    let checked = calls::check(image, time);
     match checked {
         Checked::Refused(number) => answer::refused(number),
         Checked::Passed(c, n) => switch_ops::direct_switch_to(image, c, n, cpu, time, context),
@@ -94,7 +81,7 @@ pub extern "C" fn ronthuyal_unblock_context(
     ensures { λ r. ⌜ reply r (now (image .exit)) ≡ unblock-context-call (now (image .entry)) cpu time context ⌝ }
     ensures { λ r. ⌜ Leaves max-number (now (image .entry)) (now (image .exit)) (r .refusal) ⌝ }
 {
-    let checked = check(image, time);
+    let checked = calls::check(image, time);
     match checked {
         Checked::Refused(number) => answer::refused(number),
         Checked::Passed(c, n) => context_ops::unblock_context(image, c, n, cpu, context),
@@ -111,7 +98,7 @@ pub extern "C" fn ronthuyal_drain_ipi_context_wakeups(
     ensures { λ r. ⌜ reply r (now (image .exit)) ≡ drain-ipi-context-wakeups-call (now (image .entry)) cpu time ⌝ }
     ensures { λ r. ⌜ Leaves max-number (now (image .entry)) (now (image .exit)) (r .refusal) ⌝ }
 {
-    let checked = check(image, time);
+    let checked = calls::check(image, time);
     match checked {
         Checked::Refused(number) => answer::refused(number),
         Checked::Passed(c, n) => context_ops::drain_ipi_context_wakeups(image, c, n, cpu),
@@ -124,7 +111,7 @@ pub extern "C" fn ronthuyal_block(image: &mut [u64], cpu: u64, time: u64, contex
     ensures { λ r. ⌜ reply r (now (image .exit)) ≡ block-call (now (image .entry)) cpu time context ⌝ }
     ensures { λ r. ⌜ Leaves max-number (now (image .entry)) (now (image .exit)) (r .refusal) ⌝ }
 {
-    let checked = check(image, time);
+    let checked = calls::check(image, time);
     match checked {
         Checked::Refused(number) => answer::refused(number),
         Checked::Passed(c, n) => context_ops::block(image, c, n, cpu, context),
@@ -142,7 +129,7 @@ pub extern "C" fn ronthuyal_hard_block(
     ensures { λ r. ⌜ reply r (now (image .exit)) ≡ hard-block-call (now (image .entry)) cpu time context ⌝ }
     ensures { λ r. ⌜ Leaves max-number (now (image .entry)) (now (image .exit)) (r .refusal) ⌝ }
 {
-    let checked = check(image, time);
+    let checked = calls::check(image, time);
     match checked {
         Checked::Refused(number) => answer::refused(number),
         Checked::Passed(c, n) => context_ops::hard_block(image, c, n, cpu, context),
@@ -152,7 +139,7 @@ pub extern "C" fn ronthuyal_hard_block(
 fn no_operation(image: &[u64], time: u64) -> Answer
     ensures { λ r. ⌜ reply r (now (image .entry)) ≡ no-operation-call (now (image .entry)) time ⌝ }
 {
-    let checked = check(image, time);
+    let checked = calls::check(image, time);
     match checked {
         Checked::Refused(number) => answer::refused(number),
         Checked::Passed(_, _) => answer::refused(5),
@@ -195,7 +182,7 @@ pub extern "C" fn ronthuyal_unblock_group(
     ensures { λ r. ⌜ reply r (now (image .exit)) ≡ unblock-group-call (now (image .entry)) cpu time mask ⌝ }
     ensures { λ r. ⌜ Leaves max-number (now (image .entry)) (now (image .exit)) (r .refusal) ⌝ }
 {
-    let checked = check(image, time);
+    let checked = calls::check(image, time);
     match checked {
         Checked::Refused(number) => answer::refused(number),
         Checked::Passed(c, n) => group_ops::unblock_group(image, c, n, cpu, mask),
@@ -207,9 +194,43 @@ pub extern "C" fn ronthuyal_unblock_group(
 pub extern "C" fn ronthuyal_total_weight(image: &[u64], cpu: u64) -> Answer
     ensures { λ r. ⌜ reply r (now (image .entry)) ≡ total-weight-call (now (image .entry)) cpu ⌝ }
 {
-    let checked = check(image, 0);
+    let checked = calls::check(image, 0);
     match checked {
         Checked::Refused(number) => answer::refused(number),
         Checked::Passed(c, n) => total_weight::answer(image, c, n, cpu),
     }
+}
+
+// What a switch at that time would answer and leave on that CPU. The image is only read.
+#[no_mangle]
+pub extern "C" fn ronthuyal_ask(image: &[u64], cpu: u64, time: u64) -> Asked
+    ensures { λ r. ⌜ r ≡ ask (now (image .entry)) cpu time ⌝ }
+{
+    ask::ask(image, cpu, time)
+}
+
+// Operation 2, if what it would answer and leave on that CPU is what was given.
+#[no_mangle]
+pub extern "C" fn ronthuyal_commit(
+    image: &mut [u64],
+    cpu: u64,
+    time: u64,
+    refusal: u64,
+    result: u64,
+    in_charge: u64,
+    current: u64,
+    v: u64,
+) -> Answer
+    ensures { λ r. ⌜ reply r (now (image .exit)) ≡ commit (now (image .entry)) cpu time (asked refusal result «in_charge» current v) ⌝ }
+    ensures { λ r. ⌜ DemandMet (now (image .entry)) (now (image .exit)) 2 cpu time 0 (r .refusal) ⌝ }
+    ensures { λ r. ⌜ Leaves max-word (now (image .entry)) (now (image .exit)) (r .refusal) ⌝ }
+{
+    let given = Asked {
+        refusal,
+        result,
+        in_charge,
+        current,
+        v,
+    };
+    ask::commit(image, cpu, time, given)
 }

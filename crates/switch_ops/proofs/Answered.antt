@@ -6,7 +6,7 @@ use native.Mathlib.Omega.{arith}
 use mathlib.Core.List.{List}
 use lib.Dec.{ltb, eqb}
 use borrow.Author.Tests.{ne-eqb, ltb-false}
-use Rattle.columns.proofs.Tests.{past}
+use Rattle.columns.proofs.Tests.{by-test, past}
 use Rattle.machine.specs.declared.Lookup.{Lookup}
 use Rattle.machine.specs.declared.Lookup.the-variants.{Live, Gone}
 use Rattle.machine.specs.declared.CpuLookup.{CpuLookup}
@@ -23,10 +23,10 @@ use Rattle.model.specs.Accepted.{Call, by-tick, by-switch, by-direct-switch, ou
 use Rattle.admission.specs.Refusals.{decision-locked, is-late, decision-refusal, direct-refusal}
 use Rattle.schedule.specs.Decides.{Told, Decides, DecidesAt}
 use Rattle.answer.specs.declared.Answer.{Answer}
-use Rattle.context_ops.specs.Reply.{replied}
+use Rattle.context_ops.specs.Reply.{Reply, reply, replied}
 use Rattle.switch_ops.specs.declared.Decision.{Decision}
 use Rattle.switch_ops.specs.declared.Decision.the-variants.{Tick, Switch, DirectSwitchTo}
-use Rattle.switch_ops.specs.Reply.{call-of, refusal, decide-on, decide-by, decide, direct-switch-by, direct-switch, Replies, TargetBelow}
+use Rattle.switch_ops.specs.Reply.{call-of, refusal, decide-on, decide-by, decide, direct-switch-by, direct-switch, Replies, Attempts, TargetBelow}
 use Rattle.numbers.specs.Limits.{max-elapsed}
 
 -- the code's enum d is one of its variants, e; full' and r' are full and r as numbers
@@ -52,15 +52,36 @@ room {m' = m'} {r = r} m o t d h =
       leaves = λ z. ap decode (d .after t) ∙ decodes (o .machine) (d .fits t);
     }
 
+pub attempt-room : {c n : ℕ} {m' : List ℕ} {r : Told} {a : Answer} (m : List ℕ) (o : Outcome) {full : Bool} → full ≡ false → DecidesAt c n m' full r o
+    → a ≡ record { refusal = 0; result = r .result; interrupt = 0; rule = r .rule } → Attempts m' a (replied m o) (o .machine)
+attempt-room m o t d h = let w = room m o t d h in record { answers = ap (λ (y : Reply). y .answer) (w .replies); replies = λ z. w }
+
 -- there was none
-pub no-room : {c n : ℕ} {m' m'' : List ℕ} {r : Told} {a : Answer} (m : List ℕ) (o : Outcome) {full : Bool} → full ≡ true → DecidesAt c n m' full r o
-    → a ≡ record { refusal = 9; result = 0; interrupt = 0; rule = 0 } → m'' ≡ m → Replies m'' a (replied m o) (o .machine)
+pub attempt-no-room : {c n : ℕ} {m' : List ℕ} {r : Told} {a : Answer} (m : List ℕ) (o : Outcome) {full : Bool} → full ≡ true → DecidesAt c n m' full r o
+    → a ≡ record { refusal = 9; result = 0; interrupt = 0; rule = 0 } → Attempts m' a (replied m o) (o .machine)
 unfolding replied
-no-room m o t d h e =
+attempt-no-room m o t d h =
     record {
-      replies = rw (sym (d .room) ∙ t, h, e);
-      leaves = λ z. let w : _≡_ {A = ℕ} 9 0 = cc in absurd (omega arith);
+      answers = rw (sym (d .room) ∙ t) h;
+      replies = λ z. let w : _≡_ {A = ℕ} 9 0 = cc in absurd (omega arith);
     }
+
+module _ {m' : List ℕ} {a : Answer} (m : List ℕ) (o : Outcome) (t : Attempts m' a (replied m o) (o .machine)) where
+  -- where there is room for certain
+  pub certain-replies : o .no-room ≡ false → Replies m' a (replied m o) (o .machine)
+  unfolding replied
+  certain-replies e = t .replies (ap (λ (b : Answer). b .refusal) (rw e at (t .answers)))
+
+  -- where the call was refused and the words were put back
+  pub kept-replies : {m'' : List ℕ} → (a .refusal ≡ 0 → ⊥) → m'' ≡ m → Replies m'' a (replied m o) (o .machine)
+  unfolding replied
+  kept-replies n e =
+      by-test (o .no-room)
+      (λ s. record {
+        replies = rw (s, e) (ap (λ (b : Answer). reply b m) (rw s at (t .answers)));
+        leaves = λ z. absurd (n z);
+      })
+      (λ s. absurd (n (ap (λ (b : Answer). b .refusal) (rw s at (t .answers)))))
 
 -- a refused call
 module _ (m : List ℕ) (M : Machine) (time : ℕ) (call : Call) where

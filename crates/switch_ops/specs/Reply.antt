@@ -63,6 +63,11 @@ pub record Replies (m' : List ℕ) (a : Answer) (y : Reply) (M′ : Machine) : T
   pub replies : reply a m' ≡ y
   pub leaves : a .refusal ≡ 0 → decode m' ≡ M′
 
+-- the same where a refused call may have left the image half-way
+pub record Attempts (m' : List ℕ) (a : Answer) (y : Reply) (M′ : Machine) : Type 0 where
+  pub answers : a ≡ y .answer
+  pub replies : a .refusal ≡ 0 → Replies m' a y M′
+
 -- the context that a call switches to is one of n
 abbrev pub TargetBelow : ℕ → Decision → Type 0
 TargetBelow n d = (x : ℕ) → d ≡ DirectSwitchTo x → x < n

@@ -7,7 +7,6 @@ use percpu::places;
 use schedule::Decided;
 use schedule::Ticked;
 ghost use mathlib.Core.Path.{_≡_};
-ghost use mathlib.Core.Bool.{false};
 ghost use Prim.Native.Nat.{ℕ, _+_, _<_, _≤_};
 ghost use lib.Dec.{ltb};
 ghost use lib.ListN.{length};
@@ -19,7 +18,7 @@ ghost use Rattle.model.specs.Turn.{elapsed};
 ghost use Rattle.model.specs.Accepted.{by-tick, by-switch, by-direct-switch, outcome};
 ghost use Rattle.schedule.specs.Decides.{Decides};
 ghost use Rattle.context_ops.specs.Reply.{replied};
-ghost use Rattle.switch_ops.specs.Reply.{call-of, followed-told, refusal, decide-on, decide, direct-switch, Replies, TargetBelow};
+ghost use Rattle.switch_ops.specs.Reply.{call-of, followed-told, refusal, decide-on, decide, direct-switch, Replies, Attempts, TargetBelow};
 ghost use Rattle.numbers.specs.Limits.{max-number, max-elapsed};
 ghost use Rattle.schedule.specs.Ticked.{decided-told, ticked-full, ticked-told};
 
@@ -89,17 +88,19 @@ fn follow(m: &mut [u64], c: usize, n: usize, k: usize, time: u64, d: Decision) -
     }
 }
 
-// Where there is room for certain.
-fn in_place(m: &mut [u64], c: usize, n: usize, k: usize, time: u64, d: Decision) -> Answer
+// Makes the call. Where an insertion finds no room it is refused, and the image is left half-way.
+pub fn attempt(m: &mut [u64], c: usize, n: usize, k: usize, time: u64, d: Decision) -> Answer
     requires { ⌜ Image c n (now m) ⌝ }
     requires { ⌜ (k < c) × (time ≤ max-number) ⌝ }
     requires { ⌜ TargetBelow n d ⌝ }
     requires { ⌜ Ranged c n max-number max-number (now m) ⌝ }
     requires { ⌜ ((M : Machine) → now m ≡ encode M → Fits c n M → elapsed time (cpu-at M k) ≤ max-elapsed) ⌝ }
-    requires { ⌜ ((M : Machine) → now m ≡ encode M → Fits c n M → (outcome (call-of d) k time M) .no-room ≡ false) ⌝ }
-    ensures { λ r. ⌜ ((M : Machine) → now (m .entry) ≡ encode M → Fits c n M → Replies (now (m .exit)) r (replied (now (m .entry)) (outcome (call-of d) k time M)) ((outcome (call-of d) k time M) .machine)) ⌝ }
+    ensures { λ r. ⌜ ((M : Machine) → now (m .entry) ≡ encode M → Fits c n M → Attempts (now (m .exit)) r (replied (now (m .entry)) (outcome (call-of d) k time M)) ((outcome (call-of d) k time M) .machine)) ⌝ }
 {
     let r = follow(m, c, n, k, time, d);
+    if r.full {
+        return answer::refused(9);
+    }
     accepted(r.result, r.rule)
 }
 
@@ -115,12 +116,12 @@ fn with_copy(m: &mut [u64], c: usize, n: usize, k: usize, time: u64, d: Decision
     let mut saved = [0u64; machine::MAX_IMAGE_SIZE];
     let len = m.len();
     words::copy(m, &mut saved, len);
-    let r = follow(m, c, n, k, time, d);
-    if r.full {
+    let a = attempt(m, c, n, k, time, d);
+    if a.refusal != 0 {
         words::copy(&saved, m, len);
-        return answer::refused(9);
+        return a;
     }
-    accepted(r.result, r.rule)
+    a
 }
 
 // A decision adds at most one item more than these lists have together.
@@ -160,7 +161,7 @@ fn decide_on(m: &mut [u64], c: usize, n: usize, k: usize, time: u64, d: Decision
         return answer::refused(number);
     }
     if has_room(m, c, n, k) {
-        return in_place(m, c, n, k, time, d);
+        return attempt(m, c, n, k, time, d);
     }
     with_copy(m, c, n, k, time, d)
 }

@@ -2,15 +2,18 @@
 //! and the kernel. A case is a line: operation, CPU, time, context, the image's length,
 //! how many of its words are not 0, and these as pairs of place and value. A line that
 //! begins with g wakes a group: CPU, time, mask, then the image as before; one that begins with
-//! w adds up the weight of a CPU: CPU, then the image. The answer is a line: refusal, result,
+//! w adds up the weight of a CPU: CPU, then the image; one that begins with a asks: CPU, time, then
+//! the image, and the answer is five numbers; one that begins with c commits: CPU, time, the five
+//! numbers, then the image. The answer is else a line: refusal, result,
 //! interrupt mark, rule, how many words the call changed, and these as pairs of place and new
 //! value. A line that begins with # is copied.
 
 use crate::{
     ask::Ask,
+    asks,
     expected::{Expected, expected},
 };
-use image::{Answer, Call, Group, TotalWeight};
+use image::{Answer, Call, Group, TotalWeight, asked::Asked};
 use std::io::{Read, stdin};
 
 /// The numbers of a case.
@@ -129,6 +132,17 @@ fn answered(text: &str) -> String {
         Some('w') => {
             let call = TotalWeight { cpu: next() };
             answer_line(&call, &read_image(&mut next))
+        }
+        Some('a') => {
+            let (cpu, time) = (next(), next());
+            line(asks::asked(&read_image(&mut next), cpu, time).words().to_vec())
+        }
+        Some('c') => {
+            let (cpu, time) = (next(), next());
+            let reply = Asked::from_words(std::array::from_fn(|_| next()));
+            let image = read_image(&mut next);
+            let (got, after) = asks::committed(&image, cpu, time, reply);
+            line(answer(&got, &image, &after))
         }
         _ => {
             let (call, image) = read_case(&mut next);

@@ -2,6 +2,7 @@
 //! `bench/switch` and `bench/cue_board`.
 
 mod ask;
+mod asks;
 mod boards;
 #[cfg(feature = "branches")]
 mod branches;
@@ -51,6 +52,7 @@ fn main() -> ExitCode {
         ["remainders", seed, count] => run::remainders(number(seed), number(count)),
         ["carried", seed, calls] => run::carried(number(seed), number(calls)),
         ["groups", seed, count] => run::groups(number(seed), number(count)),
+        ["asks", seed, count] => asks::asks(number(seed), number(count)),
         ["totals", seed, count] => weights::totals(number(seed), number(count)),
         #[cfg(feature = "oracle")]
         ["weighed", seed, count] => weights::weighed(number(seed), number(count)),

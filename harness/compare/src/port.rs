@@ -2,6 +2,7 @@
 
 use image::{
     Answer, Call, Group, TotalWeight,
+    asked::Asked,
     board::{Cue, Handed},
 };
 
@@ -13,6 +14,20 @@ unsafe extern "C" {
     fn ronthuyal_unblock_group(_: *mut u64, _: usize, _: u64, _: u64, _: u64) -> Answer;
     /// Of the image's address and length, and CPU.
     fn ronthuyal_total_weight(_: *const u64, _: usize, _: u64) -> Answer;
+    /// Of the image's address and length, CPU and time.
+    fn ronthuyal_ask(_: *const u64, _: usize, _: u64, _: u64) -> Asked;
+    /// Of the image's address and length, CPU, time and the five words of a reply.
+    fn ronthuyal_commit(
+        _: *mut u64,
+        _: usize,
+        _: u64,
+        _: u64,
+        _: u64,
+        _: u64,
+        _: u64,
+        _: u64,
+        _: u64,
+    ) -> Answer;
 }
 
 #[cfg(cue_board)]
@@ -74,6 +89,28 @@ pub fn total_weight(image: &[u64], call: &TotalWeight) -> Option<Answer> {
 
 #[cfg(not(port))]
 pub fn total_weight(_image: &[u64], _call: &TotalWeight) -> Option<Answer> {
+    None
+}
+
+#[cfg(port)]
+pub fn ask(image: &[u64], cpu: u64, time: u64) -> Option<Asked> {
+    Some(unsafe { ronthuyal_ask(image.as_ptr(), image.len(), cpu, time) })
+}
+
+#[cfg(not(port))]
+pub fn ask(_image: &[u64], _cpu: u64, _time: u64) -> Option<Asked> {
+    None
+}
+
+#[cfg(port)]
+pub fn commit(image: &mut [u64], cpu: u64, time: u64, reply: Asked) -> Option<Answer> {
+    let (at, len) = (image.as_mut_ptr(), image.len());
+    let [refusal, result, in_charge, current, v] = reply.words();
+    Some(unsafe { ronthuyal_commit(at, len, cpu, time, refusal, result, in_charge, current, v) })
+}
+
+#[cfg(not(port))]
+pub fn commit(_image: &mut [u64], _cpu: u64, _time: u64, _reply: Asked) -> Option<Answer> {
     None
 }
 

@@ -6,7 +6,11 @@
 mod board;
 mod group;
 
-use image::{Answer, Call, Group, TotalWeight, View, check, decision, remainder, total_weight};
+use image::{
+    Answer, Call, Group, TotalWeight, View,
+    asked::{Asked, switch},
+    check, decision, remainder, total_weight,
+};
 
 /// # Safety
 /// `image` points to `len` words.
@@ -20,29 +24,35 @@ pub unsafe extern "C" fn ronthuyal_call(
     context: u64,
 ) -> Answer {
     let words = unsafe { std::slice::from_raw_parts_mut(image, len) };
-    let call = Call {
-        operation,
-        cpu,
-        time,
-        context,
-    };
-    let refusal = check::refusal(words, &call);
+    called(
+        words,
+        &Call {
+            operation,
+            cpu,
+            time,
+            context,
+        },
+    )
+}
+
+fn called(words: &mut [u64], call: &Call) -> Answer {
+    let refusal = check::refusal(words, call);
     if refusal != 0 {
         return Answer::refused(refusal);
     }
-    let rule = rule(words, &call);
+    let rule = rule(words, call);
     let before = words.to_vec();
-    let mut after = remainder::source_before(View(&before), &call, weight);
-    let answer = match decision::departs(View(&after), &call) {
-        true => changed::oracle::call(&mut after, &call),
-        false => kernel::oracle::call(&mut after, &call),
+    let mut after = remainder::source_before(View(&before), call, weight);
+    let answer = match decision::departs(View(&after), call) {
+        true => changed::oracle::call(&mut after, call),
+        false => kernel::oracle::call(&mut after, call),
     };
     let Ok(answer) = answer else {
         // No row has this number: an edited table let a call pass that has no answer.
         return Answer::refused(u64::MAX);
     };
     if answer.refusal == 0 {
-        remainder::source_after(View(&before), &call, rule, &mut after);
+        remainder::source_after(View(&before), call, rule, &mut after);
         words.copy_from_slice(&after);
     }
     Answer { rule, ..answer }
@@ -91,4 +101,38 @@ pub unsafe extern "C" fn ronthuyal_total_weight(image: *const u64, len: usize, c
         result: total_weight::total(View(words), cpu as usize, weight),
         ..Answer::default()
     }
+}
+
+/// # Safety
+/// `image` points to `len` words.
+#[unsafe(no_mangle)]
+pub unsafe extern "C" fn ronthuyal_ask(image: *const u64, len: usize, cpu: u64, time: u64) -> Asked {
+    let mut words = unsafe { std::slice::from_raw_parts(image, len) }.to_vec();
+    let answer = called(&mut words, &switch(cpu, time));
+    Asked::of(&answer, &words, cpu)
+}
+
+/// # Safety
+/// `image` points to `len` words.
+#[unsafe(no_mangle)]
+#[allow(clippy::too_many_arguments)]
+pub unsafe extern "C" fn ronthuyal_commit(
+    image: *mut u64,
+    len: usize,
+    cpu: u64,
+    time: u64,
+    refusal: u64,
+    result: u64,
+    in_charge: u64,
+    current: u64,
+    v: u64,
+) -> Answer {
+    let words = unsafe { std::slice::from_raw_parts_mut(image, len) };
+    let before = words.to_vec();
+    let answer = called(words, &switch(cpu, time));
+    let now = Asked::of(&answer, words, cpu);
+    let reply = Asked::from_words([refusal, result, in_charge, current, v]);
+    let (answer, after) = reply.commit(&before, now, &answer, words);
+    words.copy_from_slice(&after);
+    answer
 }

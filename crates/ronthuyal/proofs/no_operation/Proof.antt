@@ -1,4 +1,4 @@
-use Rattle.ronthuyal.proofs.Called.{call-refused, call-no-operation}
+use Rattle.calls.proofs.Called.{call-refused, call-no-operation}
 use borrow.Author.Needs.{needs}
 use Rattle.ronthuyal.proofs.no_operation.Statement.{statement}
 use Rattle.ronthuyal.proofs.no_operation.Tie as tie

@@ -1,6 +1,6 @@
 use Rattle.ronthuyal.proofs.Left.{direct-switch-to-promises}
 use Rattle.ronthuyal.proofs.Demanded.{demand-refused, demand-directed}
-use Rattle.ronthuyal.proofs.Called.{call-refused, call-image, call-time, call-ranged, call-done}
+use Rattle.calls.proofs.Called.{call-refused, call-image, call-time, call-ranged, call-done}
 use borrow.Author.Needs.{needs}
 use Rattle.ronthuyal.proofs.ronthuyal_direct_switch_to.Statement.{statement}
 use Rattle.ronthuyal.proofs.ronthuyal_direct_switch_to.Tie as tie

@@ -1,7 +1,7 @@
 use Rattle.ronthuyal.proofs.Left.{tick-promises}
 use Rattle.model.specs.Accepted.{by-tick}
 use Rattle.ronthuyal.proofs.Demanded.{demand-refused, demand-decided, stands-tick}
-use Rattle.ronthuyal.proofs.Called.{call-refused, call-image, call-time, call-ranged, call-done}
+use Rattle.calls.proofs.Called.{call-refused, call-image, call-time, call-ranged, call-done}
 use borrow.Author.Needs.{needs}
 use Rattle.ronthuyal.proofs.ronthuyal_tick.Statement.{statement}
 use Rattle.ronthuyal.proofs.ronthuyal_tick.Tie as tie

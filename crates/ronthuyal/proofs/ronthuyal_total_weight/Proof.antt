@@ -1,39 +1,27 @@
-use Rattle.ronthuyal.proofs.Called.{same-reply, call-refused, call-image, call-done}
+use Rattle.calls.proofs.Called.{same-reply, call-refused, call-image, call-done}
 use native.Mathlib.Omega.{arith}
 use borrow.Author.Needs.{needs}
 use Rattle.ronthuyal.proofs.ronthuyal_total_weight.Statement.{statement}
 use Rattle.ronthuyal.proofs.ronthuyal_total_weight.Tie as tie
-use Rattle.ronthuyal.proofs.ronthuyal_total_weight.Reads as reads
-use Rattle.ronthuyal.proofs.ronthuyal_total_weight.Lts as lts
-use Rattle.answer.proofs.refused.Reads as refused-reads
-use Rattle.ronthuyal.proofs.check.Reads as check-reads
-use Rattle.total_weight.proofs.answer.Reads as answer-reads
 
--- src/lib.rt:210:9
 check-requires : tie.Need-check-requires
 check-requires c κs = search needs
 
--- src/lib.rt:212:26
 enum-known-checked : tie.Need-enum-known-checked
 enum-known-checked c = search needs
 
--- src/lib.rt:212:37
 refused-requires : tie.Need-refused-requires
 refused-requires c κs = search needs
 
--- src/lib.rt:213:25
 enum-known-checked-2 : tie.Need-enum-known-checked-2
 enum-known-checked-2 c = search needs
 
--- src/lib.rt:213:34
 answer-requires : tie.Need-answer-requires
 answer-requires c κs = call-image _ _ _ (c .before .before .before .check .ensures) _ _ (c .before .checked2 .given .1)
 
--- src/lib.rt:206:1
 returns : tie.Need-returns
 returns c = call-refused _ _ _ (c .before .before .before .before .check .ensures) _ _ (c .before .before .checked .given .1) (c .refused .ensures)
 
--- src/lib.rt:206:1
 returns-2 : tie.Need-returns-2
 returns-2 c = call-done _ _ _ (c .before .before .before .before .check .ensures) _ _ _ (c .before .before .checked2 .given .1) (λ M e o. same-reply _ _ _ (c .answer .ensures M e o))
 

@@ -1,5 +1,6 @@
 //! How long a checked `switch` of the port takes, beside the kernel's own.
 
+mod asking;
 pub mod boards;
 mod images;
 
@@ -171,7 +172,9 @@ pub fn times() -> bool {
             images::superseded(&size),
         ),
     ];
-    good && others
-        .iter()
-        .all(|(name, machine)| row(name, machine.image(), 1))
+    let good = good
+        && others
+            .iter()
+            .all(|(name, machine)| row(name, machine.image(), 1));
+    good && asking::table()
 }

@@ -1,0 +1,4 @@
+pub mod Committed
+pub mod Committing
+pub mod Inside
+pub mod Own
