@@ -1,0 +1,12 @@
+pub mod Ranked
+pub mod Placing
+pub mod Places
+pub mod Woken
+pub mod Charged
+pub mod Scanned
+pub mod Chosen
+pub mod Robbed
+pub mod Settled
+pub mod Decided
+pub mod Sorted
+pub mod AnyOrder

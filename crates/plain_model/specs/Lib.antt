@@ -1,0 +1,13 @@
+pub mod Rank
+pub mod State
+pub mod Wakeup
+pub mod Turn
+pub mod Scan
+pub mod Choice
+pub mod Steal
+pub mod Handover
+pub mod Schedule
+pub mod Decision
+pub mod Reordered
+pub mod Opened
+pub mod Cases
