@@ -3,7 +3,7 @@
 #ifndef RONTHUYAL_H
 #define RONTHUYAL_H
 
-#define RONTHUYAL_VERSION "0.10.0"
+#define RONTHUYAL_VERSION "0.11.0"
 
 #include <stddef.h>
 #include <stdint.h>
@@ -64,6 +64,18 @@ struct ronthuyal_asked ronthuyal_ask(const uint64_t *image, size_t length, uint6
    or 13 where it would be accepted and gives something else. */
 struct ronthuyal_answer ronthuyal_commit(uint64_t *image, size_t length, uint64_t cpu, uint64_t time, uint64_t refusal,
                                          uint64_t result, uint64_t in_charge, uint64_t current, uint64_t v);
+
+/* The operation of that number, with the window of that CPU's last decisions: window points to RONTHUYAL_WINDOW_WORDS
+   words that nobody else uses during the call. An accepted decision adds the context in charge before it and the
+   nanoseconds since the one before; of 256 records the oldest leaves. The call's own refusal comes first, then the
+   window's, 1 or 3, and then neither image nor window is changed. */
+struct ronthuyal_answer ronthuyal_call_in_window(uint64_t *image, size_t length, uint64_t *window, size_t window_length,
+                                                 uint64_t operation, uint64_t cpu, uint64_t time, uint64_t context);
+
+/* The nanoseconds of one context in a window, and of all, as the result. contexts is the image's number of contexts,
+   for which the window is checked. */
+struct ronthuyal_answer ronthuyal_share(const uint64_t *window, size_t length, uint64_t contexts, uint64_t context);
+struct ronthuyal_answer ronthuyal_share_of_all(const uint64_t *window, size_t length, uint64_t contexts);
 
 /* Operations. */
 enum {
@@ -204,6 +216,13 @@ enum {
     RONTHUYAL_BLOCK_IPI_CONTEXT_WAKEUP_LIST = 601,
     RONTHUYAL_BLOCK_REMAINDER = 665
 };
+
+/* A window: its length, and where its words begin; of each column one for each record, oldest first. */
+#define RONTHUYAL_WINDOW_WORDS 513
+#define RONTHUYAL_WINDOW_CAPACITY 256
+#define RONTHUYAL_WINDOW_COUNT 0
+#define RONTHUYAL_WINDOW_CONTEXTS 1
+#define RONTHUYAL_WINDOW_TIMES 257
 
 #ifdef __cplusplus
 }

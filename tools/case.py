@@ -12,13 +12,17 @@ COLUMNS = {array.item: array_place(array) for array in ARRAYS}
 
 class Case(NamedTuple):
     title: str
-    call: tuple  # operation, CPU, time, context; "g", CPU, time, mask; "w", CPU; "a", CPU, time; "c", CPU, time, reply
+    # operation, CPU, time, context, with "d" in a window; "g", CPU, time, mask; "w", CPU; "a", CPU, time; "c", CPU, time,
+    # reply; "s", contexts, context; "t", contexts
+    call: tuple
     length: int
     words: dict
     answer: tuple  # refusal, result, interrupt mark; of "a" the five numbers
     after: dict  # words after the call
     whole: bool  # whether these are all the words that it changes
     rule: int | None = None  # of a decision, where it is worked out by hand
+    window: tuple | None = None  # its length and words
+    added: dict | None = None  # its words that the call changes
 
 
 class Machine:

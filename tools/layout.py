@@ -187,11 +187,12 @@ class Operation(NamedTuple):
 
 class Call(NamedTuple):
     name: str
-    takes: tuple  # its arguments behind the CPU
-    reads: bool  # whether it leaves the image as it is
+    takes: tuple  # its arguments behind what is lent
+    reads: bool  # whether it leaves what is lent as it is
     result: str
     says: str
     gives: str = "answer"  # the struct of the header that it answers with
+    lent: tuple = ("image",)
 
 
 OPERATIONS = [
@@ -207,15 +208,25 @@ OPERATIONS = [
 
 # Calls that have no operation number and are no function of the kernel.
 CALLS = [
-    Call("unblock_group", ("time", "mask"), False, "how many of them were soft-blocked",
+    Call("unblock_group", ("cpu", "time", "mask"), False, "how many of them were soft-blocked",
          "operation 4 for every context x whose bit x is set in the mask, by rising number; refused, for none"),
-    Call("total_weight", (), True, "the sum",
+    Call("total_weight", ("cpu",), True, "the sum",
          "adds up the weights of the CPU's queue entries, also of those whose context is gone, and the priority's weight "
          "of the context in charge if it is active"),
-    Call("ask", ("time",), True, "as 2", "what a switch at that time would answer, and leave on that CPU", "asked"),
-    Call("commit", ("time", "refusal", "result", "in_charge", "current", "v"), False, "as 2",
+    Call("ask", ("cpu", "time"), True, "as 2", "what a switch at that time would answer, and leave on that CPU", "asked"),
+    Call("commit", ("cpu", "time", "refusal", "result", "in_charge", "current", "v"), False, "as 2",
          "operation 2, if what `ask` would answer now is this reply, in all five words"),
+    Call("call_in_window", ("operation", "cpu", "time", "context"), False, "the operation's",
+         "the operation of that number; an accepted decision adds its record to the window", lent=("image", "window")),
+    Call("share", ("contexts", "context"), True, "the sum",
+         "adds up the times of the context in the window, which is checked for that many contexts", lent=("window",)),
+    Call("share_of_all", ("contexts",), True, "the sum", "the same of all contexts", lent=("window",)),
 ]
+
+# A window's words.
+WINDOW_CAPACITY = 256
+WINDOW = [("count", 0, 1), ("contexts", 1, WINDOW_CAPACITY), ("times", 1 + WINDOW_CAPACITY, WINDOW_CAPACITY)]
+WINDOW_WORDS = 1 + 2 * WINDOW_CAPACITY
 
 REFUSALS = [
     "fewer than two words, or a size out of bounds",
@@ -229,7 +240,7 @@ REFUSALS = [
     "operations 1 to 3: the time is over 2^52 - 1 ns past the CPU's `schedule_time`",
     "a queue, timer set or list would get its 65th item",
 ]
-# Those of a call without a number; 10 to 12 are the cue board's.
+# Those of a call without a number; 10 to 12 are the cue board's. A window has 1 and 3 of its own.
 MORE_REFUSALS = {
     13: "a commit: the switch would be accepted now, and what it gives is not the reply",
 }

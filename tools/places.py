@@ -8,7 +8,8 @@ import re
 
 from layout import (ANY, ARRAYS, BLOCK_WORDS, CALLS, CONTEXTS, CPUS, ID_MAX, LAST, LAST_PLACE, MORE_REFUSALS, NUMBER_MAX,
                     OPERATIONS, PRIO_MAX, RECORD, RECORD_WORDS, REFUSALS, REMAINDER_MAX, ROOM, RULES, SINGLE, SIZES,
-                    SLICE_MAX, STATE, STATUS, TURN_MAX, WEIGHT_MAX, WEIGHT_MIN, array_place)
+                    SLICE_MAX, STATE, STATUS, TURN_MAX, WEIGHT_MAX, WEIGHT_MIN, WINDOW, WINDOW_CAPACITY, WINDOW_WORDS,
+                    array_place)
 
 BY = "Written by tools/places.py"
 LIMITS = [("CPUS", CPUS), ("CONTEXTS", CONTEXTS), ("ROOM", ROOM), ("NUMBER_MAX", NUMBER_MAX), ("ID_MAX", ID_MAX),
@@ -124,15 +125,27 @@ struct ronthuyal_asked {
 /* No operation: makes the switch if it gives what was asked, in all five words. Else the refusal is the switch's own,
    or 13 where it would be accepted and gives something else. */
 """,
+    "call_in_window": """
+/* The operation of that number, with the window of that CPU's last decisions: window points to RONTHUYAL_WINDOW_WORDS
+   words that nobody else uses during the call. An accepted decision adds the context in charge before it and the
+   nanoseconds since the one before; of 256 records the oldest leaves. The call's own refusal comes first, then the
+   window's, 1 or 3, and then neither image nor window is changed. */
+""",
+    "share": """
+/* The nanoseconds of one context in a window, and of all, as the result. contexts is the image's number of contexts,
+   for which the window is checked. */
+""",
+    "share_of_all": "",
 }
 
 
-def c_call(name, takes, reads=False, gives="answer"):
+def c_call(name, takes, reads=False, gives="answer", lent=("image",)):
     start = "struct ronthuyal_%s ronthuyal_%s(" % (gives, name)
-    image = "const uint64_t *image" if reads else "uint64_t *image"
-    words = image + ", size_t length, uint64_t cpu" + "".join(", uint64_t " + word for word in takes)
+    kind = "const uint64_t *" if reads else "uint64_t *"
+    words = ["%s%s, size_t %s" % (kind, lend, "length" if at == 0 else lend + "_length") for at, lend in enumerate(lent)]
+    words += ["uint64_t " + word for word in takes]
     lines = [start]
-    for word in (words + ");").split(", "):
+    for word in (", ".join(words) + ");").split(", "):
         if len(lines[-1] + word) + 1 > 120:
             lines.append(" " * len(start))
         lines[-1] += word + ("" if word.endswith(";") else ", ")
@@ -140,8 +153,9 @@ def c_call(name, takes, reads=False, gives="answer"):
 
 
 def header():
-    calls = [c_call(operation.name, ("time", "context") if operation.takes else ("time",)) for operation in OPERATIONS]
-    calls += [NOTES[call.name] + c_call(call.name, call.takes, call.reads, call.gives) for call in CALLS]
+    calls = [c_call(operation.name, ("cpu", "time", "context") if operation.takes else ("cpu", "time"))
+             for operation in OPERATIONS]
+    calls += [NOTES[call.name] + c_call(call.name, call.takes, call.reads, call.gives, call.lent) for call in CALLS]
     out = [HEADER % (BY, open("VERSION").read().strip()) + "\n".join(calls), ""]
 
     def enum(title, pairs):
@@ -171,6 +185,9 @@ def header():
                 prefixed("BLOCK", [word.name for word in SINGLE])
                 + [("BLOCK_" + constant(array.name), array_place(array)) for array in ARRAYS]
                 + prefixed("BLOCK", [word.name for word in LAST], LAST_PLACE))
+    out += ["/* A window: its length, and where its words begin; of each column one for each record, oldest first. */",
+            "#define RONTHUYAL_WINDOW_WORDS %d" % WINDOW_WORDS, "#define RONTHUYAL_WINDOW_CAPACITY %d" % WINDOW_CAPACITY]
+    out += ["#define RONTHUYAL_WINDOW_%s %d" % (constant(name), at) for name, at, _ in WINDOW] + [""]
     return "\n".join(out + ["#ifdef __cplusplus", "}", "#endif", "", "#endif"]) + "\n"
 
 
@@ -194,7 +211,7 @@ def tables():
                "`%s`" % array.count, broken(array.range, array.also)] for array in ARRAYS]
     operations = [["%d" % number, "`%s`" % o.name, "yes" if o.takes else "", o.says, o.result]
                   for number, o in enumerate(OPERATIONS, 1)]
-    calls = [["`ronthuyal_%s(%s)`" % (call.name, ", ".join(("image", "cpu") + call.takes)), call.says, call.result]
+    calls = [["`ronthuyal_%s(%s)`" % (call.name, ", ".join(call.lent + call.takes)), call.says, call.result]
              for call in CALLS]
     rules = [["%d" % number, rule.says, rule.when] for number, rule in enumerate(RULES, 1)]
     numbered = [*enumerate(REFUSALS, 1), *MORE_REFUSALS.items()]

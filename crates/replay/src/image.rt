@@ -80,10 +80,22 @@ pub fn words(s: &[u8], from: usize, k: u64, m: &mut [u64], old: &mut [u64]) -> u
     at
 }
 
-pub fn answer(a: Answer, m: &[u64], old: &[u64]) {
+fn answer_and_words(a: Answer, m: &[u64], old: &[u64]) {
     show_answer(a);
     show(differ(m, old));
     show_changed(m, old);
+}
+
+pub fn answer(a: Answer, m: &[u64], old: &[u64]) {
+    answer_and_words(a, m, old);
+    io::write_all(STDOUT_FILENO, b"\n");
+}
+
+// The same, and what became of the window.
+pub fn answer_beside(a: Answer, m: &[u64], old: &[u64], w: &[u64], was: &[u64]) {
+    answer_and_words(a, m, old);
+    show(differ(w, was));
+    show_changed(w, was);
     io::write_all(STDOUT_FILENO, b"\n");
 }
 

@@ -3,10 +3,14 @@
 // the image as before. One that begins with w adds up a weight: CPU, then the image. One that begins with c commits: CPU,
 // time, the five numbers of the reply, then the image. Printed are refusal, result, interrupt mark and rule, how many words
 // the call changed, and these as pairs of place and new value. A line that begins with a asks: CPU, time, then the image;
-// printed are the five numbers. A line that begins with # is printed as it is.
+// printed are the five numbers. One that begins with d calls in a window: operation, CPU, time, context, the window's
+// length and words as an image's, then the image; the window's changed words follow the image's. One that begins with s
+// adds up the time of a context in a window, for a number of contexts: that number, the context, then the window; with t,
+// without the context, the time of all. A line that begins with # is printed as it is.
 mod image;
 mod listed;
 mod text;
+mod windows;
 
 use libc::STDIN_FILENO;
 

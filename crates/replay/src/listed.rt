@@ -1,6 +1,7 @@
 // The cases of a text, one after the other.
 use crate::image;
 use crate::text;
+use crate::windows;
 use answer::Answer;
 use asked::Asked;
 use libc::STDOUT_FILENO;
@@ -181,6 +182,22 @@ fn comment(s: &[u8], from: usize) -> usize {
     end
 }
 
+fn item_with_window(s: &[u8], from: usize, m: &mut [u64], old: &mut [u64]) -> usize {
+    let called = text::after(s, from, b'd');
+    if from < called {
+        return windows::call(s, called, m, old);
+    }
+    let shared = text::after(s, from, b's');
+    if from < shared {
+        return windows::of_context(s, shared);
+    }
+    let total = text::after(s, from, b't');
+    if from < total {
+        return windows::of_all(s, total);
+    }
+    case(s, from, m, old)
+}
+
 fn item(s: &[u8], from: usize, m: &mut [u64], old: &mut [u64]) -> usize {
     if text::is_comment(s, from) {
         return comment(s, from);
@@ -201,7 +218,7 @@ fn item(s: &[u8], from: usize, m: &mut [u64], old: &mut [u64]) -> usize {
     if from < committed {
         return commit(s, committed, m, old);
     }
-    case(s, from, m, old)
+    item_with_window(s, from, m, old)
 }
 
 pub fn replay(s: &[u8], m: &mut [u64], old: &mut [u64]) {

@@ -34,6 +34,15 @@ fn is_mark(b: u8) -> bool {
     if b == b'c' {
         return true;
     }
+    if b == b'd' {
+        return true;
+    }
+    if b == b's' {
+        return true;
+    }
+    if b == b't' {
+        return true;
+    }
     is_digit(b)
 }
 
@@ -61,7 +70,7 @@ fn digit(b: u8) -> u64 {
     0
 }
 
-// The first place from `from` on that is a digit, #, g, w, a or c, or the length.
+// The first place from `from` on that is a digit, # or a letter that begins a line, or the length.
 pub fn skip(s: &[u8], from: usize) -> usize {
     let mut i = from;
     while i < s.len() {

@@ -1,7 +1,7 @@
 -- Demand 3 of a call, from what the decision said. Assumes nothing.
 use mathlib.Core.Path.{_≡_, refl, sym, ap, _∙_, subst}
 use mathlib.Core.Bool.{true, false}
-use Prim.Native.Nat.{ℕ, _≤_}
+use Prim.Native.Nat.{ℕ}
 use native.Mathlib.Omega.{arith}
 use mathlib.Core.List.{List}
 use lib.Dec.{eqb}
@@ -17,12 +17,12 @@ use Rattle.machine.specs.Shape.{Fits}
 use Rattle.machine.specs.LookUp.{look-up, get-percpu-block}
 use Rattle.machine.specs.Outcome.{Outcome}
 use Rattle.machine.proofs.LookUps.{live, present}
-use Rattle.model.specs.Accepted.{Call, by-tick, by-switch, by-direct-switch, outcome, decides, Accepted}
+use Rattle.model.specs.Accepted.{Call, by-tick, by-switch, by-direct-switch, outcome, decides}
 use Rattle.model.specs.Demand3.{Demand3}
 use Rattle.model.proofs.Demand.{demand-3}
 use Rattle.admission.proofs.Soundness.{sound}
 use Rattle.answer.specs.declared.Answer.{Answer}
-use Rattle.context_ops.specs.Reply.{reply, refuse, replied}
+use Rattle.context_ops.specs.Reply.{reply, replied}
 use Rattle.switch_ops.specs.Reply.{refusal, decide-on, decide-by, decide, direct-switch-by, direct-switch, Replies}
 use Rattle.image.proofs.Admitted as admitted
 use Rattle.calls.specs.declared.Checked.{Checked}
@@ -136,6 +136,3 @@ module _ {m m' : List ℕ} {cpu time r : ℕ} (operation context : ℕ) where
 
   pub demand-none : (operation ≡ 1 → ⊥) → (operation ≡ 2 → ⊥) → (operation ≡ 3 → ⊥) → DemandMet m m' operation cpu time context r
   demand-none a b c = record { met = λ d s. absurd (stands-none operation context a b c d s) }
-
-  pub demand-other : (k : ℕ) → 4 ≤ k → operation ≡ k → DemandMet m m' operation cpu time context r
-  demand-other k h e = demand-none (λ w. omega arith) (λ w. omega arith) (λ w. omega arith)

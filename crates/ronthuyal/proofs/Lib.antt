@@ -9,4 +9,6 @@ pub mod OneByOne
 pub mod Grouped
 pub mod OneBit
 pub mod Least
+pub mod Deciding
 pub mod Asking
+pub mod InWindow

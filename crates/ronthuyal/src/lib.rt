@@ -2,6 +2,7 @@
 use answer::Answer;
 use asked::Asked;
 use calls::Checked;
+use window::Whose;
 ghost use mathlib.Core.Path.{_≡_};
 ghost use Rattle.context_ops.specs.Reply.{reply};
 ghost use Rattle.calls.specs.Call.{
@@ -14,11 +15,12 @@ ghost use Rattle.calls.specs.Call.{
   hard-block-call,
   unblock-group-call,
   total-weight-call,
-  no-operation-call,
   call,
 };
 ghost use Rattle.asked.specs.OfReply.{asked};
 ghost use Rattle.ask.specs.Ask.{ask, commit};
+ghost use Rattle.window.specs.Shares.{share-answer};
+ghost use Rattle.call_in_window.specs.CallInWindow.{window-reply, call-in-window};
 ghost use Rattle.ronthuyal.specs.Demand.{DemandMet};
 ghost use Rattle.ronthuyal.specs.Leaves.{Leaves};
 ghost use Rattle.numbers.specs.Limits.{max-number, max-word};
@@ -136,16 +138,6 @@ pub extern "C" fn ronthuyal_hard_block(
     }
 }
 
-fn no_operation(image: &[u64], time: u64) -> Answer
-    ensures { λ r. ⌜ reply r (now (image .entry)) ≡ no-operation-call (now (image .entry)) time ⌝ }
-{
-    let checked = calls::check(image, time);
-    match checked {
-        Checked::Refused(number) => answer::refused(number),
-        Checked::Passed(_, _) => answer::refused(5),
-    }
-}
-
 // Any operation, by its number; operations 1, 2 and 5 leave the context aside.
 #[no_mangle]
 pub extern "C" fn ronthuyal_call(
@@ -159,16 +151,7 @@ pub extern "C" fn ronthuyal_call(
     ensures { λ r. ⌜ DemandMet (now (image .entry)) (now (image .exit)) operation cpu time context (r .refusal) ⌝ }
     ensures { λ r. ⌜ Leaves max-word (now (image .entry)) (now (image .exit)) (r .refusal) ⌝ }
 {
-    match operation {
-        1 => ronthuyal_tick(image, cpu, time),
-        2 => ronthuyal_switch(image, cpu, time),
-        3 => ronthuyal_direct_switch_to(image, cpu, time, context),
-        4 => ronthuyal_unblock_context(image, cpu, time, context),
-        5 => ronthuyal_drain_ipi_context_wakeups(image, cpu, time),
-        6 => ronthuyal_block(image, cpu, time, context),
-        7 => ronthuyal_hard_block(image, cpu, time, context),
-        _ => no_operation(image, time),
-    }
+    operations::call(image, operation, cpu, time, context)
 }
 
 // Operation 4 for every context of the mask, by rising number, or for none. The result is how many were soft-blocked.
@@ -233,4 +216,37 @@ pub extern "C" fn ronthuyal_commit(
         v,
     };
     ask::commit(image, cpu, time, given)
+}
+
+// Any operation, by its number, beside a window of that CPU's last decisions: an accepted decision adds the context in charge before it and its nanoseconds.
+#[no_mangle]
+pub extern "C" fn ronthuyal_call_in_window(
+    image: &mut [u64],
+    window: &mut [u64],
+    operation: u64,
+    cpu: u64,
+    time: u64,
+    context: u64,
+) -> Answer
+    ensures { λ r. ⌜ window-reply r (now (image .exit)) (now (window .exit)) ≡ call-in-window (now (image .entry)) (now (window .entry)) operation cpu time context ⌝ }
+    ensures { λ r. ⌜ DemandMet (now (image .entry)) (now (image .exit)) operation cpu time context (r .refusal) ⌝ }
+    ensures { λ r. ⌜ Leaves max-word (now (image .entry)) (now (image .exit)) (r .refusal) ⌝ }
+{
+    call_in_window::call(image, window, operation, cpu, time, context)
+}
+
+// The nanoseconds of one context in a window, which is checked for that many contexts. The result is the sum.
+#[no_mangle]
+pub extern "C" fn ronthuyal_share(window: &[u64], contexts: u64, context: u64) -> Answer
+    ensures { λ r. ⌜ r ≡ share-answer contexts (Whose.Context context) (now (window .entry)) ⌝ }
+{
+    window::share(window, contexts, Whose::Context(context))
+}
+
+// The nanoseconds of all contexts in a window. The result is the sum.
+#[no_mangle]
+pub extern "C" fn ronthuyal_share_of_all(window: &[u64], contexts: u64) -> Answer
+    ensures { λ r. ⌜ r ≡ share-answer contexts Whose.All (now (window .entry)) ⌝ }
+{
+    window::share(window, contexts, Whose::All)
 }

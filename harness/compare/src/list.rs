@@ -1,19 +1,26 @@
 //! The lists that the programs of `crates/replay` read and print, answered by the table
 //! and the kernel. A case is a line: operation, CPU, time, context, the image's length,
-//! how many of its words are not 0, and these as pairs of place and value. A line that
-//! begins with g wakes a group: CPU, time, mask, then the image as before; one that begins with
-//! w adds up the weight of a CPU: CPU, then the image; one that begins with a asks: CPU, time, then
-//! the image, and the answer is five numbers; one that begins with c commits: CPU, time, the five
-//! numbers, then the image. The answer is else a line: refusal, result,
-//! interrupt mark, rule, how many words the call changed, and these as pairs of place and new
-//! value. A line that begins with # is copied.
+//! how many of its words are not 0, and these as pairs of place and value. The answer is a line:
+//! refusal, result, interrupt mark, rule, how many words the call changed, and these as pairs of
+//! place and new value. A line that begins with # is copied. Other calls begin with a letter; their
+//! answers are such lines where nothing else is said:
+//!
+//! - g wakes a group: CPU, time, mask, then the image as before;
+//! - w adds up the weight of a CPU: CPU, then the image;
+//! - a asks: CPU, time, then the image; the answer is five numbers;
+//! - c commits: CPU, time, the five numbers, then the image;
+//! - d calls in a window: operation, CPU, time, context, the window's length and words as an
+//!   image's, then the image; at the end of the answer are the changed words of the window;
+//! - s adds up the share of a context: how many contexts there are, which one, then the window;
+//! - t adds up the share of all: how many contexts there are, then the window.
 
 use crate::{
     ask::Ask,
     asks,
     expected::{Expected, expected},
+    windows,
 };
-use image::{Answer, Call, Group, TotalWeight, asked::Asked};
+use image::{Answer, Call, Group, TotalWeight, asked::Asked, window};
 use std::io::{Read, stdin};
 
 /// The numbers of a case.
@@ -67,13 +74,17 @@ pub fn nonzero(image: &[u64]) -> Vec<(usize, u64)> {
 }
 
 /// The case that the next numbers are.
-pub fn read_case(next: &mut impl FnMut() -> u64) -> (Call, Vec<u64>) {
-    let call = Call {
+fn read_call(next: &mut impl FnMut() -> u64) -> Call {
+    Call {
         operation: next(),
         cpu: next(),
         time: next(),
         context: next(),
-    };
+    }
+}
+
+pub fn read_case(next: &mut impl FnMut() -> u64) -> (Call, Vec<u64>) {
+    let call = read_call(next);
     (call, read_image(next))
 }
 
@@ -135,7 +146,11 @@ fn answered(text: &str) -> String {
         }
         Some('a') => {
             let (cpu, time) = (next(), next());
-            line(asks::asked(&read_image(&mut next), cpu, time).words().to_vec())
+            line(
+                asks::asked(&read_image(&mut next), cpu, time)
+                    .words()
+                    .to_vec(),
+            )
         }
         Some('c') => {
             let (cpu, time) = (next(), next());
@@ -143,6 +158,27 @@ fn answered(text: &str) -> String {
             let image = read_image(&mut next);
             let (got, after) = asks::committed(&image, cpu, time, reply);
             line(answer(&got, &image, &after))
+        }
+        Some('d') => {
+            let call = read_call(&mut next);
+            let words = read_image(&mut next);
+            let image = read_image(&mut next);
+            let (got, after, left) = windows::answered(&image, &words, &call);
+            let mut numbers = answer(&got, &image, &after);
+            put_pairs(&mut numbers, &changes(&words, &left));
+            line(numbers)
+        }
+        Some('s') => {
+            let (contexts, context) = (next(), next());
+            let words = read_image(&mut next);
+            let got = window::share(&words, contexts, context);
+            line(answer(&got, &words, &words))
+        }
+        Some('t') => {
+            let contexts = next();
+            let words = read_image(&mut next);
+            let got = window::share_of_all(&words, contexts);
+            line(answer(&got, &words, &words))
         }
         _ => {
             let (call, image) = read_case(&mut next);

@@ -15,6 +15,7 @@ mod edits;
 mod expected;
 mod generate;
 mod list;
+mod met;
 mod port;
 #[cfg(feature = "oracle")]
 mod power;
@@ -32,6 +33,7 @@ mod times;
 #[cfg(feature = "oracle")]
 mod weighing;
 mod weights;
+mod windows;
 
 use std::process::ExitCode;
 
@@ -53,6 +55,7 @@ fn main() -> ExitCode {
         ["carried", seed, calls] => run::carried(number(seed), number(calls)),
         ["groups", seed, count] => run::groups(number(seed), number(count)),
         ["asks", seed, count] => asks::asks(number(seed), number(count)),
+        ["windows", seed, count] => windows::windows(number(seed), number(count)),
         ["totals", seed, count] => weights::totals(number(seed), number(count)),
         #[cfg(feature = "oracle")]
         ["weighed", seed, count] => weights::weighed(number(seed), number(count)),

@@ -1,5 +1,7 @@
 //! The port, through the functions that its two archives export.
 
+pub mod window;
+
 use image::{
     Answer, Call, Group, TotalWeight,
     asked::Asked,

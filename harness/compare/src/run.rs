@@ -114,6 +114,23 @@ fn switch(image: &mut Vec<u64>, group: &Group) {
     }
 }
 
+/// What the kernel answers and leaves, or the port where the kernel is not there; nothing if table
+/// and kernel disagree.
+pub fn called(image: &[u64], call: &Call) -> Option<(Answer, Vec<u64>)> {
+    match expected(image, call) {
+        Ok(Expected::Known(answer, after)) => Some((answer, after)),
+        Ok(Expected::Passes) => {
+            let mut after = image.to_vec();
+            let got = port::call(&mut after, call);
+            Some(unjudged(image, got, &after))
+        }
+        Err(Contradiction(text)) => {
+            println!("{}: {text}", call.text());
+            None
+        }
+    }
+}
+
 /// Answer and image after, or nothing if there was a difference.
 pub fn one<A: Ask>(case: &Case<A>) -> Option<(Answer, Vec<u64>)> {
     let want = match expected(&case.image, &case.call) {

@@ -16,6 +16,7 @@ pub mod served;
 pub mod structure;
 pub mod tidy;
 pub mod total_weight;
+pub mod window;
 
 pub use places::{RULES, block, context};
 

@@ -5,6 +5,7 @@
 
 mod board;
 mod group;
+mod window;
 
 use image::{
     Answer, Call, Group, TotalWeight, View,
@@ -106,7 +107,12 @@ pub unsafe extern "C" fn ronthuyal_total_weight(image: *const u64, len: usize, c
 /// # Safety
 /// `image` points to `len` words.
 #[unsafe(no_mangle)]
-pub unsafe extern "C" fn ronthuyal_ask(image: *const u64, len: usize, cpu: u64, time: u64) -> Asked {
+pub unsafe extern "C" fn ronthuyal_ask(
+    image: *const u64,
+    len: usize,
+    cpu: u64,
+    time: u64,
+) -> Asked {
     let mut words = unsafe { std::slice::from_raw_parts(image, len) }.to_vec();
     let answer = called(&mut words, &switch(cpu, time));
     Asked::of(&answer, &words, cpu)

@@ -21,6 +21,7 @@ mod timers;
 mod untidy;
 mod values;
 mod weighed;
+pub mod windows;
 
 pub use boards::{Boards, Turn};
 pub use case::{Case, KINDS, Kind};

@@ -3,6 +3,7 @@
 mod asking;
 pub mod boards;
 mod images;
+mod windows;
 
 use crate::{
     expected::{Expected, expected},
@@ -176,5 +177,6 @@ pub fn times() -> bool {
         && others
             .iter()
             .all(|(name, machine)| row(name, machine.image(), 1));
-    good && asking::table()
+    let tables = [asking::table, windows::table];
+    good && tables.iter().all(|table| table())
 }

@@ -1,0 +1,4 @@
+pub mod Accepted
+pub mod InRange
+pub mod Runs
+pub mod Windowed

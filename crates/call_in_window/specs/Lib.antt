@@ -1,0 +1,2 @@
+pub mod CallInWindow
+pub mod Runs

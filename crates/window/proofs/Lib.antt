@@ -1,0 +1,5 @@
+pub mod Lists
+pub mod Adding
+pub mod Checked
+pub mod Records
+pub mod Summing
