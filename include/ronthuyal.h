@@ -3,7 +3,7 @@
 #ifndef RONTHUYAL_H
 #define RONTHUYAL_H
 
-#define RONTHUYAL_VERSION "0.11.0"
+#define RONTHUYAL_VERSION "0.12.0"
 
 #include <stddef.h>
 #include <stdint.h>
@@ -76,6 +76,20 @@ struct ronthuyal_answer ronthuyal_call_in_window(uint64_t *image, size_t length,
    for which the window is checked. */
 struct ronthuyal_answer ronthuyal_share(const uint64_t *window, size_t length, uint64_t contexts, uint64_t context);
 struct ronthuyal_answer ronthuyal_share_of_all(const uint64_t *window, size_t length, uint64_t contexts);
+
+/* The largest priority number that gets the CPU. found is 1 if there is one, else 0, and then priority is 0 too; so it is
+   where the call is refused. */
+struct ronthuyal_humblest {
+    uint64_t refusal;
+    uint64_t found;
+    uint64_t priority;
+};
+
+/* No operation: of a context that is neither queued nor in charge, the largest of the priorities 0 to 39 with which it
+   would be in charge after a switch at that time, were it stored and the context put last on the CPU's local list. The
+   image is left as it is. */
+struct ronthuyal_humblest ronthuyal_humblest(const uint64_t *image, size_t length, uint64_t cpu, uint64_t time,
+                                             uint64_t context);
 
 /* Operations. */
 enum {

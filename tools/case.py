@@ -13,11 +13,11 @@ COLUMNS = {array.item: array_place(array) for array in ARRAYS}
 class Case(NamedTuple):
     title: str
     # operation, CPU, time, context, with "d" in a window; "g", CPU, time, mask; "w", CPU; "a", CPU, time; "c", CPU, time,
-    # reply; "s", contexts, context; "t", contexts
+    # reply; "s", contexts, context; "t", contexts; "h", CPU, time, context
     call: tuple
     length: int
     words: dict
-    answer: tuple  # refusal, result, interrupt mark; of "a" the five numbers
+    answer: tuple  # refusal, result, interrupt mark; of "a" the five numbers, of "h" refusal, found and priority
     after: dict  # words after the call
     whole: bool  # whether these are all the words that it changes
     rule: int | None = None  # of a decision, where it is worked out by hand

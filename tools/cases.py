@@ -8,6 +8,7 @@ import subprocess
 
 import ask_cases
 import group_cases
+import humblest_cases
 import image_cases
 import newest_cases
 import refused_cases
@@ -109,7 +110,7 @@ def told(case, line):
 
 def check(case, line):
     """That the kernel's answer has what the case says."""
-    if case.call[0] == "a":
+    if case.call[0] in ("a", "h"):
         assert tuple(map(int, line.split())) == case.answer, (case.title, line)
         return
     refusal, result, interrupt, rule, count, *changed = map(int, line.split())
@@ -131,7 +132,7 @@ def check(case, line):
 def main():
     items = (image_cases.CASES + switch_cases.CASES + refused_cases.CASES + group_cases.CASES
              + timer_cases.CASES + newest_cases.CASES + rule_cases.CASES + weight_cases.CASES + remainder_cases.CASES
-             + ask_cases.CASES + window_cases.CASES)
+             + ask_cases.CASES + window_cases.CASES + humblest_cases.CASES)
     kernel = [item for item in items if isinstance(item, Case) and item.call[0] not in ("s", "t")]
     switches = list_of(kernel, lambda case: line_of(case, switch_of(case)))
     answers = subprocess.run(KERNEL, input=switches, capture_output=True, text=True, check=True).stdout

@@ -221,6 +221,9 @@ CALLS = [
     Call("share", ("contexts", "context"), True, "the sum",
          "adds up the times of the context in the window, which is checked for that many contexts", lent=("window",)),
     Call("share_of_all", ("contexts",), True, "the sum", "the same of all contexts", lent=("window",)),
+    Call("humblest", ("cpu", "time", "context"), True, "none: found, and the priority",
+         "the largest priority with which the context, put last on the CPU's local list, would be in charge after a switch "
+         "at that time", "humblest"),
 ]
 
 # A window's words.
@@ -233,8 +236,8 @@ REFUSALS = [
     "the length is not the one that the sizes give",
     "a word, or the call's time, outside its range",
     "the structure is broken",
-    "no such operation; CPU absent or not below C; for operations 3, 4, 6 and 7 and for groups a context gone or not "
-    "below N",
+    "no such operation; CPU absent or not below C; for operations 3, 4, 6 and 7, for groups and for `humblest` a "
+    "context gone or not below N, for `humblest` also one that is queued or in charge",
     "a lock is not free",
     "operation 3 while the idle context is current, to another context",
     "operations 1 to 3: the time is over 2^52 - 1 ns past the CPU's `schedule_time`",

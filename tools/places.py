@@ -136,6 +136,19 @@ struct ronthuyal_asked {
    for which the window is checked. */
 """,
     "share_of_all": "",
+    "humblest": """
+/* The largest priority number that gets the CPU. found is 1 if there is one, else 0, and then priority is 0 too; so it is
+   where the call is refused. */
+struct ronthuyal_humblest {
+    uint64_t refusal;
+    uint64_t found;
+    uint64_t priority;
+};
+
+/* No operation: of a context that is neither queued nor in charge, the largest of the priorities 0 to 39 with which it
+   would be in charge after a switch at that time, were it stored and the context put last on the CPU's local list. The
+   image is left as it is. */
+""",
 }
 
 

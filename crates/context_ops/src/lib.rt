@@ -11,6 +11,7 @@ use machine::CpuLookup;
 pub use named::Named;
 pub use named::resolve;
 use percpu::places::BLOCK_SIZE;
+pub use wake::wake_local;
 ghost use mathlib.Core.Path.{_≡_};
 ghost use Prim.Native.Nat.{ℕ, _+_, _*_, _<_, _≤_};
 ghost use lib.ListN.{length, getD};

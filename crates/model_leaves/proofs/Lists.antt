@@ -32,10 +32,15 @@ module _ {n : ℕ} where
   pub timers-left : (p : Timer → Bool) (l : List Timer) → TimersFormed n l → TimersFormed n (keep p l)
   timers-left p l o = record { each = all-keep p (TimerFormed n) l (o .each); rise = sorted-keep p sooner l (o .rise) }
 
+-- b has the name of a, and is gone where it is
+pub record SameName (a b : Context) : Type 0 where
+  pub gone : b .gone ≡ a .gone
+  pub id : b .«debug_id» ≡ a .«debug_id»
+
 -- over other contexts, of the same ids and the same gone ones
-module _ {n : ℕ} (cs ds : List Context) (same : (x : ℕ) → x < n → fixed (context-at ds x) ≡ fixed (context-at cs x)) where
+module _ {n : ℕ} (cs ds : List Context) (same : (x : ℕ) → x < n → SameName (context-at cs x) (context-at ds x)) where
   name-over : (x : ℕ) → LiveName n cs x → LiveName n ds x
-  name-over x o = record { below = o .below; live = ap (λ (f : Fixed). f .gone) (same x (o .below)) ∙ o .live }
+  name-over x o = record { below = o .below; live = same x (o .below) .gone ∙ o .live }
 
   entry-over : (e : Entry) → EntryFormed n cs e → EntryFormed n ds e
   entry-over e o =
@@ -44,7 +49,7 @@ module _ {n : ℕ} (cs ds : List Context) (same : (x : ℕ) → x < n → fixed 
         light = o .light;
         heavy = o .heavy;
         rem-slice = o .rem-slice;
-        id = o .id ∙ sym (ap (λ (f : Fixed). f .debug-id) (same (e .«context_ref») (o .name)));
+        id = o .id ∙ sym (same (e .«context_ref») (o .name) .id);
       }
 
   cpu-over : (p : View) → CpuFormed n cs p → CpuFormed n ds p
@@ -70,9 +75,14 @@ module _ {n : ℕ} (cs ds : List Context) (same : (x : ℕ) → x < n → fixed 
         };
       }
 
+pub stands-named : {n : ℕ} (cs ds : List Context) → ((x : ℕ) → x < n → SameName (context-at cs x) (context-at ds x)) → (p : Cpu) → Stands n cs p → Stands n ds p
+stands-named cs ds e p (absent z) = absent z
+stands-named cs ds e p (present f r) = present (cpu-over cs ds e (view p) f) r
+
 pub stands-over : {n : ℕ} (cs ds : List Context) → ((x : ℕ) → x < n → fixed (context-at ds x) ≡ fixed (context-at cs x)) → (p : Cpu) → Stands n cs p → Stands n ds p
-stands-over cs ds e p (absent z) = absent z
-stands-over cs ds e p (present f r) = present (cpu-over cs ds e (view p) f) r
+stands-over cs ds e =
+    stands-named cs ds
+    (λ x h. record { gone = ap (λ (f : Fixed). f .gone) (e x h); id = ap (λ (f : Fixed). f .debug-id) (e x h) })
 
 -- a CPU that has its mark is not an absent one
 pub present-formed : {n : ℕ} {cs : List Context} (p : Cpu) → p .block .present ≡ true → Stands n cs p → CpuFormed n cs (view p) × Room (view p .lists)

@@ -75,7 +75,7 @@ module _ (c n : ℕ) (M : Machine) (W : WellFormed c n M) where
     cpu-formed : CpuFormed n (M .contexts) (view p) × Room (view p .lists)
     cpu-formed = present-formed p is (W .cpu k here)
 
-    local-leaves : (x : ℕ) → x < n → leb 64 (length (p .«local_wakeup_list»)) ≡ false → WellFormed c n (push-local k x M)
+    pub local-leaves : (x : ℕ) → x < n → leb 64 (length (p .«local_wakeup_list»)) ≡ false → WellFormed c n (push-local k x M)
     unfolding push-local
     local-leaves x h z =
         let (f, r) = cpu-formed in

@@ -122,10 +122,13 @@ module _ (c n : ℕ) (M : Machine) (W : WellFormed c n M) where
             (λ k h. rw (block-is c n M W k h) (stands-in-range top n (M .contexts) (cpu-at M k) (W .cpu k h) (r .cpu k h) (λ x g. W .context x g .id) (W .bounds .2))),
       )
 
-  pub passes : (time : ℕ) → time ≤ max-number → RaisedAtMost max-number m → image-refusal time m ≡ 0
+  pub machine-passes : (time : ℕ) → time ≤ max-number → MachineRaised max-number c n M → image-refusal time m ≡ 0
   unfolding image-refusal sized-refusal in-bounds ranges
-  passes time h r =
+  machine-passes time h r =
       let b = W .bounds in
       let l : 2 ≤ length m = omega (arith, length-is) in
       let e : eqb (length m) (cpu-place n c) ≡ true = eq-eqb (length m) (cpu-place n c) length-is in
-      rw (le-ltb (length m) 2 l, cpus-are, names-are, lt-ltb 0 c (omega (arith, b .0)), le-leb c 4 (b .1), lt-ltb 0 n (omega (arith, b .2)), le-leb n 64 (b .3), e, le-leb time max-number h, in-ranges max-number (words-raised max-number r), structured c n M W)
+      rw (le-ltb (length m) 2 l, cpus-are, names-are, lt-ltb 0 c (omega (arith, b .0)), le-leb c 4 (b .1), lt-ltb 0 n (omega (arith, b .2)), le-leb n 64 (b .3), e, le-leb time max-number h, in-ranges max-number r, structured c n M W)
+
+  pub passes : (time : ℕ) → time ≤ max-number → RaisedAtMost max-number m → image-refusal time m ≡ 0
+  passes time h r = machine-passes time h (words-raised max-number r)

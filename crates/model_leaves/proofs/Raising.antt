@@ -79,12 +79,12 @@ unfolding unblocked
 unblocked-raised {top} x a = pick (λ (d : Changed). ContextRaised top (d .context)) (is-soft-blocked (x .status)) (λ z. restated Runnable x a) (λ z. a)
 
 module _ (top c n : ℕ) where
-  set-raised : (x : ℕ) (q : Context) (M : Machine) → ContextRaised top q → MachineRaised top c n M → MachineRaised top c n (set-context x q M)
+  pub set-raised : (x : ℕ) (q : Context) (M : Machine) → ContextRaised top q → MachineRaised top c n M → MachineRaised top c n (set-context x q M)
   unfolding cpu-at
   set-raised x q M a r = record { context = λ y h. getD-set (M .contexts) x y q no-context (ContextRaised top) a (r .context y h); cpu = r .cpu }
 
   -- a CPU's lists change, its queue aside
-  lists-raised : (k : ℕ) (p : Cpu) (M : Machine) → k < c → p .block ≡ cpu-at M k .block → p .queue ≡ cpu-at M k .queue → MachineRaised top c n M → MachineRaised top c n (set-cpu k p M)
+  pub lists-raised : (k : ℕ) (p : Cpu) (M : Machine) → k < c → p .block ≡ cpu-at M k .block → p .queue ≡ cpu-at M k .queue → MachineRaised top c n M → MachineRaised top c n (set-cpu k p M)
   unfolding cpu-at
   lists-raised k p M h e f r =
       record {

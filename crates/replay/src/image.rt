@@ -2,6 +2,7 @@
 use crate::text;
 use answer::Answer;
 use asked::Asked;
+use humblest::Humblest;
 use libc::STDOUT_FILENO;
 
 // As long as the longest image, and one word more: such an image is refused by its length.
@@ -105,5 +106,12 @@ pub fn asked(r: Asked) {
     show(r.in_charge);
     show(r.current);
     show(r.v);
+    io::write_all(STDOUT_FILENO, b"\n");
+}
+
+pub fn found(r: Humblest) {
+    io::print_decimal(STDOUT_FILENO, r.refusal);
+    show(r.found);
+    show(r.priority);
     io::write_all(STDOUT_FILENO, b"\n");
 }

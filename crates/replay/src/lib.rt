@@ -6,7 +6,9 @@
 // printed are the five numbers. One that begins with d calls in a window: operation, CPU, time, context, the window's
 // length and words as an image's, then the image; the window's changed words follow the image's. One that begins with s
 // adds up the time of a context in a window, for a number of contexts: that number, the context, then the window; with t,
-// without the context, the time of all. A line that begins with # is printed as it is.
+// without the context, the time of all.
+// One that begins with h looks for the humblest priority: CPU, time, context, then the image; printed are refusal, found
+// and priority. A line that begins with # is printed as it is.
 mod image;
 mod listed;
 mod text;

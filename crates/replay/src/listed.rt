@@ -4,6 +4,7 @@ use crate::text;
 use crate::windows;
 use answer::Answer;
 use asked::Asked;
+use humblest::Humblest;
 use libc::STDOUT_FILENO;
 
 struct Head {
@@ -98,6 +99,14 @@ fn put_question(m: &[u64], h: Head) -> Asked {
     ronthuyal::ronthuyal_ask(m, h.cpu, h.time)
 }
 
+fn search(m: &[u64], h: Head) -> Humblest {
+    let n = numbers::index(h.length);
+    if n <= m.len() {
+        return ronthuyal::ronthuyal_humblest(&m[0..n], h.cpu, h.time, h.named);
+    }
+    ronthuyal::ronthuyal_humblest(m, h.cpu, h.time, h.named)
+}
+
 fn commit_on(m: &mut [u64], h: Head, r: Asked) -> Answer {
     ronthuyal::ronthuyal_commit(
         m,
@@ -170,6 +179,14 @@ fn commit(s: &[u8], from: usize, m: &mut [u64], old: &mut [u64]) -> usize {
     end
 }
 
+// A case that looks for the humblest priority, from behind its h, and where the text goes on.
+fn priority(s: &[u8], from: usize, m: &mut [u64], old: &mut [u64]) -> usize {
+    let h = read_head(s, from);
+    let end = prepare(s, h, m, old);
+    image::found(search(m, h));
+    end
+}
+
 // A line that is printed as it is, and where the text goes on.
 fn comment(s: &[u8], from: usize) -> usize {
     let end = text::line_end(s, from);
@@ -217,6 +234,10 @@ fn item(s: &[u8], from: usize, m: &mut [u64], old: &mut [u64]) -> usize {
     let committed = text::after(s, from, b'c');
     if from < committed {
         return commit(s, committed, m, old);
+    }
+    let sought = text::after(s, from, b'h');
+    if from < sought {
+        return priority(s, sought, m, old);
     }
     item_with_window(s, from, m, old)
 }

@@ -2,6 +2,7 @@
 use answer::Answer;
 use asked::Asked;
 use calls::Checked;
+use humblest::Humblest;
 use window::Whose;
 ghost use mathlib.Core.Path.{_≡_};
 ghost use Rattle.context_ops.specs.Reply.{reply};
@@ -21,6 +22,7 @@ ghost use Rattle.asked.specs.OfReply.{asked};
 ghost use Rattle.ask.specs.Ask.{ask, commit};
 ghost use Rattle.window.specs.Shares.{share-answer};
 ghost use Rattle.call_in_window.specs.CallInWindow.{window-reply, call-in-window};
+ghost use Rattle.humblest.specs.Humblest.{humblest};
 ghost use Rattle.ronthuyal.specs.Demand.{DemandMet};
 ghost use Rattle.ronthuyal.specs.Leaves.{Leaves};
 ghost use Rattle.numbers.specs.Limits.{max-number, max-word};
@@ -249,4 +251,12 @@ pub extern "C" fn ronthuyal_share_of_all(window: &[u64], contexts: u64) -> Answe
     ensures { λ r. ⌜ r ≡ share-answer contexts Whose.All (now (window .entry)) ⌝ }
 {
     window::share(window, contexts, Whose::All)
+}
+
+// The largest priority number with which the context, put last on the CPU's local list, would be in charge after a switch at that time. The image is only read.
+#[no_mangle]
+pub extern "C" fn ronthuyal_humblest(image: &[u64], cpu: u64, time: u64, context: u64) -> Humblest
+    ensures { λ r. ⌜ r ≡ humblest (now (image .entry)) cpu time context ⌝ }
+{
+    humblest::find(image, cpu, time, context)
 }

@@ -11,6 +11,8 @@
 //! - c commits: CPU, time, the five numbers, then the image;
 //! - d calls in a window: operation, CPU, time, context, the window's length and words as an
 //!   image's, then the image; at the end of the answer are the changed words of the window;
+//! - h looks for the humblest priority: CPU, time, context, then the image; the answer is three
+//!   numbers;
 //! - s adds up the share of a context: how many contexts there are, which one, then the window;
 //! - t adds up the share of all: how many contexts there are, then the window.
 
@@ -18,9 +20,9 @@ use crate::{
     ask::Ask,
     asks,
     expected::{Expected, expected},
-    windows,
+    humblest, windows,
 };
-use image::{Answer, Call, Group, TotalWeight, asked::Asked, window};
+use image::{Answer, Call, Group, TotalWeight, asked::Asked, humblest::Tried, window};
 use std::io::{Read, stdin};
 
 /// The numbers of a case.
@@ -167,6 +169,12 @@ fn answered(text: &str) -> String {
             let mut numbers = answer(&got, &image, &after);
             put_pairs(&mut numbers, &changes(&words, &left));
             line(numbers)
+        }
+        Some('h') => {
+            let (cpu, time, context) = (next(), next(), next());
+            let tried = Tried { cpu, time, context };
+            let trials = humblest::trials(&read_image(&mut next), &tried);
+            line(trials.expect("no difference").answer.words().to_vec())
         }
         Some('s') => {
             let (contexts, context) = (next(), next());

@@ -14,6 +14,7 @@ mod due;
 mod edits;
 mod expected;
 mod generate;
+mod humblest;
 mod list;
 mod met;
 mod port;
@@ -56,6 +57,7 @@ fn main() -> ExitCode {
         ["groups", seed, count] => run::groups(number(seed), number(count)),
         ["asks", seed, count] => asks::asks(number(seed), number(count)),
         ["windows", seed, count] => windows::windows(number(seed), number(count)),
+        ["humblest", seed, count] => humblest::humblest(number(seed), number(count)),
         ["totals", seed, count] => weights::totals(number(seed), number(count)),
         #[cfg(feature = "oracle")]
         ["weighed", seed, count] => weights::weighed(number(seed), number(count)),

@@ -1,6 +1,9 @@
 //! The port, through the functions that its two archives export.
 
+mod humblest;
 pub mod window;
+
+pub use humblest::humblest;
 
 use image::{
     Answer, Call, Group, TotalWeight,

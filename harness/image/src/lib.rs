@@ -6,6 +6,7 @@ pub mod asked;
 pub mod board;
 pub mod check;
 pub mod decision;
+pub mod humblest;
 pub mod name;
 pub mod newest;
 mod places;

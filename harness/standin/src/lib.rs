@@ -5,6 +5,7 @@
 
 mod board;
 mod group;
+mod humblest;
 mod window;
 
 use image::{

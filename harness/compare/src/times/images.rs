@@ -76,6 +76,16 @@ pub fn first_wins(size: &Size) -> Machine {
     machine
 }
 
+/// No entry is eligible, so that a context that comes in at V wins, with any priority.
+pub fn late(size: &Size) -> Machine {
+    let mut machine = last_wins(size);
+    if let Some(last) = machine.cpu[0].queue.last_mut() {
+        last.vtime = V + 1;
+        machine.record[last.context][c::VTIME] = V + 1;
+    }
+    machine
+}
+
 /// Eight names on the local list are served before the choice.
 pub fn woken(size: &Size) -> Machine {
     let mut machine = last_wins(size);

@@ -2,6 +2,7 @@
 
 mod asking;
 pub mod boards;
+mod humblest;
 mod images;
 mod windows;
 
@@ -177,6 +178,6 @@ pub fn times() -> bool {
         && others
             .iter()
             .all(|(name, machine)| row(name, machine.image(), 1));
-    let tables = [asking::table, windows::table];
+    let tables = [asking::table, windows::table, humblest::table];
     good && tables.iter().all(|table| table())
 }
