@@ -13,11 +13,13 @@ COLUMNS = {array.item: array_place(array) for array in ARRAYS}
 class Case(NamedTuple):
     title: str
     # operation, CPU, time, context, with "d" in a window; "g", CPU, time, mask; "w", CPU; "a", CPU, time; "c", CPU, time,
-    # reply; "s", contexts, context; "t", contexts; "h", CPU, time, context
+    # reply; "s", contexts, context; "t", contexts; "h", CPU, time, context;
+    # "r", CPU, time, writer, rival, rounds
     call: tuple
     length: int
     words: dict
-    answer: tuple  # refusal, result, interrupt mark; of "a" the five numbers, of "h" refusal, found and priority
+    answer: tuple  # refusal, result, interrupt mark; of "a" the five numbers, of "h" refusal, found and priority,
+    # of "r" refusal, forced and choice
     after: dict  # words after the call
     whole: bool  # whether these are all the words that it changes
     rule: int | None = None  # of a decision, where it is worked out by hand

@@ -13,6 +13,7 @@ import image_cases
 import newest_cases
 import refused_cases
 import remainder_cases
+import rival_cases
 import rule_cases
 import switch_cases
 import timer_cases
@@ -110,7 +111,7 @@ def told(case, line):
 
 def check(case, line):
     """That the kernel's answer has what the case says."""
-    if case.call[0] in ("a", "h"):
+    if case.call[0] in ("a", "h", "r"):
         assert tuple(map(int, line.split())) == case.answer, (case.title, line)
         return
     refusal, result, interrupt, rule, count, *changed = map(int, line.split())
@@ -132,7 +133,8 @@ def check(case, line):
 def main():
     items = (image_cases.CASES + switch_cases.CASES + refused_cases.CASES + group_cases.CASES
              + timer_cases.CASES + newest_cases.CASES + rule_cases.CASES + weight_cases.CASES + remainder_cases.CASES
-             + ask_cases.CASES + window_cases.CASES + humblest_cases.CASES)
+             + ask_cases.CASES + window_cases.CASES + humblest_cases.CASES
+             + rival_cases.CASES)
     kernel = [item for item in items if isinstance(item, Case) and item.call[0] not in ("s", "t")]
     switches = list_of(kernel, lambda case: line_of(case, switch_of(case)))
     answers = subprocess.run(KERNEL, input=switches, capture_output=True, text=True, check=True).stdout

@@ -224,6 +224,9 @@ CALLS = [
     Call("humblest", ("cpu", "time", "context"), True, "none: found, and the priority",
          "the largest priority with which the context, put last on the CPU's local list, would be in charge after a switch "
          "at that time", "humblest"),
+    Call("rival", ("cpu", "time", "writer", "rival", "rounds"), True, "none: forced, and the choice",
+         "whether the writer can force itself into charge at the end of 1 to 6 rounds, whatever the rival picks, and its "
+         "first winning choice if it is in charge", "game"),
 ]
 
 # A window's words.
@@ -236,8 +239,8 @@ REFUSALS = [
     "the length is not the one that the sizes give",
     "a word, or the call's time, outside its range",
     "the structure is broken",
-    "no such operation; CPU absent or not below C; for operations 3, 4, 6 and 7, for groups and for `humblest` a "
-    "context gone or not below N, for `humblest` also one that is queued or in charge",
+    "no such operation; CPU absent or not below C; for operations 3, 4, 6 and 7, for groups, for `humblest` and for `rival` "
+    "a context gone or not below N, for `humblest` also one that is queued or in charge",
     "a lock is not free",
     "operation 3 while the idle context is current, to another context",
     "operations 1 to 3: the time is over 2^52 - 1 ns past the CPU's `schedule_time`",
@@ -246,6 +249,7 @@ REFUSALS = [
 # Those of a call without a number; 10 to 12 are the cue board's. A window has 1 and 3 of its own.
 MORE_REFUSALS = {
     13: "a commit: the switch would be accepted now, and what it gives is not the reply",
+    14: "writer against rival: rounds outside 1 to 6, or writer and rival the same",
 }
 
 

@@ -2,7 +2,7 @@
 """For each need of a function, what can be reached from its context `c`: `@N` stands for `c` followed by N times `.before`.
 
 usage: paths.py CRATE FN [NEED]
-FN is the proof's folder under proofs/, as `scan/scan_queue`. What rt generates goes to RT_GENERATED (a folder in the
+FN is the proof's folder under proofs/, as `scan/scan_queue`; of a function in a cycle of calls it is `turns/+a+b/Lts-a`. What rt generates goes to RT_GENERATED (a folder in the
 temporary directory; never inside the repository, where rt ci would find files of no crate). With KEEP=1 it is not
 generated anew."""
 import os
@@ -46,7 +46,8 @@ def main():
     folder = os.environ.get("RT_GENERATED", os.path.join(tempfile.gettempdir(), "rt-generated"))
     if not os.environ.get("KEEP"):
         subprocess.run(["rt", "dev", crate, "--generated", folder], stdout=subprocess.DEVNULL, stderr=subprocess.DEVNULL)
-    text = open("%s/Rattle.%s.proofs/proofs/%s/Lts.antt" % (folder, crate, function)).read()
+    file = function if os.path.basename(function).startswith("Lts-") else function + "/Lts"
+    text = open("%s/Rattle.%s.proofs/proofs/%s.antt" % (folder, crate, file)).read()
     known = records(text)
     for need, name in re.findall(r"(?m)^ +(Need-\S+) =(?: |\n\s*)\(c : (\S+?)[ )]", text):
         if only is None or need == "Need-" + only:

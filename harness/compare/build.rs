@@ -10,6 +10,7 @@ const EXPORTS: &[&str] = &[
     "ronthuyal_total_weight\0",
     "ronthuyal_ask\0",
     "ronthuyal_commit\0",
+    "ronthuyal_rival\0",
     "ronthuyal_humblest\0",
     "ronthuyal_call_in_window\0",
     "ronthuyal_share\0",

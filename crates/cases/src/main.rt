@@ -1,5 +1,5 @@
 // Document 01's cases that are not starred, its traps, its table of refused calls, groups, due timers, the newest timer, weights added up,
-// asking and committing, windows, and the humblest priority.
+// asking and committing, windows, the humblest priority, and writer against rival.
 fn main() {
     replay::run();
 }

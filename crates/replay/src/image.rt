@@ -4,6 +4,7 @@ use answer::Answer;
 use asked::Asked;
 use humblest::Humblest;
 use libc::STDOUT_FILENO;
+use rival::Game;
 
 // As long as the longest image, and one word more: such an image is refused by its length.
 pub const LONGEST: usize = machine::MAX_IMAGE_SIZE + 1;
@@ -113,5 +114,12 @@ pub fn found(r: Humblest) {
     io::print_decimal(STDOUT_FILENO, r.refusal);
     show(r.found);
     show(r.priority);
+    io::write_all(STDOUT_FILENO, b"\n");
+}
+
+pub fn game(r: Game) {
+    io::print_decimal(STDOUT_FILENO, r.refusal);
+    show(r.forced);
+    show(r.choice);
     io::write_all(STDOUT_FILENO, b"\n");
 }

@@ -8,7 +8,9 @@
 // adds up the time of a context in a window, for a number of contexts: that number, the context, then the window; with t,
 // without the context, the time of all.
 // One that begins with h looks for the humblest priority: CPU, time, context, then the image; printed are refusal, found
-// and priority. A line that begins with # is printed as it is.
+// and priority.
+// One that begins with r plays writer against rival: CPU, time, writer, rival, rounds, then the image; printed are refusal,
+// forced and choice. A line that begins with # is printed as it is.
 mod image;
 mod listed;
 mod text;

@@ -6,6 +6,7 @@ use answer::Answer;
 use asked::Asked;
 use humblest::Humblest;
 use libc::STDOUT_FILENO;
+use rival::Game;
 
 struct Head {
     cpu: u64,
@@ -59,6 +60,26 @@ fn read_reply(s: &[u8], from: usize) -> Given {
         v: v.value,
     };
     Given { reply, end: v.end }
+}
+
+// Two contexts, and how many rounds they play.
+struct Match {
+    writer: u64,
+    rival: u64,
+    rounds: u64,
+    end: usize,
+}
+
+fn read_match(s: &[u8], from: usize) -> Match {
+    let writer = text::next(s, from);
+    let rival = text::next(s, writer.end);
+    let rounds = text::next(s, rival.end);
+    Match {
+        writer: writer.value,
+        rival: rival.value,
+        rounds: rounds.value,
+        end: rounds.end,
+    }
 }
 
 fn prepare(s: &[u8], h: Head, m: &mut [u64], old: &mut [u64]) -> usize {
@@ -128,6 +149,14 @@ fn play_commit(m: &mut [u64], h: Head, r: Asked) -> Answer {
     commit_on(m, h, r)
 }
 
+fn play_game(m: &[u64], h: Head, g: Match) -> Game {
+    let n = numbers::index(h.length);
+    if n <= m.len() {
+        return ronthuyal::ronthuyal_rival(&m[0..n], h.cpu, h.time, g.writer, g.rival, g.rounds);
+    }
+    ronthuyal::ronthuyal_rival(m, h.cpu, h.time, g.writer, g.rival, g.rounds)
+}
+
 // One case, and where the text goes on.
 fn case(s: &[u8], from: usize, m: &mut [u64], old: &mut [u64]) -> usize {
     let operation = text::next(s, from);
@@ -187,6 +216,17 @@ fn priority(s: &[u8], from: usize, m: &mut [u64], old: &mut [u64]) -> usize {
     end
 }
 
+// A case of writer against rival, from behind its r, and where the text goes on.
+fn game(s: &[u8], from: usize, m: &mut [u64], old: &mut [u64]) -> usize {
+    let cpu = text::next(s, from);
+    let time = text::next(s, cpu.end);
+    let g = read_match(s, time.end);
+    let h = read_sizes(s, g.end, cpu.value, time.value, 0);
+    let end = prepare(s, h, m, old);
+    image::game(play_game(m, h, g));
+    end
+}
+
 // A line that is printed as it is, and where the text goes on.
 fn comment(s: &[u8], from: usize) -> usize {
     let end = text::line_end(s, from);
@@ -234,6 +274,10 @@ fn item(s: &[u8], from: usize, m: &mut [u64], old: &mut [u64]) -> usize {
     let committed = text::after(s, from, b'c');
     if from < committed {
         return commit(s, committed, m, old);
+    }
+    let opposed = text::after(s, from, b'r');
+    if from < opposed {
+        return game(s, opposed, m, old);
     }
     let sought = text::after(s, from, b'h');
     if from < sought {

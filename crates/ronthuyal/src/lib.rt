@@ -3,6 +3,7 @@ use answer::Answer;
 use asked::Asked;
 use calls::Checked;
 use humblest::Humblest;
+use rival::Game;
 use window::Whose;
 ghost use mathlib.Core.Path.{_≡_};
 ghost use Rattle.context_ops.specs.Reply.{reply};
@@ -23,6 +24,7 @@ ghost use Rattle.ask.specs.Ask.{ask, commit};
 ghost use Rattle.window.specs.Shares.{share-answer};
 ghost use Rattle.call_in_window.specs.CallInWindow.{window-reply, call-in-window};
 ghost use Rattle.humblest.specs.Humblest.{humblest};
+ghost use Rattle.rival.specs.Game.{rival-call};
 ghost use Rattle.ronthuyal.specs.Demand.{DemandMet};
 ghost use Rattle.ronthuyal.specs.Leaves.{Leaves};
 ghost use Rattle.numbers.specs.Limits.{max-number, max-word};
@@ -259,4 +261,19 @@ pub extern "C" fn ronthuyal_humblest(image: &[u64], cpu: u64, time: u64, context
     ensures { λ r. ⌜ r ≡ humblest (now (image .entry)) cpu time context ⌝ }
 {
     humblest::find(image, cpu, time, context)
+}
+
+// Whether the writer can force itself into charge at the end of so many rounds, whatever the rival picks. The image is only read.
+#[no_mangle]
+pub extern "C" fn ronthuyal_rival(
+    image: &[u64],
+    cpu: u64,
+    time: u64,
+    writer: u64,
+    rival: u64,
+    rounds: u64,
+) -> Game
+    ensures { λ r. ⌜ r ≡ rival-call (now (image .entry)) cpu time writer rival rounds ⌝ }
+{
+    rival::rival(image, cpu, time, writer, rival, rounds)
 }

@@ -62,20 +62,31 @@ module _ (m : List ℕ) (time : ℕ) (w : Checked) (e : w ≡ check m time) wher
     pub fits-longest : length m ≤ max-image-size
     fits-longest = let s = sized (call-image m time w e c n g) in omega (arith, s .size, s .cpus, s .contexts)
 
+    pub passes : (Image c n m) × ((time ≤ max-number) × (Ranged c n max-number max-number m))
+    passes = (call-image m time w e c n g, (call-time m time w e c n g, call-ranged m time w e c n g))
+
+    -- the switch was made on m itself, which became m'
+    pub tried-here : {a : Answer} (m' : List ℕ) (cpu : ℕ)
+        → ((M : Machine) → m ≡ encode M → Fits c n M → Attempts m' a (decide m M cpu time by-switch) ((outcome by-switch cpu time M) .machine))
+        → Tried m m' cpu time a
+    unfolding checked-by
+    tried-here {a} m' cpu h =
+        let t : Attempts m' a (decide m (decode m) cpu time by-switch) ((outcome by-switch cpu time (decode m)) .machine)
+        = call-machine m time w e {A = λ M. Attempts m' a (decide m M cpu time by-switch) ((outcome by-switch cpu time M) .machine)} c n g h
+        in let s : switch-call m cpu time ≡ decide m (decode m) cpu time by-switch = rw (← e, g)
+        in record {
+          answers = t .answers ∙ ap (λ (y : Reply). y .answer) (sym s);
+          leaves = λ z. ap (λ (y : Reply). y .image) (t .replies z .replies ∙ sym s);
+        }
+
     -- p: the copy
     pub copy-passes : (p : List ℕ) → p ≡ m → (Image c n p) × ((time ≤ max-number) × (Ranged c n max-number max-number p))
-    copy-passes p q = rw q (call-image m time w e c n g, (call-time m time w e c n g, call-ranged m time w e c n g))
+    copy-passes p q = rw q passes
 
     -- p': the copy after the switch, rest: what stands behind it
     pub tried : {a : Answer} (p p' rest : List ℕ) (cpu : ℕ) → p ≡ m → length p' ≡ length p
         → ((M : Machine) → p ≡ encode M → Fits c n M → Attempts p' a (decide p M cpu time by-switch) ((outcome by-switch cpu time M) .machine))
         → Tried m (take (length m) (p' ++ rest)) cpu time a
-    unfolding checked-by
-    tried {a} p p' rest cpu q l h =
-        let t : Attempts p' a (decide m (decode m) cpu time by-switch) ((outcome by-switch cpu time (decode m)) .machine)
-        = call-machine m time w e {A = λ M. Attempts p' a (decide m M cpu time by-switch) ((outcome by-switch cpu time M) .machine)} c n g (rw q at h)
-        in let s : switch-call m cpu time ≡ decide m (decode m) cpu time by-switch = rw (← e, g)
-        in record {
-          answers = t .answers ∙ ap (λ (y : Reply). y .answer) (sym s);
-          leaves = λ z. take-at p' rest (length m) (l ∙ ap length q) ∙ ap (λ (y : Reply). y .image) (t .replies z .replies ∙ sym s);
-        }
+    tried p p' rest cpu q l h =
+        let t = tried-here p' cpu (rw q at h)
+        in record { answers = t .answers; leaves = λ z. take-at p' rest (length m) (l ∙ ap length q) ∙ t .leaves z }

@@ -58,3 +58,14 @@ pub fn on_copy(image: &[u64], copy: &mut [u64], cpu: u64, time: u64) -> Answer
         }
     }
 }
+
+// Operation 2 on an image of any words. Where it is refused the image may be left half-way.
+pub fn in_place(m: &mut [u64], cpu: u64, time: u64) -> Answer
+    ensures { λ r. ⌜ Tried (now (m .entry)) (now (m .exit)) cpu time r ⌝ }
+{
+    let checked = calls::check(m, time);
+    match checked {
+        Checked::Refused(number) => answer::refused(number),
+        Checked::Passed(c, n) => switch(m, c, n, cpu, time),
+    }
+}

@@ -13,6 +13,8 @@
 //!   image's, then the image; at the end of the answer are the changed words of the window;
 //! - h looks for the humblest priority: CPU, time, context, then the image; the answer is three
 //!   numbers;
+//! - r plays a writer against a rival: CPU, time, writer, rival, rounds, then the image; the answer
+//!   is three numbers;
 //! - s adds up the share of a context: how many contexts there are, which one, then the window;
 //! - t adds up the share of all: how many contexts there are, then the window.
 
@@ -20,9 +22,9 @@ use crate::{
     ask::Ask,
     asks,
     expected::{Expected, expected},
-    humblest, windows,
+    humblest, rival, windows,
 };
-use image::{Answer, Call, Group, TotalWeight, asked::Asked, humblest::Tried, window};
+use image::{Answer, Call, Group, TotalWeight, asked::Asked, humblest::Tried, rival::Play, window};
 use std::io::{Read, stdin};
 
 /// The numbers of a case.
@@ -175,6 +177,17 @@ fn answered(text: &str) -> String {
             let tried = Tried { cpu, time, context };
             let trials = humblest::trials(&read_image(&mut next), &tried);
             line(trials.expect("no difference").answer.words().to_vec())
+        }
+        Some('r') => {
+            let play = Play {
+                cpu: next(),
+                time: next(),
+                writer: next(),
+                rival: next(),
+                rounds: next(),
+            };
+            let game = rival::game(&read_image(&mut next), &play);
+            line(game.expect("no difference").words().to_vec())
         }
         Some('s') => {
             let (contexts, context) = (next(), next());

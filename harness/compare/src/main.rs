@@ -25,6 +25,7 @@ mod record;
 mod recorded;
 mod replay;
 mod report;
+mod rival;
 mod rules;
 mod run;
 mod sums;
@@ -58,6 +59,7 @@ fn main() -> ExitCode {
         ["asks", seed, count] => asks::asks(number(seed), number(count)),
         ["windows", seed, count] => windows::windows(number(seed), number(count)),
         ["humblest", seed, count] => humblest::humblest(number(seed), number(count)),
+        ["rival", seed, count] => rival::rival(number(seed), number(count)),
         ["totals", seed, count] => weights::totals(number(seed), number(count)),
         #[cfg(feature = "oracle")]
         ["weighed", seed, count] => weights::weighed(number(seed), number(count)),

@@ -12,6 +12,7 @@ pub mod newest;
 mod places;
 pub mod ranges;
 pub mod remainder;
+pub mod rival;
 pub mod rule;
 pub mod served;
 pub mod structure;

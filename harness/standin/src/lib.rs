@@ -6,6 +6,7 @@
 mod board;
 mod group;
 mod humblest;
+mod rival;
 mod window;
 
 use image::{

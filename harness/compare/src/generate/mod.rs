@@ -12,6 +12,7 @@ pub mod humblest;
 pub mod machine;
 mod queue;
 mod remainders;
+pub mod rival;
 pub mod rng;
 mod rules;
 mod seats;

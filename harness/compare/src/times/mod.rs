@@ -4,6 +4,7 @@ mod asking;
 pub mod boards;
 mod humblest;
 mod images;
+mod rival;
 mod windows;
 
 use crate::{
@@ -178,6 +179,6 @@ pub fn times() -> bool {
         && others
             .iter()
             .all(|(name, machine)| row(name, machine.image(), 1));
-    let tables = [asking::table, windows::table, humblest::table];
+    let tables = [asking::table, windows::table, humblest::table, rival::table];
     good && tables.iter().all(|table| table())
 }

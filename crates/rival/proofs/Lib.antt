@@ -1,0 +1,7 @@
+pub mod Choices
+pub mod Turning
+pub mod Telling
+pub mod Entering
+pub mod Folding
+pub mod Strategies
+pub mod Cases
