@@ -4,7 +4,7 @@
 //!     rustc --edition 2024 -O examples/moment.rs -L target/staticlib -l static=ronthuyal -o target/moment
 
 #[allow(dead_code)]
-#[path = "../harness/image/src/places.rs"]
+#[path = "../rust/image/src/places.rs"]
 mod places;
 
 use places::{block, context};

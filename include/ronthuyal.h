@@ -3,7 +3,7 @@
 #ifndef RONTHUYAL_H
 #define RONTHUYAL_H
 
-#define RONTHUYAL_VERSION "0.13.0"
+#define RONTHUYAL_VERSION "0.14.0"
 
 #include <stddef.h>
 #include <stdint.h>

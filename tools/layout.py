@@ -1,6 +1,6 @@
 """The words of an image, once: names, places, ranges, and what calls answer. The names are those of the structs in
 crates/context and crates/percpu. tools/records.py writes the crates' definitions from these lists, tools/places.py the
-harness's places, the C header and the tables of docs/IMAGE.md; tools/case.py builds images by them."""
+Rust libraries' places and tables, the C header and the tables of docs/IMAGE.md; tools/case.py builds images by them."""
 from typing import NamedTuple
 
 CPUS, CONTEXTS, ROOM = 4, 64, 64  # the most of each; ROOM is that of a queue, timer set or list
@@ -15,6 +15,8 @@ REMAINDER = "0 to 2,249,999"
 
 STATUS = ["Runnable", "Blocked", "Stopped", "AwaitingMmap", "NotYetStarted", "Dead"]
 STATE = ["Idle", "Kernel", "User"]
+LOCK = ["free", "read", "written"]
+ADDR_SPACE = ["none", "free", "written"]
 
 
 class Word(NamedTuple):

@@ -1,72 +1,15 @@
 #!/usr/bin/env python3
-"""Writes what follows from the lists of tools/layout.py outside of the crates: harness/image/src/places.rs,
-include/ronthuyal.h, and the tables of docs/IMAGE.md between their marks.
+"""Writes what follows from the lists of tools/layout.py outside of the crates: places, tables and exports of the Rust
+libraries (tools/rust_layout.py), include/ronthuyal.h, and the tables of docs/IMAGE.md between their marks.
 
 Run it from the root of the repository after a list changes."""
 import os
 import re
 
-from layout import (ANY, ARRAYS, BLOCK_WORDS, CALLS, CONTEXTS, CPUS, ID_MAX, LAST, LAST_PLACE, MORE_REFUSALS, NUMBER_MAX,
-                    OPERATIONS, PRIO_MAX, RECORD, RECORD_WORDS, REFUSALS, REMAINDER_MAX, ROOM, RULES, SINGLE, SIZES,
-                    SLICE_MAX, STATE, STATUS, TURN_MAX, WEIGHT_MAX, WEIGHT_MIN, WINDOW, WINDOW_CAPACITY, WINDOW_WORDS,
-                    array_place)
-
-BY = "Written by tools/places.py"
-LIMITS = [("CPUS", CPUS), ("CONTEXTS", CONTEXTS), ("ROOM", ROOM), ("NUMBER_MAX", NUMBER_MAX), ("ID_MAX", ID_MAX),
-          ("SLICE_MAX", SLICE_MAX), ("TURN_MAX", TURN_MAX), ("PRIO_MAX", PRIO_MAX), ("WEIGHT_MIN", WEIGHT_MIN),
-          ("WEIGHT_MAX", WEIGHT_MAX), ("REMAINDER_MAX", REMAINDER_MAX)]
-
-
-def constant(name):
-    """AwaitingMmap and has_wake as constants are named."""
-    return re.sub("(?<=[a-z])(?=[A-Z])", "_", name).upper()
-
-
-def last():
-    """The words behind a block's arrays, with their places."""
-    return list(enumerate(LAST, LAST_PLACE))
-
-
-def rust():
-    out = ["//! Places and names of an image's words. %s." % BY, ""]
-
-    def consts(kind, pairs):
-        return ["    pub const %s: %s = %d;" % (constant(name), kind, number) for name, number in pairs]
-
-    def names(title, kind, items):
-        head = "    pub const %s: [%s; %d] = [" % (title, kind, len(items))
-        if len(items) == 1:
-            return [head + items[0] + "];"]
-        return [head] + ["        %s," % item for item in items] + ["    ];"]
-
-    out += ["/// Words of a context's record.", "pub mod context {"]
-    out += consts("usize", [(word.name, place) for place, word in enumerate(RECORD)] + [("words", RECORD_WORDS)]) + [""]
-    out += consts("u64", [(status, number) for number, status in enumerate(STATUS)]) + [""]
-    out += names("NAMES", "&str", ['"%s"' % word.name for word in RECORD]) + ["}", ""]
-    out += ["/// Words of a CPU's block: single ones, then columns of 64, then the last ones.", "pub mod block {"]
-    out += consts("usize", [(word.name, place) for place, word in enumerate(SINGLE)] + [("single", len(SINGLE))]) + [""]
-    out += consts("usize", [(array.name, array_place(array)) for array in ARRAYS] + [("last", LAST_PLACE)]) + [""]
-    out += consts("usize", [(word.name, place) for place, word in last()] + [("words", BLOCK_WORDS)]) + [""]
-    counts = list(dict.fromkeys(array.count for array in ARRAYS))
-    out += ["    /// The columns that each count word speaks for.",
-            "    pub const COLUMNS: [(usize, &[usize]); %d] = [" % len(counts)]
-    for count in counts:
-        columns = [constant(array.name) for array in ARRAYS if array.count == count]
-        line = "        (%s, &[%s])," % (constant(count), ", ".join(columns))
-        if len(columns) < 3 and len(line) < 88:
-            out.append(line)
-        else:
-            out += ["        (", "            %s," % constant(count), "            &["]
-            out += ["                %s," % column for column in columns] + ["            ],", "        ),"]
-    out += ["    ];", ""] + names("NAMES", "&str", ['"%s"' % word.name for word in SINGLE])
-    out += names("LAST_NAMES", "&str", ['"%s"' % word.name for word in LAST]) + [""]
-    out += ["    /// Names of the columns: before and after the slot in brackets."]
-    out += names("COLUMN_NAMES", "(&str, &str)", ['("%s", "%s")' % tuple(array.item.split("[%d]")) for array in ARRAYS])
-    out += ["}", "", "/// What the numbers of the rules stand for."]
-    out += ["pub const RULES: [&str; %d] = [" % (len(RULES) + 1), '    "no decision",']
-    out += ['    "%s",' % rule.says for rule in RULES]
-    return "\n".join(out + ["];"]) + "\n"
-
+import rust_layout
+from layout import (ANY, ARRAYS, BLOCK_WORDS, CALLS, LAST, LAST_PLACE, MORE_REFUSALS, OPERATIONS, RECORD, RECORD_WORDS,
+                    REFUSALS, RULES, SINGLE, SIZES, STATE, STATUS, WINDOW, WINDOW_CAPACITY, WINDOW_WORDS, array_place)
+from rust_layout import BY, LIMITS, constant, last
 
 HEADER = """/* The scheduling decisions of the Redox kernel over a machine image: docs/IMAGE.md says what each word is.
    %s. */
@@ -198,7 +141,7 @@ def header():
     out += enum("Rules of a decision.", [("RULE_NONE", 0)] + prefixed("RULE", [rule.name for rule in RULES], 1))
     out += enum("Statuses of a context.", prefixed("STATUS", STATUS))
     out += enum("States of a CPU.", prefixed("STATE", STATE))
-    out += ["/* Limits. */"] + ["#define RONTHUYAL_%s UINT64_C(%d)" % pair for pair in LIMITS] + [""]
+    out += ["/* Limits. */"] + ["#define RONTHUYAL_%s UINT64_C(%d)" % row[:2] for row in LIMITS] + [""]
     out += ["/* Sizes: an image of c CPUs and n contexts has so many words, context x's record begins at so many, CPU k's block at",
             "   so many. */"]
     sizes, words, block = len(SIZES), RECORD_WORDS, BLOCK_WORDS
@@ -264,10 +207,13 @@ def with_tables(text):
 
 def main():
     os.makedirs("include", exist_ok=True)
-    with open("harness/image/src/places.rs", "w") as out:
-        out.write(rust())
-    with open("include/ronthuyal.h", "w") as out:
-        out.write(header())
+    c_header = header()
+    written = {"rust/image/src/places.rs": rust_layout.places(), "rust/image/src/tables.rs": rust_layout.tables(),
+               "rust/sys/src/exports.rs": rust_layout.sys(c_header), "rust/ronthuyal/src/rules.rs": rust_layout.rules(),
+               "include/ronthuyal.h": c_header}
+    for name, text in written.items():
+        with open(name, "w") as out:
+            out.write(text)
     page = "docs/IMAGE.md"
     text = open(page).read()
     with open(page, "w") as out:

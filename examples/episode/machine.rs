@@ -1,7 +1,7 @@
 //! A machine of one CPU: its idle context, and writers that sleep until they are woken.
 
 #[allow(dead_code)]
-#[path = "../../harness/image/src/places.rs"]
+#[path = "../../rust/image/src/places.rs"]
 mod places;
 
 use places::{block, context};

@@ -13,6 +13,7 @@ mod due;
 #[path = "../../kernel/build/edits.rs"]
 mod edits;
 mod expected;
+mod explained;
 mod generate;
 mod humblest;
 mod list;
@@ -63,6 +64,8 @@ fn main() -> ExitCode {
         ["totals", seed, count] => weights::totals(number(seed), number(count)),
         #[cfg(feature = "oracle")]
         ["weighed", seed, count] => weights::weighed(number(seed), number(count)),
+        ["explained", seed, count] => explained::explained(number(seed), number(count)),
+        ["texts", seed, count] => explained::texts(number(seed), number(count)),
         ["boards", seed, runs] => boards::boards(number(seed), number(runs)),
         ["replay", list] => replay::replay(list),
         ["calls", recorded, seed, each] => calls::calls(recorded, number(seed), number(each)),

@@ -9,7 +9,6 @@ pub mod decision;
 pub mod humblest;
 pub mod name;
 pub mod newest;
-mod places;
 pub mod ranges;
 pub mod remainder;
 pub mod rival;
@@ -20,7 +19,7 @@ pub mod tidy;
 pub mod total_weight;
 pub mod window;
 
-pub use places::{RULES, block, context};
+pub use ronthuyal_image::{RULES, block, context};
 
 pub const MAX_CPUS: u64 = 4;
 pub const MAX_CONTEXTS: u64 = 64;

@@ -72,7 +72,11 @@ pub fn table() -> bool {
             rival,
             rounds: ROUNDS,
         };
-        row("the writer in charge", entries, start.clone(), play(holder, last))
-            && row("the rival in charge", entries, start, play(last, holder))
+        row(
+            "the writer in charge",
+            entries,
+            start.clone(),
+            play(holder, last),
+        ) && row("the rival in charge", entries, start, play(last, holder))
     })
 }
