@@ -20,9 +20,10 @@ add-t8 c = search needs
 
 returns : tie.Need-returns
 unfolding ticks remainder
-returns c =
-    (λ j. record { ticks = scaled (c .args .elapsed) scale nanos-per-tick (c .args .carried) (omega arith) j; remainder = left-over (c .args .elapsed) scale nanos-per-tick (c .args .carried) j },
-    (omega arith, omega arith))
+returns c = (
+  λ j. record { ticks = scaled (c .args .elapsed) scale nanos-per-tick (c .args .carried) (omega arith) j; remainder = left-over (c .args .elapsed) scale nanos-per-tick (c .args .carried) j },
+  (omega arith, omega arith),
+)
 
 pub convert-spec : {M : Type 1} → statement M
 convert-spec = tie.close (tie.spec mul-fraction add-fraction mul-t6 add-t8 returns)
