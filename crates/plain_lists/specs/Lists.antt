@@ -1,0 +1,20 @@
+-- What an array and a count stand for. Assumes nothing.
+use mathlib.Core.Path.{_≡_}
+use mathlib.Core.List.{List}
+use Prim.Native.Nat.{_≤_}
+use lib.ListN.{length, take}
+use Rattle.entries.specs.declared.Entry.{Entry}
+use Rattle.plain_lists.specs.declared.Queue.{Queue}
+
+abbrev pub entries-of : Queue → List Entry
+entries-of q = take (q .len) (q .entries)
+
+-- 64 places, so many of them in use
+pub record Sized (q : Queue) : Type 0 where
+  pub places : length (q .entries) ≡ 64
+  pub used : q .len ≤ 64
+
+-- q stands for the list l
+pub record Stands (q : Queue) (l : List Entry) : Type 0 where
+  pub sized : Sized q
+  pub is : entries-of q ≡ l
