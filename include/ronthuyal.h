@@ -3,7 +3,7 @@
 #ifndef RONTHUYAL_H
 #define RONTHUYAL_H
 
-#define RONTHUYAL_VERSION "0.14.0"
+#define RONTHUYAL_VERSION "0.15.0"
 
 #include <stddef.h>
 #include <stdint.h>
@@ -105,6 +105,11 @@ struct ronthuyal_game {
    which a call is refused is lost. The image is left as it is. */
 struct ronthuyal_game ronthuyal_rival(const uint64_t *image, size_t length, uint64_t cpu, uint64_t time,
                                       uint64_t writer, uint64_t rival, uint64_t rounds);
+
+/* No operation, and no time: result is 1 if no context is named by both CPUs, in any roles together. Then a switch of
+   the one and a switch of the other give the same in either order, if neither is on a stealing turn and all four calls
+   are accepted. The image is left as it is. */
+struct ronthuyal_answer ronthuyal_apart(const uint64_t *image, size_t length, uint64_t one, uint64_t other);
 
 /* Operations. */
 enum {

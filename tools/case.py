@@ -14,7 +14,7 @@ class Case(NamedTuple):
     title: str
     # operation, CPU, time, context, with "d" in a window; "g", CPU, time, mask; "w", CPU; "a", CPU, time; "c", CPU, time,
     # reply; "s", contexts, context; "t", contexts; "h", CPU, time, context;
-    # "r", CPU, time, writer, rival, rounds
+    # "r", CPU, time, writer, rival, rounds; "o", two CPUs
     call: tuple
     length: int
     words: dict

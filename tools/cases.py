@@ -6,6 +6,7 @@ after harness/run has built the harness; RONTHUYAL_COMPARE names another build o
 import os
 import subprocess
 
+import apart_cases
 import ask_cases
 import group_cases
 import humblest_cases
@@ -68,6 +69,9 @@ def switch_of(case):
     """What the kernel is asked for: to ask and to commit is a switch at that time, a window is not its matter."""
     if case.call[0] == "d":
         return case.call[1:]
+    if case.call[0] == "o":
+        # It has nothing that says whether two CPUs are apart: only the checks before that are asked for.
+        return "w", case.call[1]
     return (2, *case.call[1:3], 0) if case.call[0] in ("a", "c") else case.call
 
 
@@ -104,6 +108,10 @@ def told(case, line):
     """What is printed, from what the kernel answers: a commit is refused by 13 if its reply is not the switch's."""
     if case.call[0] == "a":
         return numbers(asked(case, line))
+    if case.call[0] == "o":
+        refusal = int(line.split()[0])
+        assert refusal in (0, case.answer[0]), (case.title, line)
+        return numbers(case.answer, (0, 0))
     if case.call[0] == "c" and line.split()[0] == "0" and asked(case, line) != case.call[3:]:
         return "13 0 0 0 0"
     return in_window(case, line) if case.call[0] == "d" else line
@@ -134,7 +142,7 @@ def main():
     items = (image_cases.CASES + switch_cases.CASES + refused_cases.CASES + group_cases.CASES
              + timer_cases.CASES + newest_cases.CASES + rule_cases.CASES + weight_cases.CASES + remainder_cases.CASES
              + ask_cases.CASES + window_cases.CASES + humblest_cases.CASES
-             + rival_cases.CASES)
+             + rival_cases.CASES + apart_cases.CASES)
     kernel = [item for item in items if isinstance(item, Case) and item.call[0] not in ("s", "t")]
     switches = list_of(kernel, lambda case: line_of(case, switch_of(case)))
     answers = subprocess.run(KERNEL, input=switches, capture_output=True, text=True, check=True).stdout

@@ -229,6 +229,9 @@ CALLS = [
     Call("rival", ("cpu", "time", "writer", "rival", "rounds"), True, "none: forced, and the choice",
          "whether the writer can force itself into charge at the end of 1 to 6 rounds, whatever the rival picks, and its "
          "first winning choice if it is in charge", "game"),
+    Call("apart", ("one", "other"), True, "1 if so, else 0",
+         "whether no context is named by both CPUs, in any roles together: current, in charge, idle, queued, timed, on "
+         "a list"),
 ]
 
 # A window's words.

@@ -106,6 +106,11 @@ struct ronthuyal_game {
    1,000,000). Anyone else goes on. Whether the writer can be in charge at the end whatever the rival picks; a branch in
    which a call is refused is lost. The image is left as it is. */
 """,
+    "apart": """
+/* No operation, and no time: result is 1 if no context is named by both CPUs, in any roles together. Then a switch of
+   the one and a switch of the other give the same in either order, if neither is on a stealing turn and all four calls
+   are accepted. The image is left as it is. */
+""",
 }
 
 

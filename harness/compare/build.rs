@@ -6,6 +6,7 @@ use std::{env, fs, path::PathBuf};
 /// An archive's index holds the names of its global symbols, ended by zeros.
 const EXPORTS: &[&str] = &[
     "ronthuyal_call\0",
+    "ronthuyal_switch\0",
     "ronthuyal_unblock_group\0",
     "ronthuyal_total_weight\0",
     "ronthuyal_ask\0",
@@ -15,6 +16,7 @@ const EXPORTS: &[&str] = &[
     "ronthuyal_call_in_window\0",
     "ronthuyal_share\0",
     "ronthuyal_share_of_all\0",
+    "ronthuyal_apart\0",
 ];
 const CUE_BOARD_EXPORTS: [&str; 2] = ["cue_board_add\0", "cue_board_next\0"];
 

@@ -10,7 +10,8 @@
 // One that begins with h looks for the humblest priority: CPU, time, context, then the image; printed are refusal, found
 // and priority.
 // One that begins with r plays writer against rival: CPU, time, writer, rival, rounds, then the image; printed are refusal,
-// forced and choice. A line that begins with # is printed as it is.
+// forced and choice. One that begins with o looks at two CPUs: these, then the image. A line that begins with # is printed
+// as it is.
 mod image;
 mod listed;
 mod text;

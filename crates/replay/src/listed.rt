@@ -11,7 +11,7 @@ use rival::Game;
 struct Head {
     cpu: u64,
     time: u64,
-    // a context, or the mask of a group
+    // a context, the mask of a group, or another CPU
     named: u64,
     length: u64,
     words: u64,
@@ -157,6 +157,14 @@ fn play_game(m: &[u64], h: Head, g: Match) -> Game {
     ronthuyal::ronthuyal_rival(m, h.cpu, h.time, g.writer, g.rival, g.rounds)
 }
 
+fn compare_names(m: &[u64], h: Head) -> Answer {
+    let n = numbers::index(h.length);
+    if n <= m.len() {
+        return ronthuyal::ronthuyal_apart(&m[0..n], h.cpu, h.named);
+    }
+    ronthuyal::ronthuyal_apart(m, h.cpu, h.named)
+}
+
 // One case, and where the text goes on.
 fn case(s: &[u8], from: usize, m: &mut [u64], old: &mut [u64]) -> usize {
     let operation = text::next(s, from);
@@ -227,6 +235,17 @@ fn game(s: &[u8], from: usize, m: &mut [u64], old: &mut [u64]) -> usize {
     end
 }
 
+// A case of two CPUs, from behind its o, and where the text goes on.
+fn apart(s: &[u8], from: usize, m: &mut [u64], old: &mut [u64]) -> usize {
+    let one = text::next(s, from);
+    let other = text::next(s, one.end);
+    let h = read_sizes(s, other.end, one.value, 0, other.value);
+    let end = prepare(s, h, m, old);
+    let a = compare_names(m, h);
+    image::answer(a, m, old);
+    end
+}
+
 // A line that is printed as it is, and where the text goes on.
 fn comment(s: &[u8], from: usize) -> usize {
     let end = text::line_end(s, from);
@@ -274,6 +293,10 @@ fn item(s: &[u8], from: usize, m: &mut [u64], old: &mut [u64]) -> usize {
     let committed = text::after(s, from, b'c');
     if from < committed {
         return commit(s, committed, m, old);
+    }
+    let paired = text::after(s, from, b'o');
+    if from < paired {
+        return apart(s, paired, m, old);
     }
     let opposed = text::after(s, from, b'r');
     if from < opposed {

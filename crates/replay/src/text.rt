@@ -34,6 +34,9 @@ fn is_mark(b: u8) -> bool {
     if b == b'c' {
         return true;
     }
+    if b == b'o' {
+        return true;
+    }
     if b == b'r' {
         return true;
     }

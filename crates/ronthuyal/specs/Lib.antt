@@ -1,3 +1,4 @@
 pub mod Demand
 pub mod Leaves
 pub mod Singles
+pub mod Apart

@@ -27,6 +27,7 @@ ghost use Rattle.humblest.specs.Humblest.{humblest};
 ghost use Rattle.rival.specs.Game.{rival-call};
 ghost use Rattle.ronthuyal.specs.Demand.{DemandMet};
 ghost use Rattle.ronthuyal.specs.Leaves.{Leaves};
+ghost use Rattle.ronthuyal.specs.Apart.{apart-call};
 ghost use Rattle.numbers.specs.Limits.{max-number, max-word};
 
 // Operation 1. The result is 0 if no switch is due, else as in operation 2.
@@ -276,4 +277,17 @@ pub extern "C" fn ronthuyal_rival(
     ensures { λ r. ⌜ r ≡ rival-call (now (image .entry)) cpu time writer rival rounds ⌝ }
 {
     rival::rival(image, cpu, time, writer, rival, rounds)
+}
+
+// Whether the two CPUs name no context together, in any roles: their switches give the same in either order. The result is 1 if so. The image is
+// only read.
+#[no_mangle]
+pub extern "C" fn ronthuyal_apart(image: &[u64], one: u64, other: u64) -> Answer
+    ensures { λ r. ⌜ reply r (now (image .entry)) ≡ apart-call (now (image .entry)) one other ⌝ }
+{
+    let checked = calls::check(image, 0);
+    match checked {
+        Checked::Refused(number) => answer::refused(number),
+        Checked::Passed(c, n) => apart::answer(image, c, n, one, other),
+    }
 }

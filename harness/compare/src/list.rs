@@ -13,10 +13,17 @@
 //!   image's, then the image; at the end of the answer are the changed words of the window;
 //! - h looks for the humblest priority: CPU, time, context, then the image; the answer is three
 //!   numbers;
+//! - o says whether two CPUs are apart, whose switches may come in either order: one CPU, the other,
+//!   then the image;
 //! - r plays a writer against a rival: CPU, time, writer, rival, rounds, then the image; the answer
 //!   is three numbers;
 //! - s adds up the share of a context: how many contexts there are, which one, then the window;
 //! - t adds up the share of all: how many contexts there are, then the window.
+
+mod read;
+
+use read::{read_call, read_group, read_image};
+pub use read::{read_case, read_pairs};
 
 use crate::{
     ask::Ask,
@@ -24,7 +31,9 @@ use crate::{
     expected::{Expected, expected},
     humblest, rival, windows,
 };
-use image::{Answer, Call, Group, TotalWeight, asked::Asked, humblest::Tried, rival::Play, window};
+use image::{
+    Answer, Call, Group, TotalWeight, apart, asked::Asked, humblest::Tried, rival::Play, window,
+};
 use std::io::{Read, stdin};
 
 /// The numbers of a case.
@@ -75,43 +84,6 @@ pub fn changes(before: &[u64], after: &[u64]) -> Vec<(usize, u64)> {
 pub fn nonzero(image: &[u64]) -> Vec<(usize, u64)> {
     let words = image.iter().copied().enumerate();
     words.filter(|(_, word)| *word != 0).collect()
-}
-
-/// The case that the next numbers are.
-fn read_call(next: &mut impl FnMut() -> u64) -> Call {
-    Call {
-        operation: next(),
-        cpu: next(),
-        time: next(),
-        context: next(),
-    }
-}
-
-pub fn read_case(next: &mut impl FnMut() -> u64) -> (Call, Vec<u64>) {
-    let call = read_call(next);
-    (call, read_image(next))
-}
-
-fn read_group(next: &mut impl FnMut() -> u64) -> (Group, Vec<u64>) {
-    let group = Group {
-        cpu: next(),
-        time: next(),
-        mask: next(),
-    };
-    (group, read_image(next))
-}
-
-fn read_image(next: &mut impl FnMut() -> u64) -> Vec<u64> {
-    let mut image = vec![0; next() as usize];
-    read_pairs(next, &mut image);
-    image
-}
-
-pub fn read_pairs(next: &mut impl FnMut() -> u64, image: &mut [u64]) {
-    for _ in 0..next() {
-        let place = next() as usize;
-        image[place] = next();
-    }
 }
 
 pub fn line(numbers: Vec<u64>) -> String {
@@ -177,6 +149,11 @@ fn answered(text: &str) -> String {
             let tried = Tried { cpu, time, context };
             let trials = humblest::trials(&read_image(&mut next), &tried);
             line(trials.expect("no difference").answer.words().to_vec())
+        }
+        Some('o') => {
+            let (one, other) = (next(), next());
+            let image = read_image(&mut next);
+            line(answer(&apart::apart(&image, one, other), &image, &image))
         }
         Some('r') => {
             let play = Play {

@@ -12,6 +12,7 @@ mod choose;
 mod due;
 #[path = "../../kernel/build/edits.rs"]
 mod edits;
+mod either;
 mod expected;
 mod explained;
 mod generate;
@@ -61,6 +62,7 @@ fn main() -> ExitCode {
         ["windows", seed, count] => windows::windows(number(seed), number(count)),
         ["humblest", seed, count] => humblest::humblest(number(seed), number(count)),
         ["rival", seed, count] => rival::rival(number(seed), number(count)),
+        ["either", seed, count] => either::either(number(seed), number(count)),
         ["totals", seed, count] => weights::totals(number(seed), number(count)),
         #[cfg(feature = "oracle")]
         ["weighed", seed, count] => weights::weighed(number(seed), number(count)),

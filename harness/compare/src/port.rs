@@ -1,9 +1,11 @@
 //! The port, through the functions that its two archives export.
 
+mod apart;
 mod humblest;
 mod rival;
 pub mod window;
 
+pub use apart::{apart, switch};
 pub use humblest::humblest;
 pub use rival::rival;
 

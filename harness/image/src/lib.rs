@@ -2,6 +2,7 @@
 //! reading of the table of refused calls, of decisions, of their rules, of weights and of carried
 //! remainders. And the cue board of document 02.
 
+pub mod apart;
 pub mod asked;
 pub mod board;
 pub mod check;

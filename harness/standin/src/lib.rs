@@ -3,6 +3,7 @@
 //! reading. The comparison is tried on it, and edits of the table show whether it would see a port
 //! that reads the table otherwise.
 
+mod apart;
 mod board;
 mod group;
 mod humblest;
@@ -75,6 +76,19 @@ fn rule(words: &[u64], call: &Call) -> u64 {
         true => changed::oracle::call(&mut words.to_vec(), call).map_or(0, |answer| answer.rule),
         false => 0,
     }
+}
+
+/// # Safety
+/// `image` points to `len` words.
+#[unsafe(no_mangle)]
+pub unsafe extern "C" fn ronthuyal_switch(
+    image: *mut u64,
+    len: usize,
+    cpu: u64,
+    time: u64,
+) -> Answer {
+    let words = unsafe { std::slice::from_raw_parts_mut(image, len) };
+    called(words, &switch(cpu, time))
 }
 
 /// # Safety

@@ -4,7 +4,7 @@ use crate::places::{block, context};
 use crate::word::{Array, CallRow, OperationRow, Range, Unit, Word};
 
 /// Of the layout that these tables are of.
-pub const VERSION: &str = "0.14.0";
+pub const VERSION: &str = "0.15.0";
 
 /// The most CPUs.
 pub const CPUS: u64 = 4;
@@ -743,7 +743,7 @@ pub const OPERATIONS: [OperationRow; 7] = [
 ];
 
 /// The calls that have no number.
-pub const CALLS: [CallRow; 9] = [
+pub const CALLS: [CallRow; 10] = [
     CallRow {
         name: "unblock_group",
         takes: &["cpu", "time", "mask"],
@@ -806,6 +806,13 @@ pub const CALLS: [CallRow; 9] = [
         reads: true,
         result: "none: forced, and the choice",
         says: "whether the writer can force itself into charge at the end of 1 to 6 rounds, whatever the rival picks, and its first winning choice if it is in charge",
+    },
+    CallRow {
+        name: "apart",
+        takes: &["one", "other"],
+        reads: true,
+        result: "1 if so, else 0",
+        says: "whether no context is named by both CPUs, in any roles together: current, in charge, idle, queued, timed, on a list",
     },
 ];
 

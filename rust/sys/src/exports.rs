@@ -192,10 +192,17 @@ unsafe extern "C" {
         rival: u64,
         rounds: u64,
     ) -> Game;
+    /// Whether no context is named by both CPUs, in any roles together: current, in charge, idle, queued, timed, on a list.
+    pub fn ronthuyal_apart(
+        image: *const u64,
+        length: usize,
+        one: u64,
+        other: u64,
+    ) -> Answer;
 }
 
 /// The names of all exports.
-pub const EXPORTS: [&str; 17] = [
+pub const EXPORTS: [&str; 18] = [
     "ronthuyal_call",
     "ronthuyal_tick",
     "ronthuyal_switch",
@@ -213,4 +220,5 @@ pub const EXPORTS: [&str; 17] = [
     "ronthuyal_share_of_all",
     "ronthuyal_humblest",
     "ronthuyal_rival",
+    "ronthuyal_apart",
 ];

@@ -6,6 +6,7 @@ mod breakage;
 mod call;
 mod case;
 mod damage;
+pub mod either;
 mod full;
 mod group;
 pub mod humblest;

@@ -1,0 +1,12 @@
+pub mod Others
+pub mod Owned
+pub mod Waking
+pub mod Charging
+pub mod Scanning
+pub mod Choosing
+pub mod Ending
+pub mod Quiet
+pub mod Switching
+pub mod Named
+pub mod Either
+pub mod Tested
