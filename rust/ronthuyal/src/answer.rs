@@ -100,12 +100,14 @@ pub enum Refusal {
     NoRoom,
     /// 13: a commit whose reply is no longer what the switch gives.
     NotTheReply,
+    /// 14: writer against rival with rounds outside 1 to 6, or writer and rival the same.
+    NoGame,
     /// A number that this version does not know.
     Other(u64),
 }
 
 impl Refusal {
-    const KNOWN: [(u64, Self); 10] = [
+    const KNOWN: [(u64, Self); 11] = [
         (1, Self::Sizes),
         (2, Self::Length),
         (3, Self::Range),
@@ -116,6 +118,7 @@ impl Refusal {
         (8, Self::TooLate),
         (9, Self::NoRoom),
         (13, Self::NotTheReply),
+        (14, Self::NoGame),
     ];
 
     /// The refusal of this number; 0 is none.

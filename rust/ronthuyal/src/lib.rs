@@ -44,13 +44,17 @@ extern crate alloc;
 mod answer;
 mod call;
 mod image;
+mod questions;
 #[rustfmt::skip]
 mod rules;
 mod typed;
+mod window;
 
 pub use answer::{Done, Outcome, Refusal};
 pub use call::Call;
 pub use image::{Image, Reply};
+pub use questions::{Choice, Game};
 pub use ronthuyal_image as words;
 pub use rules::Rule;
 pub use typed::{ContextId, Contexts, Cpu, Time};
+pub use window::Window;
