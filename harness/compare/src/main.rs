@@ -9,6 +9,7 @@ mod branches;
 mod calls;
 #[cfg(feature = "branches")]
 mod choose;
+mod corners;
 mod due;
 #[path = "../../kernel/build/edits.rs"]
 mod edits;
@@ -63,6 +64,7 @@ fn main() -> ExitCode {
         ["humblest", seed, count] => humblest::humblest(number(seed), number(count)),
         ["rival", seed, count] => rival::rival(number(seed), number(count)),
         ["either", seed, count] => either::either(number(seed), number(count)),
+        ["corners", seed, count] => corners::corners(number(seed), number(count)),
         ["totals", seed, count] => weights::totals(number(seed), number(count)),
         #[cfg(feature = "oracle")]
         ["weighed", seed, count] => weights::weighed(number(seed), number(count)),

@@ -5,6 +5,7 @@ mod boards;
 mod breakage;
 mod call;
 mod case;
+pub mod corners;
 mod damage;
 pub mod either;
 mod full;
