@@ -12,8 +12,8 @@ COLUMNS = {array.item: array_place(array) for array in ARRAYS}
 
 class Case(NamedTuple):
     title: str
-    # operation, CPU, time, context, with "d" in a window; "g", CPU, time, mask; "w", CPU; "a", CPU, time; "c", CPU, time,
-    # reply; "s", contexts, context; "t", contexts; "h", CPU, time, context;
+    # operation, CPU, time, context, with "d" in a window, with "p" by the plain engine; "g", CPU, time, mask; "w", CPU;
+    # "a", CPU, time; "c", CPU, time, reply; "s", contexts, context; "t", contexts; "h", CPU, time, context;
     # "r", CPU, time, writer, rival, rounds; "o", two CPUs
     call: tuple
     length: int

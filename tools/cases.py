@@ -12,6 +12,7 @@ import group_cases
 import humblest_cases
 import image_cases
 import newest_cases
+import plain_cases
 import refused_cases
 import remainder_cases
 import rival_cases
@@ -66,8 +67,9 @@ def asked(case, line):
 
 
 def switch_of(case):
-    """What the kernel is asked for: to ask and to commit is a switch at that time, a window is not its matter."""
-    if case.call[0] == "d":
+    """What the kernel is asked for: to ask and to commit is a switch at that time, a window is not its matter, nor is by
+    which engine a call is made."""
+    if case.call[0] in ("d", "p"):
         return case.call[1:]
     if case.call[0] == "o":
         # It has nothing that says whether two CPUs are apart: only the checks before that are asked for.
@@ -130,7 +132,7 @@ def check(case, line):
     after = {**case.words, **changed}
     assert (refusal, result, interrupt) == case.answer, (case.title, line)
     # Only operations 1 to 3 and a commit decide, and a refused call does not.
-    operation = case.call[1] if case.call[0] == "d" else case.call[0]
+    operation = case.call[1] if case.call[0] in ("d", "p") else case.call[0]
     expected = case.rule if operation in (1, 2, 3, "c") and not refusal else 0
     assert expected in (None, rule), (case.title, rule, expected)
     for place, word in case.after.items():
@@ -142,7 +144,7 @@ def main():
     items = (image_cases.CASES + switch_cases.CASES + refused_cases.CASES + group_cases.CASES
              + timer_cases.CASES + newest_cases.CASES + rule_cases.CASES + weight_cases.CASES + remainder_cases.CASES
              + ask_cases.CASES + window_cases.CASES + humblest_cases.CASES
-             + rival_cases.CASES + apart_cases.CASES)
+             + rival_cases.CASES + apart_cases.CASES + plain_cases.CORNERS)
     kernel = [item for item in items if isinstance(item, Case) and item.call[0] not in ("s", "t")]
     switches = list_of(kernel, lambda case: line_of(case, switch_of(case)))
     answers = subprocess.run(KERNEL, input=switches, capture_output=True, text=True, check=True).stdout

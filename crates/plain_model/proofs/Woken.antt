@@ -71,7 +71,7 @@ module _ (s : State) (d : Different (s .cpu)) where
         differ = record { queue = d .queue; timers = keep-differs timers-ordered (stays time s) (s .cpu .timers) (d .timers) };
       }
 
-served-placed : (w : Wakeup) (s : State) → Different (s .cpu) → Places (plain.serve-wakeup s w) (serve-wakeup (placed s) w)
+pub served-placed : (w : Wakeup) (s : State) → Different (s .cpu) → Places (plain.serve-wakeup s w) (serve-wakeup (placed s) w)
 unfolding plain.serve-wakeup serve-wakeup
 served-placed w s d = rw (result-placed s d w) (as-placed s d w (wakeup-result s w))
 

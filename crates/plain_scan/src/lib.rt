@@ -1,4 +1,6 @@
 // The scan of the plain engine, by value: every entry in its turn, and flags say what is passed over.
+mod judge;
+
 ghost use mathlib.Core.Path.{_≡_};
 ghost use Prim.Native.Nat.{_*_, _<_, _≤_};
 ghost use Rattle.machine.specs.Shape.{EntryFits};
@@ -28,37 +30,6 @@ pub struct Scan {
     pub leaving: Queue,
 }
 
-// Earlier than a late holder's vtime.
-fn is_earlier_than(h: MinVtime, v: u64) -> bool
-    ensures { λ r. ⌜ r ≡ below (vtime-of h) v ⌝ }
-{
-    match h {
-        MinVtime::Nobody => true,
-        MinVtime::At(m) => v < m,
-    }
-}
-
-// Earlier than the least late vtime so far.
-fn is_earlier(late: Best, h: MinVtime, v: u64) -> bool
-    ensures { λ r. ⌜ r ≡ below (ineligible-min-vtime (best-of late) (vtime-of h)) v ⌝ }
-{
-    match late {
-        Best::Nobody => is_earlier_than(h, v),
-        Best::Found(b) => v < b.vtime,
-    }
-}
-
-// What an entry is to the scan, whose context's record is q.
-fn visit(t: Scanner, q: Context, e: Entry) -> Visit
-    requires { ⌜ t .«cpu_id» < 64 ⌝ }
-    ensures { λ r. ⌜ visit-of r ≡ judge (t .«cpu_id») (t .time) (scanner-cpu t) q e ⌝ }
-{
-    if q.gone {
-        return Visit::Gone;
-    }
-    select_judge::judged(t, q, e)
-}
-
 impl Scan {
     // The record of context x.
     pub fn record(self, n: usize, x: usize) -> Context
@@ -76,13 +47,13 @@ impl Scan {
     {
         let best = self.eligible_best;
         let late = self.ineligible_best;
-        if select_judge::is_found(best) {
+        if judge::is_over(best) {
             return true;
         }
-        if select_judge::too_late(t, late, e) {
+        if judge::is_later(t, late, e) {
             return true;
         }
-        if select_judge::is_of(late, e.context_ref) {
+        if judge::locks(late, e.context_ref) {
             return !q.gone;
         }
         false
@@ -147,7 +118,7 @@ impl Scan {
                 leaving: leaving,
             };
         }
-        if is_earlier(late, holder, e.vtime) {
+        if judge::is_earlier(late, holder, e.vtime) {
             return Scan {
                 contexts: contexts,
                 eligible_best: best,
@@ -171,7 +142,7 @@ impl Scan {
             Visit::Gone => self.give_up(n, e, e.weight),
             Visit::Blocked(q) => {
                 let was = self.record(n, x);
-                let w = select_judge::active_weight(was.is_active, e.weight);
+                let w = judge::weight_of(was.is_active, e.weight);
                 let s = self.store(n, e, x, q);
                 s.give_up(n, e, w)
             }
@@ -195,7 +166,7 @@ impl Scan {
         if self.passes_over(n, t, e, q) {
             return self;
         }
-        let v = visit(t, q, e);
+        let v = judge::visit(t, q, e);
         self.look_at(n, t, e, x, v)
     }
 

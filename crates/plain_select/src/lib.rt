@@ -1,4 +1,6 @@
 // What the choice of the plain engine takes out of the queue, by value.
+mod held;
+
 ghost use mathlib.Core.Path.{_≡_};
 ghost use mathlib.Core.List.{map};
 ghost use Rattle.entries.specs.declared.Entry.{Entry};
@@ -154,7 +156,7 @@ fn scanner(k: usize, time: u64, b: PercpuBlock, h: Holder) -> Scanner
     ensures { λ r. ⌜ r .«cpu_id» ≡ k ⌝ }
 {
     let cpu_id = numbers::word(k);
-    let late = select_judge::ineligible_holder(h);
+    let late = held::late_holder(h);
     Scanner {
         cpu_id,
         time,
@@ -207,7 +209,7 @@ fn holder(s: State, n: usize) -> Holder
     let b = cpu.block;
     let x = numbers::index(b.sched_ctxt);
     let q = s.context(n, x);
-    select_judge::holder_of(b, q)
+    held::holder_in(b, q)
 }
 
 // The context of the eligible entry; any number if there is none.

@@ -1,1 +1,4 @@
 pub mod Stating
+pub mod Parts
+pub mod Fitting
+pub mod Tracking

@@ -112,7 +112,7 @@ module _ (n : ℕ) (s : State) (o : Sound n s) where
 
 -- a timer's order is that of its entry
 module _ where
-  sooner-is : (a b : Entry) → a .key .«rem_slice» ≡ 0 → b .key .«rem_slice» ≡ 0 → entry-before a b ≡ sooner (timer-of a) (timer-of b)
+  pub sooner-is : (a b : Entry) → a .key .«rem_slice» ≡ 0 → b .key .«rem_slice» ≡ 0 → entry-before a b ≡ sooner (timer-of a) (timer-of b)
   unfolding before sooner
   sooner-is a b p q = rw (p, q)
 

@@ -45,7 +45,15 @@ pub record NamesSized (l : Names) : Type 0 where
   pub places : length (l .names) ≡ 64
   pub used : l .len ≤ 64
 
--- the arrays have 64 places; timers go by wake, then by context
+-- the arrays of a CPU have 64 places; timers go by wake, then by context
+pub record CpuSound (p : Cpu) : Type 0 where
+  pub queue : Sized (p .queue)
+  pub timers : Sized (p .timers)
+  pub local : NamesSized (p .local)
+  pub ipi : NamesSized (p .ipi)
+  pub flat : All (λ (e : Entry). e .key .«rem_slice» ≡ 0) (entries-of (p .timers))
+
+-- so do those of a state
 pub record Sound (n : ℕ) (s : State) : Type 0 where
   pub few : n ≤ 64
   pub contexts : length (s .contexts) ≡ 64

@@ -55,7 +55,7 @@ impl Names {
 }
 
 // A timer as an entry of its queue.
-fn timer_entry(t: Timer) -> Entry
+pub fn timer_entry(t: Timer) -> Entry
     ensures { λ r. ⌜ (timer-of r ≡ t) × (r .key .«rem_slice» ≡ 0) ⌝ }
 {
     let key = Key {

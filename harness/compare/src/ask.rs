@@ -21,6 +21,10 @@ pub trait Ask {
     fn decision(&self) -> Option<&Call>;
     /// The port's answer, or nothing where there is no port.
     fn port(&self, image: &mut [u64]) -> Option<Answer>;
+    /// That of its plain engine, which makes operations alone.
+    fn plain(&self, _image: &mut [u64]) -> Option<Answer> {
+        None
+    }
     fn text(&self) -> String;
 }
 
@@ -38,6 +42,9 @@ impl Ask for Call {
     }
     fn port(&self, image: &mut [u64]) -> Option<Answer> {
         port::call(image, self)
+    }
+    fn plain(&self, image: &mut [u64]) -> Option<Answer> {
+        port::plain_call(image, self)
     }
     fn text(&self) -> String {
         let name = match self.operation {

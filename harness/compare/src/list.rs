@@ -15,6 +15,7 @@
 //!   numbers;
 //! - o says whether two CPUs are apart, whose switches may come in either order: one CPU, the other,
 //!   then the image;
+//! - p is a call by the plain engine: operation, CPU, time, context, then the image;
 //! - r plays a writer against a rival: CPU, time, writer, rival, rounds, then the image; the answer
 //!   is three numbers;
 //! - s adds up the share of a context: how many contexts there are, which one, then the window;

@@ -20,6 +20,7 @@ mod generate;
 mod humblest;
 mod list;
 mod met;
+mod plain;
 mod port;
 #[cfg(feature = "oracle")]
 mod power;
@@ -64,6 +65,7 @@ fn main() -> ExitCode {
         ["humblest", seed, count] => humblest::humblest(number(seed), number(count)),
         ["rival", seed, count] => rival::rival(number(seed), number(count)),
         ["either", seed, count] => either::either(number(seed), number(count)),
+        ["plain", seed, count] => plain::plain(number(seed), number(count)),
         ["corners", seed, count] => corners::corners(number(seed), number(count)),
         ["totals", seed, count] => weights::totals(number(seed), number(count)),
         #[cfg(feature = "oracle")]

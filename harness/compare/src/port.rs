@@ -2,11 +2,13 @@
 
 mod apart;
 mod humblest;
+mod plain;
 mod rival;
 pub mod window;
 
 pub use apart::{apart, switch};
 pub use humblest::humblest;
+pub use plain::plain_call;
 pub use rival::rival;
 
 use image::{
@@ -58,6 +60,8 @@ unsafe extern "C" {
 
 /// Whether there is a port to compare with.
 pub const THERE: bool = cfg!(port);
+/// Whether it has the plain engine.
+pub const PLAIN: bool = cfg!(plain);
 /// Whether there is a cue board.
 pub const CUE_BOARD: bool = cfg!(cue_board);
 

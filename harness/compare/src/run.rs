@@ -4,7 +4,7 @@ use crate::{
     ask::Ask,
     expected::{Contradiction, Expected, expected},
     generate::{Case, Groups, Stream},
-    port, report,
+    plain, port, report,
     sums::Sums,
     tally::Tally,
 };
@@ -152,6 +152,7 @@ pub fn one<A: Ask>(case: &Case<A>) -> Option<(Answer, Vec<u64>)> {
     {
         return None;
     }
+    plain::also(case, &answer, &after)?;
     Some((answer, after))
 }
 

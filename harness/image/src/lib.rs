@@ -10,6 +10,7 @@ pub mod decision;
 pub mod humblest;
 pub mod name;
 pub mod newest;
+pub mod plain;
 pub mod ranges;
 pub mod remainder;
 pub mod rival;

@@ -7,6 +7,7 @@ mod apart;
 mod board;
 mod group;
 mod humblest;
+mod plain;
 mod rival;
 mod window;
 

@@ -6,19 +6,19 @@ use Rattle.plain_select.proofs.scanner.Tie as tie
 use Rattle.plain_select.proofs.scanner.Reads as reads
 use Rattle.plain_select.proofs.scanner.Lts as lts
 use Rattle.numbers.proofs.word.Reads as word-reads
-use Rattle.select_judge.proofs.ineligible_holder.Reads as ineligible-holder-reads
+use Rattle.plain_select.proofs.held.late_holder.Reads as late-holder-reads
 
 -- src/lib.rt:150:9
 word-requires : tie.Need-word-requires
 word-requires c κs = search needs
 
 -- src/lib.rt:151:9
-ineligible-holder-requires : tie.Need-ineligible-holder-requires
-ineligible-holder-requires c κs = search needs
+late-holder-requires : tie.Need-late-holder-requires
+late-holder-requires c κs = search needs
 
 -- src/lib.rt:146:1
 returns : tie.Need-returns
-returns c = (λ s hb H. scanning _ _ _ _ (c .before .word .ensures) s hb (c .ineligible-holder .ensures s H), c .before .word .ensures)
+returns c = (λ s hb H. scanning _ _ _ _ (c .before .word .ensures) s hb (c .late-holder .ensures s H), c .before .word .ensures)
 
 pub scanner-spec : {M : Type 1} → statement M
-scanner-spec = tie.close (tie.spec word-requires ineligible-holder-requires returns)
+scanner-spec = tie.close (tie.spec word-requires late-holder-requires returns)

@@ -4,8 +4,9 @@
 use super::{
     queue::{self, Entry},
     rng::Rng,
+    values::weight,
 };
-use image::{Call, ROOM, SLICE_MAX, View, block as b, context as c, put_timers};
+use image::{Call, ROOM, SLICE_MAX, View, block as b, context as c, put_timers, record};
 
 /// A tick, scaled.
 const TICK: u64 = 1 << 30;
@@ -33,6 +34,65 @@ pub fn put(rng: &mut Rng, image: &mut [u64], call: &mut Call) {
         victim(rng, image, other, &few);
     }
     names(rng, image, here, &few);
+    if rng.once_in(10) {
+        crowded(rng, image, here, call.time);
+    }
+}
+
+/// A full queue in which the order of wake-ups matters: one context has two entries, under the key of
+/// its record and under the one with which it enters, so that there is room for another one behind it.
+fn crowded(rng: &mut Rng, image: &mut [u64], here: usize, time: u64) {
+    let view = View(image);
+    let seats = [b::SCHED_CTXT, b::CURRENT_CTXT, b::IDLE_CTXT].map(|seat| view.block(here, seat));
+    let free = |x: &usize| !view.gone(*x) && !seats.contains(&(*x as u64));
+    let free: Vec<usize> = (0..view.contexts()).filter(free).collect();
+    let [twice, other, locked, ..] = free[..] else {
+        return;
+    };
+    let (block, v) = (view.block_at(here), view.block(here, b::V));
+    let by_timer = rng.pick(&[None, Some(twice), Some(other)]);
+    for context in [twice, other] {
+        let at = record(context);
+        let sleeps = by_timer == Some(context);
+        image[at + c::STATUS] = if sleeps { c::BLOCKED } else { c::RUNNABLE };
+        image[at + c::HAS_WAKE] = sleeps.into();
+        image[at + c::WAKE] = if sleeps { time } else { 0 };
+        image[at + c::USERSPACE] = 1;
+        image[at + c::PRIO] = 20;
+        image[at + c::VTIME] = v;
+        image[at + c::HAS_QUEUE_KEY] = (context == twice).into();
+        image[at + c::QUEUE_KEY_VD] = if context == twice { v } else { 0 };
+        image[at + c::QUEUE_KEY_REM_SLICE] = if context == twice { SLICE_MAX } else { 0 };
+        for word in [c::RUNNING, c::CURRENTLY_SCHEDULED, c::LOCK] {
+            image[at + word] = 0;
+        }
+    }
+    image[record(locked) + c::LOCK] = 1;
+    let entered = v + SLICE_MAX / weight(20);
+    let entry = |vd, x| {
+        [
+            vd,
+            SLICE_MAX,
+            View(image).context(x, c::DEBUG_ID),
+            v,
+            1024,
+            x as u64,
+        ]
+    };
+    let others = (1..ROOM as u64 - 1).map(|slot| entry(entered + slot, locked));
+    let two = [entry(v, twice), entry(entered, twice)];
+    let entries = two.into_iter().chain(others).collect();
+    queue::put(image, here, entries);
+    let timers: Vec<(u64, u64)> = by_timer.iter().map(|x| (time, *x as u64)).collect();
+    put_timers(image, block, &timers);
+    let mut names = vec![twice as u64, other as u64];
+    names.retain(|name| by_timer != Some(*name as usize));
+    if rng.once_in(2) {
+        names.reverse();
+    }
+    image[block + b::LOCAL_COUNT] = names.len() as u64;
+    image[block + b::LOCAL_WAKEUP_LIST..][..ROOM].fill(0);
+    image[block + b::LOCAL_WAKEUP_LIST..][..names.len()].copy_from_slice(&names);
 }
 
 /// Mostly ready to run, else asleep, stopped or locked.

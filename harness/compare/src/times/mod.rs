@@ -4,6 +4,7 @@ mod asking;
 pub mod boards;
 mod humblest;
 mod images;
+mod plain;
 mod rival;
 mod windows;
 
@@ -179,6 +180,12 @@ pub fn times() -> bool {
         && others
             .iter()
             .all(|(name, machine)| row(name, machine.image(), 1));
-    let tables = [asking::table, windows::table, humblest::table, rival::table];
+    let tables = [
+        plain::table,
+        asking::table,
+        windows::table,
+        humblest::table,
+        rival::table,
+    ];
     good && tables.iter().all(|table| table())
 }

@@ -11,7 +11,7 @@ use Rattle.plain_scan.proofs.Scan.give_up.Reads as give-up-reads
 use Rattle.plain_scan.proofs.Scan.record.Reads as record-reads
 use Rattle.plain_scan.proofs.Scan.store.Reads as store-reads
 use Rattle.plain_scan.proofs.Scan.take.Reads as take-reads
-use Rattle.select_judge.proofs.active_weight.Reads as active-weight-reads
+use Rattle.plain_scan.proofs.judge.weight_of.Reads as weight-of-reads
 
 -- src/lib.rt:166:28
 enum-told : tie.Need-enum-told
@@ -34,8 +34,8 @@ record-requires : tie.Need-record-requires
 record-requires c κs = search needs
 
 -- src/lib.rt:170:21
-active-weight-requires : tie.Need-active-weight-requires
-active-weight-requires c κs = search needs
+weight-of-requires : tie.Need-weight-of-requires
+weight-of-requires c κs = search needs
 
 -- src/lib.rt:171:21
 store-requires : tie.Need-store-requires
@@ -75,7 +75,7 @@ returns-2 c = look-gone (c .before .before .before .args .n) (c .before .before 
 
 -- src/lib.rt:159:5
 returns-3 : tie.Need-returns-3
-returns-3 c = look-blocked (c .before .before .before .before .before .before .before .args .n) (c .before .before .before .before .before .before .before .args .t) (c .before .before .before .before .before .before .before .args .e) (c .before .before .before .before .before .before .before .args .self) (c .before .before .before .before .before .before .before .args .v) _ (c .before .before .before .before .before .before .before .args .x) (c .before .before .active-weight .result) (c .before .before .before .«record» .result) (c .before .before .before .before .before .v .given .1) (c .before .store .ensures) (c .before .before .before .«record» .ensures) (c .before .before .before .before .before .before .before .pre .1 .0 .1) (c .before .before .active-weight .ensures .0) (c .before .before .active-weight .ensures .1) (c .give-up2 .ensures)
+returns-3 c = look-blocked (c .before .before .before .before .before .before .before .args .n) (c .before .before .before .before .before .before .before .args .t) (c .before .before .before .before .before .before .before .args .e) (c .before .before .before .before .before .before .before .args .self) (c .before .before .before .before .before .before .before .args .v) _ (c .before .before .before .before .before .before .before .args .x) (c .before .before .weight-of .result) (c .before .before .before .«record» .result) (c .before .before .before .before .before .v .given .1) (c .before .store .ensures) (c .before .before .before .«record» .ensures) (c .before .before .before .before .before .before .before .pre .1 .0 .1) (c .before .before .weight-of .ensures .0) (c .before .before .weight-of .ensures .1) (c .give-up2 .ensures)
 
 -- src/lib.rt:159:5
 returns-4 : tie.Need-returns-4
@@ -94,7 +94,7 @@ look-at-spec =
     give-up-requires
     enum-known-v
     record-requires
-    active-weight-requires
+    weight-of-requires
     store-requires
     give-up-requires-2
     enum-known-v-2

@@ -8,46 +8,46 @@ use Rattle.plain_scan.proofs.Scan.passes_over.Statement.{statement}
 use Rattle.plain_scan.proofs.Scan.passes_over.Tie as tie
 use Rattle.plain_scan.proofs.Scan.passes_over.Reads as reads
 use Rattle.plain_scan.proofs.Scan.passes_over.Lts as lts
-use Rattle.select_judge.proofs.is_found.Reads as is-found-reads
-use Rattle.select_judge.proofs.is_of.Reads as is-of-reads
-use Rattle.select_judge.proofs.too_late.Reads as too-late-reads
+use Rattle.plain_scan.proofs.judge.is_over.Reads as is-over-reads
+use Rattle.plain_scan.proofs.judge.locks.Reads as locks-reads
+use Rattle.plain_scan.proofs.judge.is_later.Reads as is-later-reads
 
 -- src/lib.rt:44:12
-is-found-requires : tie.Need-is-found-requires
-is-found-requires c κs = search needs
+is-over-requires : tie.Need-is-over-requires
+is-over-requires c κs = search needs
 
 -- src/lib.rt:45:13
 returns : tie.Need-returns
-returns c = over-found (c .before .before .args .n) (c .before .before .args .t) (c .before .before .args .self) (c .before .before .args .e) (c .before .is-found .ensures) (c .if1 .taken)
+returns c = over-found (c .before .before .args .n) (c .before .before .args .t) (c .before .before .args .self) (c .before .before .args .e) (c .before .is-over .ensures) (c .if1 .taken)
 
 -- src/lib.rt:47:12
-too-late-requires : tie.Need-too-late-requires
-too-late-requires c κs = search needs
+is-later-requires : tie.Need-is-later-requires
+is-later-requires c κs = search needs
 
 -- src/lib.rt:48:13
 returns-2 : tie.Need-returns-2
-returns-2 c = over-late (c .before .before .before .before .args .n) (c .before .before .before .before .args .t) (c .before .before .before .before .args .self) (c .before .before .before .before .args .e) (c .before .before .before .is-found .ensures) (c .before .before .if1 .left) (c .before .too-late .ensures) (c .if2 .taken)
+returns-2 c = over-late (c .before .before .before .before .args .n) (c .before .before .before .before .args .t) (c .before .before .before .before .args .self) (c .before .before .before .before .args .e) (c .before .before .before .is-over .ensures) (c .before .before .if1 .left) (c .before .is-later .ensures) (c .if2 .taken)
 
 -- src/lib.rt:50:12
-is-of-requires : tie.Need-is-of-requires
-is-of-requires c κs = search needs
+locks-requires : tie.Need-locks-requires
+locks-requires c κs = search needs
 
 -- src/lib.rt:51:13
 returns-3 : tie.Need-returns-3
-returns-3 c = over-locked (c .before .before .before .before .before .before .before .args .n) (c .before .before .before .before .before .before .before .args .t) (c .before .before .before .before .before .before .before .args .self) (c .before .before .before .before .before .before .before .args .e) (c .before .before .before .before .before .before .is-found .ensures) (c .before .before .before .before .before .if1 .left) (c .before .before .before .before .too-late .ensures) (c .before .before .before .if2 .left) (c .before .before .before .before .before .before .before .args .q) (c .before .before .before .before .before .before .before .pre) (c .before .before .is-of .ensures) (c .before .if3 .taken)
+returns-3 c = over-locked (c .before .before .before .before .before .before .before .args .n) (c .before .before .before .before .before .before .before .args .t) (c .before .before .before .before .before .before .before .args .self) (c .before .before .before .before .before .before .before .args .e) (c .before .before .before .before .before .before .is-over .ensures) (c .before .before .before .before .before .if1 .left) (c .before .before .before .before .is-later .ensures) (c .before .before .before .if2 .left) (c .before .before .before .before .before .before .before .args .q) (c .before .before .before .before .before .before .before .pre) (c .before .before .locks .ensures) (c .before .if3 .taken)
 
 -- src/lib.rt:38:5
 returns-4 : tie.Need-returns-4
-returns-4 c = not-over (c .before .before .before .before .before .before .args .n) (c .before .before .before .before .before .before .args .t) (c .before .before .before .before .before .before .args .self) (c .before .before .before .before .before .before .args .e) (c .before .before .before .before .before .is-found .ensures) (c .before .before .before .before .if1 .left) (c .before .before .before .too-late .ensures) (c .before .before .if2 .left) (c .before .is-of .ensures) (c .if3 .left)
+returns-4 c = not-over (c .before .before .before .before .before .before .args .n) (c .before .before .before .before .before .before .args .t) (c .before .before .before .before .before .before .args .self) (c .before .before .before .before .before .before .args .e) (c .before .before .before .before .before .is-over .ensures) (c .before .before .before .before .if1 .left) (c .before .before .before .is-later .ensures) (c .before .before .if2 .left) (c .before .locks .ensures) (c .if3 .left)
 
 pub passes-over-spec : {M : Type 1} → statement M
 passes-over-spec =
     tie.close
     (tie.spec
-    is-found-requires
+    is-over-requires
     returns
-    too-late-requires
+    is-later-requires
     returns-2
-    is-of-requires
+    locks-requires
     returns-3
     returns-4)

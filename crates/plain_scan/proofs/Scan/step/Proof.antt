@@ -11,7 +11,7 @@ use Rattle.numbers.proofs.index.Reads as index-reads
 use Rattle.plain_scan.proofs.Scan.look_at.Reads as look-at-reads
 use Rattle.plain_scan.proofs.Scan.passes_over.Reads as passes-over-reads
 use Rattle.plain_scan.proofs.Scan.record.Reads as record-reads
-use Rattle.plain_scan.proofs.visit.Reads as visit-reads
+use Rattle.plain_scan.proofs.judge.visit.Reads as visit-reads
 
 -- src/lib.rt:189:13
 index-requires : tie.Need-index-requires

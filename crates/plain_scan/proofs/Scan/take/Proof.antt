@@ -5,7 +5,7 @@ use Rattle.plain_scan.proofs.Scan.take.Statement.{statement}
 use Rattle.plain_scan.proofs.Scan.take.Tie as tie
 use Rattle.plain_scan.proofs.Scan.take.Reads as reads
 use Rattle.plain_scan.proofs.Scan.take.Lts as lts
-use Rattle.plain_scan.proofs.is_earlier.Reads as is-earlier-reads
+use Rattle.plain_scan.proofs.judge.is_earlier.Reads as is-earlier-reads
 
 -- src/lib.rt:138:13
 returns : tie.Need-returns

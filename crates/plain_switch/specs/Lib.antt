@@ -1,0 +1,2 @@
+pub mod Switched
+pub mod Direct

@@ -1,0 +1,4 @@
+pub mod Clock
+pub mod Paying
+pub mod Begun
+pub mod Ending

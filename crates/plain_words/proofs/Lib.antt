@@ -1,0 +1,5 @@
+pub mod Filled
+pub mod Reading
+pub mod Writing
+pub mod Storing
+pub mod Laying
