@@ -3,7 +3,7 @@
 #ifndef RONTHUYAL_H
 #define RONTHUYAL_H
 
-#define RONTHUYAL_VERSION "0.15.0"
+#define RONTHUYAL_VERSION "0.16.0"
 
 #include <stddef.h>
 #include <stdint.h>
@@ -110,6 +110,13 @@ struct ronthuyal_game ronthuyal_rival(const uint64_t *image, size_t length, uint
    the one and a switch of the other give the same in either order, if neither is on a stealing turn and all four calls
    are accepted. The image is left as it is. */
 struct ronthuyal_answer ronthuyal_apart(const uint64_t *image, size_t length, uint64_t one, uint64_t other);
+
+/* No operation: calls has four words for each call (operation, CPU, time, context), and answers gets four for each
+   (refusal, result, interrupt, rule). The calls are made one after the other, each as ronthuyal_call makes it; a
+   refused one changes no word of the image, and the run goes on. Returns how many calls were made. Where calls_length
+   is no multiple of four, or answers_length another length, nothing is written, and 2^64 - 1 is returned. */
+uint64_t ronthuyal_run(uint64_t *image, size_t length, const uint64_t *calls, size_t calls_length, uint64_t *answers,
+                       size_t answers_length);
 
 /* Operations. */
 enum {

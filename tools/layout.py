@@ -193,8 +193,9 @@ class Call(NamedTuple):
     reads: bool  # whether it leaves what is lent as it is
     result: str
     says: str
-    gives: str = "answer"  # the struct of the header that it answers with
+    gives: str = "answer"  # the struct of the header that it answers with, or "number"
     lent: tuple = ("image",)
+    kept: tuple = ()  # what of it is only read, where something else is written
 
 
 OPERATIONS = [
@@ -232,6 +233,9 @@ CALLS = [
     Call("apart", ("one", "other"), True, "1 if so, else 0",
          "whether no context is named by both CPUs, in any roles together: current, in charge, idle, queued, timed, on "
          "a list"),
+    Call("run", (), False, "none: how many calls were made, or 2^64 - 1",
+         "`ronthuyal_call` for each call of a list, one after the other", "number", ("image", "calls", "answers"),
+         ("calls",)),
 ]
 
 # A window's words.

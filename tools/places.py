@@ -9,7 +9,7 @@ import re
 import rust_layout
 from layout import (ANY, ARRAYS, BLOCK_WORDS, CALLS, LAST, LAST_PLACE, MORE_REFUSALS, OPERATIONS, RECORD, RECORD_WORDS,
                     REFUSALS, RULES, SINGLE, SIZES, STATE, STATUS, WINDOW, WINDOW_CAPACITY, WINDOW_WORDS, array_place)
-from rust_layout import BY, LIMITS, constant, last
+from rust_layout import BY, LIMITS, call_shape, constant, last
 
 HEADER = """/* The scheduling decisions of the Redox kernel over a machine image: docs/IMAGE.md says what each word is.
    %s. */
@@ -111,13 +111,19 @@ struct ronthuyal_game {
    the one and a switch of the other give the same in either order, if neither is on a stealing turn and all four calls
    are accepted. The image is left as it is. */
 """,
+    "run": """
+/* No operation: calls has four words for each call (operation, CPU, time, context), and answers gets four for each
+   (refusal, result, interrupt, rule). The calls are made one after the other, each as ronthuyal_call makes it; a
+   refused one changes no word of the image, and the run goes on. Returns how many calls were made. Where calls_length
+   is no multiple of four, or answers_length another length, nothing is written, and 2^64 - 1 is returned. */
+""",
 }
 
 
-def c_call(name, takes, reads=False, gives="answer", lent=("image",)):
-    start = "struct ronthuyal_%s ronthuyal_%s(" % (gives, name)
-    kind = "const uint64_t *" if reads else "uint64_t *"
-    words = ["%s%s, size_t %s" % (kind, lend, "length" if at == 0 else lend + "_length") for at, lend in enumerate(lent)]
+def c_call(name, takes, reads=False, gives="answer", lent=("image",), kept=()):
+    start = "%s ronthuyal_%s(" % ("uint64_t" if gives == "number" else "struct ronthuyal_" + gives, name)
+    words = ["%s%s, size_t %s" % ("const uint64_t *" if reads or lend in kept else "uint64_t *", lend,
+                                  "length" if at == 0 else lend + "_length") for at, lend in enumerate(lent)]
     words += ["uint64_t " + word for word in takes]
     lines = [start]
     for word in (", ".join(words) + ");").split(", "):
@@ -130,7 +136,7 @@ def c_call(name, takes, reads=False, gives="answer", lent=("image",)):
 def header():
     calls = [c_call(operation.name, ("cpu", "time", "context") if operation.takes else ("cpu", "time"))
              for operation in OPERATIONS]
-    calls += [NOTES[call.name] + c_call(call.name, call.takes, call.reads, call.gives, call.lent) for call in CALLS]
+    calls += [NOTES[call.name] + c_call(*call_shape(call)) for call in CALLS]
     out = [HEADER % (BY, open("VERSION").read().strip()) + "\n".join(calls), ""]
 
     def enum(title, pairs):

@@ -204,11 +204,16 @@ def structs(header):
     return [(name, re.findall(r"uint64_t (\w+);", fields)) for name, fields in found]
 
 
-def declaration(name, takes, says, reads=False, gives="answer", lent=("image",)):
-    kind = "*const u64" if reads else "*mut u64"
-    arguments = ["    ) -> %s;" % struct_name(gives)]
+def call_shape(call):
+    """What a declaration of a call goes by."""
+    return call.name, call.takes, call.reads, call.gives, call.lent, call.kept
+
+
+def declaration(says, name, takes, reads=False, gives="answer", lent=("image",), kept=()):
+    arguments = ["    ) -> %s;" % ("u64" if gives == "number" else struct_name(gives))]
     arguments[:0] = ["        %s: u64," % word for word in takes]
     for at, lend in reversed(list(enumerate(lent))):
+        kind = "*const u64" if reads or lend in kept else "*mut u64"
         length = "length" if at == 0 else lend + "_length"
         arguments[:0] = ["        %s: %s," % (lend, kind), "        %s: usize," % length]
     return ["    /// %s" % says, "    pub fn ronthuyal_%s(" % name] + arguments
@@ -223,12 +228,12 @@ def sys(header):
             out += ["    /// The word `%s`." % field, "    pub %s: u64," % field]
         out += ["}", ""]
     out += ['unsafe extern "C" {']
-    out += declaration("call", ["operation", "cpu", "time", "context"], "Any operation, by its number.")
+    out += declaration("Any operation, by its number.", "call", ["operation", "cpu", "time", "context"])
     for number, o in enumerate(OPERATIONS, 1):
         takes = ["cpu", "time"] + (["context"] if o.takes else [])
-        out += declaration(o.name, takes, "Operation %d: %s." % (number, o.says))
+        out += declaration("Operation %d: %s." % (number, o.says), o.name, takes)
     for call in CALLS:
-        out += declaration(call.name, call.takes, sentence(call.says), call.reads, call.gives, call.lent)
+        out += declaration(sentence(call.says), *call_shape(call))
     out += ["}", "", "/// The names of all exports."]
     exports = ["call"] + [o.name for o in OPERATIONS] + [call.name for call in CALLS]
     out += ["pub const EXPORTS: [&str; %d] = [" % len(exports)]

@@ -18,6 +18,7 @@ const EXPORTS: &[&str] = &[
     "ronthuyal_share\0",
     "ronthuyal_share_of_all\0",
     "ronthuyal_apart\0",
+    "ronthuyal_run\0",
 ];
 /// What an archive may lack until it is proved, and the `cfg` that says that it is there.
 const LATER: [(&str, &str); 1] = [("plain", "ronthuyal_plain_call\0")];

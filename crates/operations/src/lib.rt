@@ -13,8 +13,8 @@ ghost use Rattle.context_ops.specs.Reply.{reply};
 ghost use Rattle.calls.specs.Call.{call};
 ghost use Rattle.operations.specs.Operation.{operation-reply};
 
-// On an image that was checked, of c CPUs and n contexts.
-fn on_image(
+// On an image that passes the check, of c CPUs and n contexts.
+pub fn on_image(
     image: &mut [u64],
     c: usize,
     n: usize,

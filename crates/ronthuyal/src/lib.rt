@@ -25,6 +25,7 @@ ghost use Rattle.window.specs.Shares.{share-answer};
 ghost use Rattle.call_in_window.specs.CallInWindow.{window-reply, call-in-window};
 ghost use Rattle.humblest.specs.Humblest.{humblest};
 ghost use Rattle.rival.specs.Game.{rival-call};
+ghost use Rattle.run.specs.Run.{run-reply, run};
 ghost use Rattle.ronthuyal.specs.Demand.{DemandMet};
 ghost use Rattle.ronthuyal.specs.Leaves.{Leaves};
 ghost use Rattle.ronthuyal.specs.Apart.{apart-call};
@@ -290,4 +291,13 @@ pub extern "C" fn ronthuyal_apart(image: &[u64], one: u64, other: u64) -> Answer
         Checked::Refused(number) => answer::refused(number),
         Checked::Passed(c, n) => apart::answer(image, c, n, one, other),
     }
+}
+
+// Calls of four words each (operation, CPU, time, context), one after the other, and four words of answer for each (refusal, result, interrupt, rule).
+// How many were made; where the lengths do not fit, 2^64 - 1, and nothing is written.
+#[no_mangle]
+pub extern "C" fn ronthuyal_run(image: &mut [u64], calls: &[u64], answers: &mut [u64]) -> u64
+    ensures { λ r. ⌜ run-reply r (now (image .exit)) (now (answers .exit)) ≡ run (now (image .entry)) (now (calls .entry)) (now (answers .entry)) ⌝ }
+{
+    run::run(image, calls, answers)
 }

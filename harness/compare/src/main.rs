@@ -32,6 +32,7 @@ mod report;
 mod rival;
 mod rules;
 mod run;
+mod runs;
 mod sums;
 mod tally;
 #[cfg(feature = "oracle")]
@@ -66,6 +67,7 @@ fn main() -> ExitCode {
         ["rival", seed, count] => rival::rival(number(seed), number(count)),
         ["either", seed, count] => either::either(number(seed), number(count)),
         ["plain", seed, count] => plain::plain(number(seed), number(count)),
+        ["runs", seed, calls] => runs::runs(number(seed), number(calls)),
         ["corners", seed, count] => corners::corners(number(seed), number(count)),
         ["totals", seed, count] => weights::totals(number(seed), number(count)),
         #[cfg(feature = "oracle")]
@@ -82,6 +84,8 @@ fn main() -> ExitCode {
         ["times"] => times::times(),
         #[cfg(feature = "oracle")]
         ["times", "boards"] => times::boards::times(),
+        #[cfg(feature = "oracle")]
+        ["times", "chains"] => times::chains::table(),
         #[cfg(feature = "oracle")]
         ["answers", seed, count, to] => power::answers(number(seed), number(count), to),
         #[cfg(feature = "oracle")]

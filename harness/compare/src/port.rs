@@ -4,12 +4,14 @@ mod apart;
 mod humblest;
 mod plain;
 mod rival;
+mod run;
 pub mod window;
 
 pub use apart::{apart, switch};
 pub use humblest::humblest;
 pub use plain::plain_call;
 pub use rival::rival;
+pub use run::run;
 
 use image::{
     Answer, Call, Group, TotalWeight,

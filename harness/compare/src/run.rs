@@ -5,6 +5,7 @@ use crate::{
     expected::{Contradiction, Expected, expected},
     generate::{Case, Groups, Stream},
     plain, port, report,
+    runs::Chain,
     sums::Sums,
     tally::Tally,
 };
@@ -54,6 +55,7 @@ fn all(mut stream: Stream, seed: u64, count: u64) -> bool {
     let name = stream.name();
     let mut tally = Tally::default();
     let mut sums = Sums::default();
+    let mut chain = Chain::default();
     // Without the kernel and without a port no call is made.
     let summed = stream.carries() && (port::THERE || cfg!(feature = "oracle"));
     for number in 0..count {
@@ -68,8 +70,16 @@ fn all(mut stream: Stream, seed: u64, count: u64) -> bool {
             println!("ticks and remainder are not the time that has passed");
             return false;
         }
+        if !chain.goes_on(&case.image, &case.call, &answer, &after) {
+            println!("case {number} of seed {seed}{name}: the calls before it");
+            return false;
+        }
         tally.call(&case, &answer);
         stream.answered(&after);
+    }
+    if !chain.holds() {
+        println!("case {count} of seed {seed}{name}: the calls before it");
+        return false;
     }
     println!("{count} cases of seed {seed}{name}, no difference");
     tally.print_calls();

@@ -52,7 +52,7 @@ pub fn image_refusal(image: &[u64], time: u64) -> u64 {
 }
 
 /// Rows 5 to 8, of an image that the others let pass.
-fn call_refusal(image: View, call: &Call) -> u64 {
+pub fn call_refusal(image: View, call: &Call) -> u64 {
     if !named(image, call) {
         return 5;
     }

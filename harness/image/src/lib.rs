@@ -15,6 +15,7 @@ pub mod ranges;
 pub mod remainder;
 pub mod rival;
 pub mod rule;
+pub mod run;
 pub mod served;
 pub mod structure;
 pub mod tidy;

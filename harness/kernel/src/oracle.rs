@@ -99,7 +99,7 @@ fn run_each(
     Ok(built.read_back(image, result))
 }
 
-/// A machine built from an image, for one call.
+/// A machine built from an image.
 pub struct Built(Machine);
 
 impl Built {
@@ -113,6 +113,12 @@ impl Built {
         rule::take();
         time::set(call.time);
         connect(&mut self.0, call.cpu as usize);
+    }
+    /// The CPU and the clock of a further call, on the machine that is the kernel's already.
+    pub fn turn(&mut self, call: &Call) {
+        time::set(call.time);
+        let block = self.0.blocks[call.cpu as usize].as_mut();
+        PercpuBlock::set_current(block.map_or(ptr::null_mut(), |block| &raw mut **block));
     }
     /// The kernel's function alone, on the machine that is its own; it unwinds where it
     /// has no answer.

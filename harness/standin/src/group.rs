@@ -8,6 +8,7 @@ pub fn unblock_group(words: &mut [u64], group: &Group) -> Answer {
     if refusal != 0 {
         return Answer::refused(refusal);
     }
+    let _alone = crate::KERNEL.lock();
     let before = words.to_vec();
     let mut all = Answer::default();
     for call in group.singles() {

@@ -7,8 +7,10 @@ mod apart;
 mod board;
 mod group;
 mod humblest;
+mod operations;
 mod plain;
 mod rival;
+mod run;
 mod window;
 
 use image::{
@@ -42,9 +44,18 @@ pub unsafe extern "C" fn ronthuyal_call(
 
 fn called(words: &mut [u64], call: &Call) -> Answer {
     let refusal = check::refusal(words, call);
-    if refusal != 0 {
-        return Answer::refused(refusal);
+    match refusal {
+        0 => made(words, call),
+        _ => Answer::refused(refusal),
     }
+}
+
+/// The kernel's CPUs are global: callers in several threads, as tests are, take turns.
+static KERNEL: std::sync::Mutex<()> = std::sync::Mutex::new(());
+
+/// A call that rows 1 to 8 let pass.
+fn made(words: &mut [u64], call: &Call) -> Answer {
+    let _alone = KERNEL.lock();
     let rule = rule(words, call);
     let before = words.to_vec();
     let mut after = remainder::source_before(View(&before), call, weight);
@@ -77,19 +88,6 @@ fn rule(words: &[u64], call: &Call) -> u64 {
         true => changed::oracle::call(&mut words.to_vec(), call).map_or(0, |answer| answer.rule),
         false => 0,
     }
-}
-
-/// # Safety
-/// `image` points to `len` words.
-#[unsafe(no_mangle)]
-pub unsafe extern "C" fn ronthuyal_switch(
-    image: *mut u64,
-    len: usize,
-    cpu: u64,
-    time: u64,
-) -> Answer {
-    let words = unsafe { std::slice::from_raw_parts_mut(image, len) };
-    called(words, &switch(cpu, time))
 }
 
 /// # Safety

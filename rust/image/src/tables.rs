@@ -4,7 +4,7 @@ use crate::places::{block, context};
 use crate::word::{Array, CallRow, OperationRow, Range, Unit, Word};
 
 /// Of the layout that these tables are of.
-pub const VERSION: &str = "0.15.0";
+pub const VERSION: &str = "0.16.0";
 
 /// The most CPUs.
 pub const CPUS: u64 = 4;
@@ -743,7 +743,7 @@ pub const OPERATIONS: [OperationRow; 7] = [
 ];
 
 /// The calls that have no number.
-pub const CALLS: [CallRow; 10] = [
+pub const CALLS: [CallRow; 11] = [
     CallRow {
         name: "unblock_group",
         takes: &["cpu", "time", "mask"],
@@ -813,6 +813,13 @@ pub const CALLS: [CallRow; 10] = [
         reads: true,
         result: "1 if so, else 0",
         says: "whether no context is named by both CPUs, in any roles together: current, in charge, idle, queued, timed, on a list",
+    },
+    CallRow {
+        name: "run",
+        takes: &[],
+        reads: false,
+        result: "none: how many calls were made, or 2^64 - 1",
+        says: "`ronthuyal_call` for each call of a list, one after the other",
     },
 ];
 

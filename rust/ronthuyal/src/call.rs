@@ -71,6 +71,18 @@ impl Call {
     pub fn words(&self) -> &Words {
         &self.0
     }
+    /// Operation, CPU, time and context, of an operation by its number.
+    pub(crate) fn operation_words(&self) -> Option<[u64; 4]> {
+        match self.0 {
+            Words::Operation {
+                operation,
+                cpu,
+                time,
+                context,
+            } => Some([operation, cpu, time, context]),
+            _ => None,
+        }
+    }
     pub(crate) fn operation(&self) -> Option<u64> {
         self.0.operation()
     }

@@ -47,6 +47,7 @@ mod image;
 mod questions;
 #[rustfmt::skip]
 mod rules;
+mod run;
 mod typed;
 mod window;
 

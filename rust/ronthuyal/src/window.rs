@@ -5,7 +5,6 @@ use crate::call::Call;
 use crate::image::Image;
 use crate::typed::ContextId;
 use core::time::Duration;
-use ronthuyal_image::Call as Words;
 use ronthuyal_sys as sys;
 
 const WORDS: usize = 513;
@@ -83,15 +82,7 @@ impl<W: AsRef<[u64]> + AsMut<[u64]>> Image<W> {
     /// An operation by its number, beside a window: a decision adds its record. Both change, or neither. A call that is
     /// no operation is refused with 5.
     pub fn call_in_window(&mut self, window: &mut Window, call: &Call) -> Result<Done, Refusal> {
-        let (operation, cpu, time, context) = match *call.words() {
-            Words::Operation {
-                operation,
-                cpu,
-                time,
-                context,
-            } => (operation, cpu, time, context),
-            _ => (0, 0, 0, 0),
-        };
+        let [operation, cpu, time, context] = call.operation_words().unwrap_or_default();
         let words = self.words_mut();
         let (at, length) = (words.as_mut_ptr(), words.len());
         // SAFETY: addresses and lengths are those of two slices that nobody else uses during the call.

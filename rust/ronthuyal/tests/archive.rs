@@ -123,3 +123,36 @@ fn refused() {
     assert_eq!(image.explain(&Call::total_weight(Cpu(0))), None);
     assert_eq!(image.explain(&Call::tick(Cpu(3), CUE)).unwrap().refusal, 5);
 }
+
+/// Calls of every sort, some of them refused.
+fn evening() -> Vec<Call> {
+    let (here, nobody) = (Cpu(0), Cpu(9));
+    let at = |millis: u64| Time::from_millis(1000 + millis);
+    vec![
+        Call::switch(here, CUE),
+        Call::block(here, at(1), ContextId(1)),
+        Call::switch(nobody, at(2)),
+        Call::unblock_group(here, at(3), Contexts::from_mask(0b10)),
+        Call::total_weight(here),
+        Call::tick(here, at(4)),
+        Call::from_words(Words::Operation {
+            operation: 8,
+            cpu: 0,
+            time: 0,
+            context: 0,
+        }),
+        Call::switch(here, at(9)),
+    ]
+}
+
+/// A run is its calls one after the other, groups and sums among them.
+#[test]
+fn a_run_is_its_calls() {
+    let (mut one, mut other) = (moment(), moment());
+    let single: Vec<_> = evening().iter().map(|call| one.call(call)).collect();
+    assert_eq!(other.run(&evening()), single);
+    assert_eq!(one, other);
+    assert_eq!(single.iter().filter(|answer| answer.is_err()).count(), 2);
+    assert_eq!(other.run(&[]), []);
+    assert_eq!(one, other);
+}

@@ -199,10 +199,19 @@ unsafe extern "C" {
         one: u64,
         other: u64,
     ) -> Answer;
+    /// `ronthuyal_call` for each call of a list, one after the other.
+    pub fn ronthuyal_run(
+        image: *mut u64,
+        length: usize,
+        calls: *const u64,
+        calls_length: usize,
+        answers: *mut u64,
+        answers_length: usize,
+    ) -> u64;
 }
 
 /// The names of all exports.
-pub const EXPORTS: [&str; 18] = [
+pub const EXPORTS: [&str; 19] = [
     "ronthuyal_call",
     "ronthuyal_tick",
     "ronthuyal_switch",
@@ -221,4 +230,5 @@ pub const EXPORTS: [&str; 18] = [
     "ronthuyal_humblest",
     "ronthuyal_rival",
     "ronthuyal_apart",
+    "ronthuyal_run",
 ];

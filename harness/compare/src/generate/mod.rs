@@ -17,6 +17,7 @@ mod remainders;
 pub mod rival;
 pub mod rng;
 mod rules;
+pub mod runs;
 mod seats;
 mod spoiled_boards;
 #[cfg(test)]

@@ -7,7 +7,7 @@ use image::{Call, SLICE_MAX, block as b, context as c};
 const V: u64 = 1 << 40;
 const TIME: u64 = 1 << 33;
 /// Three ticks of 2,250,000 ns.
-const TURN: u64 = 6_750_000;
+pub const TURN: u64 = 6_750_000;
 
 pub const CALL: Call = Call {
     operation: 2,
@@ -73,6 +73,19 @@ pub fn first_wins(size: &Size) -> Machine {
     machine.cpu[0].queue[0].vtime = V;
     let first = machine.cpu[0].queue[0].context;
     machine.record[first][c::VTIME] = V;
+    machine
+}
+
+/// Every entry but the last is eligible and may run on other CPUs only, so that each decision looks at
+/// all of them.
+pub fn pinned(size: &Size) -> Machine {
+    let mut machine = last_wins(size);
+    let others = size.entries.saturating_sub(1);
+    for entry in &mut machine.cpu[0].queue[..others] {
+        entry.vtime = V;
+        machine.record[entry.context][c::VTIME] = V;
+        machine.record[entry.context][c::SCHED_AFFINITY] = 0b1110;
+    }
     machine
 }
 

@@ -2,6 +2,7 @@
 
 mod asking;
 pub mod boards;
+pub mod chains;
 mod humblest;
 mod images;
 mod plain;
@@ -181,6 +182,7 @@ pub fn times() -> bool {
             .iter()
             .all(|(name, machine)| row(name, machine.image(), 1));
     let tables = [
+        chains::table,
         plain::table,
         asking::table,
         windows::table,

@@ -1,0 +1,15 @@
+pub mod Tested
+pub mod Low
+pub mod Settling
+pub mod Ending
+pub mod Watched
+pub mod Beginning
+pub mod Fitting
+pub mod Stealing
+pub mod Deciding
+pub mod Turning
+pub mod Operations
+pub mod Called
+pub mod Turns
+pub mod Knowing
+pub mod Coded
