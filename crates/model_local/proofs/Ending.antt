@@ -149,7 +149,7 @@ module _ (S : ℕ → Bool) (n : ℕ) (ds : List Context) where
         ∙ ap after (store-moves y (saved-owns S n k time s₀ o .within .current) f (λ c u. u) (λ c u. refl) s)
         ∙ store-moves x t (comes k time) (λ c. on-cpu (becomes-current k time x c)) (λ c u. refl) (put-context y (f (at s y)) s)
 
-    direct-moves : (x : ℕ) (s : State) → S x ≡ true → Owns S n s → (r : UpdateResult) → direct-switch-by k time x (G s) r ≡ G-option (direct-switch-by k time x s r)
+    pub direct-moves : (x : ℕ) (s : State) → S x ≡ true → Owns S n s → (r : UpdateResult) → direct-switch-by k time x (G s) r ≡ G-option (direct-switch-by k time x s r)
     unfolding direct-switch-by
     direct-moves x s t o Skip = refl
     direct-moves x s t o Blocked = refl
@@ -170,7 +170,7 @@ OwnsOption S n none = Unit {0}
 OwnsOption S n (some s) = Owns S n s
 
 module _ (S : ℕ → Bool) (n k time : ℕ) where
-  direct-owns : (x : ℕ) (s : State) → S x ≡ true → Owns S n s → (r : UpdateResult) → OwnsOption S n (direct-switch-by k time x s r)
+  pub direct-owns : (x : ℕ) (s : State) → S x ≡ true → Owns S n s → (r : UpdateResult) → OwnsOption S n (direct-switch-by k time x s r)
   unfolding direct-switch-by
   direct-owns x s t o Skip = tt
   direct-owns x s t o Blocked = tt

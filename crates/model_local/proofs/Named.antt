@@ -15,7 +15,7 @@ use Rattle.model.proofs.Lists.{all-in, map-in, in-left, in-right}
 use Rattle.model_local.specs.Names.{Names, timed-contexts, named-contexts, is-named}
 use Rattle.model_local.specs.Local.{Within}
 
-member-in : (x : ℕ) (l : List ℕ) → In x l → member x l ≡ true
+pub member-in : (x : ℕ) (l : List ℕ) → In x l → member x l ≡ true
 member-in x [] i = absurd i
 member-in x (y ∷ ys) (inl e) = rw (eq-eqb x y e)
 member-in x (y ∷ ys) (inr i) = by-test (eqb x y) (λ t. rw t) (λ t. rw t (member-in x ys i))
@@ -63,7 +63,4 @@ module _ (l : Names) where
         listed-here =
             all-in _ (l .listed-here)
             (λ (x : ℕ) i. past-three x (in-right queued (timed ++ listed) x (in-right timed listed x (in-left (l .listed-here) (l .listed-by-interrupt) x i))));
-        listed-by-interrupt =
-            all-in _ (l .listed-by-interrupt)
-            (λ (x : ℕ) i. past-three x (in-right queued (timed ++ listed) x (in-right timed listed x (in-right (l .listed-here) (l .listed-by-interrupt) x i))));
       }

@@ -61,7 +61,7 @@ module _ (S : ℕ → Bool) (n : ℕ) where
     with-queue q h o =
         let w = o .within in
         record {
-          within = record { current = w .current; in-charge = w .in-charge; idle = w .idle; queued = h; timed = w .timed; listed-here = w .listed-here; listed-by-interrupt = w .listed-by-interrupt };
+          within = record { current = w .current; in-charge = w .in-charge; idle = w .idle; queued = h; timed = w .timed; listed-here = w .listed-here };
           count = o .count;
         }
 
@@ -69,7 +69,7 @@ module _ (S : ℕ → Bool) (n : ℕ) where
     with-timers ts h o =
         let w = o .within in
         record {
-          within = record { current = w .current; in-charge = w .in-charge; idle = w .idle; queued = w .queued; timed = h; listed-here = w .listed-here; listed-by-interrupt = w .listed-by-interrupt };
+          within = record { current = w .current; in-charge = w .in-charge; idle = w .idle; queued = w .queued; timed = h; listed-here = w .listed-here };
           count = o .count;
         }
 
@@ -77,7 +77,7 @@ module _ (S : ℕ → Bool) (n : ℕ) where
     with-list xs h o =
         let w = o .within in
         record {
-          within = record { current = w .current; in-charge = w .in-charge; idle = w .idle; queued = w .queued; timed = w .timed; listed-here = h; listed-by-interrupt = w .listed-by-interrupt };
+          within = record { current = w .current; in-charge = w .in-charge; idle = w .idle; queued = w .queued; timed = w .timed; listed-here = h };
           count = o .count;
         }
 
@@ -100,7 +100,7 @@ module _ (S : ℕ → Bool) (n : ℕ) where
     with-charge x h o =
         let w = o .within in
         record {
-          within = record { current = w .current; in-charge = h; idle = w .idle; queued = w .queued; timed = w .timed; listed-here = w .listed-here; listed-by-interrupt = w .listed-by-interrupt };
+          within = record { current = w .current; in-charge = h; idle = w .idle; queued = w .queued; timed = w .timed; listed-here = w .listed-here };
           count = o .count;
         }
 
@@ -108,6 +108,6 @@ module _ (S : ℕ → Bool) (n : ℕ) where
     with-current x h o =
         let w = o .within in
         record {
-          within = record { current = h; in-charge = w .in-charge; idle = w .idle; queued = w .queued; timed = w .timed; listed-here = w .listed-here; listed-by-interrupt = w .listed-by-interrupt };
+          within = record { current = h; in-charge = w .in-charge; idle = w .idle; queued = w .queued; timed = w .timed; listed-here = w .listed-here };
           count = o .count;
         }

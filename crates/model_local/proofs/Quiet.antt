@@ -74,7 +74,7 @@ module _ (k time : ℕ) where
   unfolding choose-and-steal steal
   unstolen-is cpus b t = rw t
 
-  given-is : (was : Bool) (rule : Rule) (cpus : List Cpu) (o : Option ℕ) (s : State) → after-schedule k time (picked-as time was rule cpus o s) ≡ finish-ended k cpus (given was rule o s)
+  pub given-is : (was : Bool) (rule : Rule) (cpus : List Cpu) (o : Option ℕ) (s : State) → after-schedule k time (picked-as time was rule cpus o s) ≡ finish-ended k cpus (given was rule o s)
   unfolding after-schedule picked-as switch-as given
   given-is was rule cpus none s = refl
   given-is was rule cpus (some x) s = refl
@@ -104,10 +104,10 @@ module _ (S : ℕ → Bool) (n : ℕ) (k time : ℕ) where
   unstolen-owns : (cpus : List Cpu) (b : State) → Owns S n b → Owns S n (unstolen k time cpus b .state)
   unstolen-owns cpus b o = chosen-owns S n k time (choice b (scanned k time b)) (scanned k time b) b (scanned-owns S n k time b o) o
 
-  unstolen-won : (b : State) → Owns S n b → Won S (choice b (scanned k time b) .winner)
+  pub unstolen-won : (b : State) → Owns S n b → Won S (choice b (scanned k time b) .winner)
   unstolen-won b o = choice-won S n k time b (scanned k time b) (scanned-owns S n k time b o)
 
-  given-owns : (was : Bool) (rule : Rule) (w : Option ℕ) (s : State) → Won S w → Owns S n s → Owns S n (given k time was rule w s .state)
+  pub given-owns : (was : Bool) (rule : Rule) (w : Option ℕ) (s : State) → Won S w → Owns S n s → Owns S n (given k time was rule w s .state)
   unfolding given
   given-owns was rule none s t o = o
   given-owns was rule (some x) s t o =
@@ -138,17 +138,17 @@ module _ (S : ℕ → Bool) (n : ℕ) (ds : List Context) (k time : ℕ) where
   abbrev pub ended-others : Ended → Ended
   ended-others e = record { state = G (e .state); result = e .result; rule = e .rule }
 
-  choice-is : (b : State) → Owns S n b → choice (G b) (scanned k time (G b)) ≡ choice b (scanned k time b)
+  pub choice-is : (b : State) → Owns S n b → choice (G b) (scanned k time (G b)) ≡ choice b (scanned k time b)
   choice-is b o = ap (choice (G b)) (scanned-moves S n ds k time b o) ∙ choice-same S n ds b (scanned k time b) o (scanned-owns S n k time b o)
 
-  chosen-is : (b : State) → Owns S n b → chosen (choice (G b) (scanned k time (G b))) (scanned k time (G b)) (G b) ≡ G (chosen (choice b (scanned k time b)) (scanned k time b) b)
+  pub chosen-is : (b : State) → Owns S n b → chosen (choice (G b) (scanned k time (G b))) (scanned k time (G b)) (G b) ≡ G (chosen (choice b (scanned k time b)) (scanned k time b) b)
   chosen-is b o =
       (λ j. chosen (choice-is b o j) (scanned-moves S n ds k time b o j) (G b)) ∙ chosen-moves S n ds (choice b (scanned k time b)) (scanned k time b) b (unstolen-won S n k time b o)
 
   unstolen-moves : (cpus : List Cpu) (b : State) → Owns S n b → unstolen k time cpus (G b) ≡ stealing-others S n ds (unstolen k time cpus b)
   unstolen-moves cpus b o = λ j. record { state = on-cpu count-steal (chosen-is b o j); cpus = cpus; winner = choice-is b o j .winner; done = false }
 
-  given-moves : (was : Bool) (rule : Rule) (w : Option ℕ) (s : State) → Won S w → Owns S n s → given k time was rule w (G s) ≡ ended-others (given k time was rule w s)
+  pub given-moves : (was : Bool) (rule : Rule) (w : Option ℕ) (s : State) → Won S w → Owns S n s → given k time was rule w (G s) ≡ ended-others (given k time was rule w s)
   unfolding given
   given-moves was rule none s t o = refl
   given-moves was rule (some x) s t o =

@@ -21,7 +21,7 @@ with-others S ds cs = tabulate (length cs) (λ (x : ℕ). if S x then context-at
 abbrev pub others : (ℕ → Bool) → List Context → State → State
 others S ds s = record { contexts = with-others S ds (s .contexts); cpu = s .cpu; no-room = s .no-room }
 
--- all that a CPU names is in the set
+-- all that a CPU names is in the set; but for the interrupt list, which `drain_ipi_context_wakeups` alone reads
 pub record Within (S : ℕ → Bool) (l : Names) : Type 0 where
   pub current : S (l .current) ≡ true
   pub in-charge : S (l .in-charge) ≡ true
@@ -29,7 +29,6 @@ pub record Within (S : ℕ → Bool) (l : Names) : Type 0 where
   pub queued : All (λ (e : Entry). S (e .«context_ref») ≡ true) (l .queued)
   pub timed : All (λ (t : Timer). S (t .«context_ref») ≡ true) (l .timed)
   pub listed-here : All (λ (x : ℕ). S x ≡ true) (l .listed-here)
-  pub listed-by-interrupt : All (λ (x : ℕ). S x ≡ true) (l .listed-by-interrupt)
 
 module _ (S : ℕ → Bool) (k : ℕ) where
   -- N is as M in CPU k and in the set; elsewhere it may be anything
@@ -53,7 +52,7 @@ pub record SameAnswer (o p : Outcome) : Type 0 where
   pub no-room : p .no-room ≡ o .no-room
 
 -- of one call on CPU k, where o is its outcome of M and p that of N, which is as M in CPU k and in the set: it answers the same, leaves CPU k
--- and the set alike, touches nothing else of either machine, and names nothing outside the set afterwards
+-- and the set alike, touches nothing else of either machine, and is within the set afterwards
 pub record Local (S : ℕ → Bool) (k : ℕ) (M N : Machine) (o p : Outcome) : Type 0 where
   pub answer : SameAnswer o p
   pub alike : Alike S k (o .machine) (p .machine)

@@ -19,6 +19,7 @@ mod explained;
 mod generate;
 mod humblest;
 mod list;
+mod locks;
 mod met;
 mod plain;
 mod port;
@@ -68,6 +69,7 @@ fn main() -> ExitCode {
         ["either", seed, count] => either::either(number(seed), number(count)),
         ["plain", seed, count] => plain::plain(number(seed), number(count)),
         ["runs", seed, calls] => runs::runs(number(seed), number(calls)),
+        ["locks", seed, count] => locks::locks(number(seed), number(count)),
         ["corners", seed, count] => corners::corners(number(seed), number(count)),
         ["totals", seed, count] => weights::totals(number(seed), number(count)),
         #[cfg(feature = "oracle")]

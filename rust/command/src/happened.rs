@@ -5,7 +5,7 @@ use ronthuyal::words::{Call, Explanation, Labels, View, block, context};
 use ronthuyal::{Call as Typed, Done, Image, Outcome, Refusal};
 
 /// What became of a timer.
-#[derive(Clone, Copy, Debug, PartialEq, Eq)]
+#[derive(Clone, Copy, Debug, PartialEq, Eq, Hash)]
 pub enum Fate {
     /// Its context was woken.
     Served,
@@ -52,27 +52,30 @@ impl Happened {
         call: &Call,
         labels: &Labels,
     ) -> Result<Result<Done, Refusal>, Disagreement> {
+        let answer = self.call(words, call);
+        if let Err(refusal) = answer {
+            self.why = explained(words, call, refusal, labels)?;
+        }
+        Ok(answer)
+    }
+
+    /// Makes the call, and explains nothing.
+    pub fn call(&mut self, words: &mut [u64], call: &Call) -> Result<Done, Refusal> {
         self.timers.clear();
         self.stolen.clear();
         self.why = None;
         self.reply = None;
         self.look(words, call);
         let mut image = Image::new(words);
-        let answer = match *call {
-            Call::Ask { cpu, time } => {
-                let asked = image.ask(ronthuyal::Cpu(cpu), ronthuyal::Time::from_nanos(time));
-                self.reply = asked.ok().map(|reply| reply.words);
-                image.call(&Typed::from_words(*call))
-            }
-            _ => image.call(&Typed::from_words(*call)),
-        };
-        let words = image.into_words();
-        match answer {
-            Ok(_) if !matches!(call, Call::Ask { .. }) => self.compare(words, call),
-            Ok(_) => {}
-            Err(refusal) => self.why = explained(words, call, refusal, labels)?,
+        if let Call::Ask { cpu, time } = *call {
+            let asked = image.ask(ronthuyal::Cpu(cpu), ronthuyal::Time::from_nanos(time));
+            self.reply = asked.ok().map(|reply| reply.words);
         }
-        Ok(answer)
+        let answer = image.call(&Typed::from_words(*call));
+        if answer.is_ok() && !matches!(call, Call::Ask { .. }) {
+            self.compare(image.into_words(), call);
+        }
+        answer
     }
 
     /// Notes what the call may change: the timers here, and who is queued elsewhere.

@@ -4,6 +4,7 @@ mod call;
 mod calls;
 mod check;
 mod diff;
+mod explore;
 mod happened;
 mod json;
 mod load;
@@ -86,6 +87,8 @@ enum Command {
     },
     /// Makes the calls of a trace and prints what happened
     Replay(replay::Options),
+    /// Runs every lock state of one moment: who is in charge after each, and which locks decide it
+    Explore(explore::Options),
     /// Says which words of two images differ, by name
     Diff {
         /// The one image
@@ -117,6 +120,7 @@ fn main() -> ExitCode {
             json,
         } => call::call(&file, &call, output.as_deref(), json),
         Command::Replay(options) => replay::replay(&options),
+        Command::Explore(options) => explore::explore(&options),
         Command::Diff { one, other, json } => diff::diff(&one, &other, json),
         Command::Priorities { json } => priorities::priorities(json),
     };

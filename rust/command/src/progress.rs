@@ -31,6 +31,10 @@ impl Progress {
     pub fn files(total: usize) -> Self {
         Self::new(total as u64, "{wide_bar} {pos} of {len} files, {eta} left", true)
     }
+    /// Of so many states.
+    pub fn states(total: u64) -> Self {
+        Self::new(total, "{wide_bar} {pos} of {len} states, {eta} left", true)
+    }
     pub fn none() -> Self {
         Self::bytes(0, false)
     }

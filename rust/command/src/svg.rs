@@ -7,6 +7,8 @@ mod lane;
 mod marks;
 mod scale;
 
+pub use scale::{LETTER, escaped};
+
 use lane::{Lane, Mark, Shown};
 
 use crate::table::Row;

@@ -1,7 +1,8 @@
 //! The machine image of Ronthuyal: a moment of a scheduler's machine as 64-bit words.
 //!
 //! Names, units, ranges and places of all words ([`tables`], [`places`], [`Place`]), the text form both ways
-//! ([`text`]), why a call is refused ([`explain`]), and what is accepted and surely not meant ([`tidy`]). Nothing here
+//! ([`text`]), why a call is refused ([`explain`]), which locks it looks at
+//! ([`locks`]), and what is accepted and surely not meant ([`tidy`]). Nothing here
 //! makes a call: that is the crate `ronthuyal`.
 //!
 //! ```
@@ -21,6 +22,7 @@ extern crate alloc;
 
 mod call;
 pub mod explain;
+pub mod locks;
 mod names;
 mod near;
 mod place;

@@ -1,0 +1,12 @@
+pub mod Relocked
+pub mod Stealing
+pub mod Deciding
+pub mod Calling
+pub mod Operations
+pub mod Refusals
+pub mod Replies
+pub mod Passing
+pub mod Read
+pub mod Locks
+pub mod Needed
+pub mod Differ
