@@ -38,6 +38,11 @@ struct ronthuyal_answer ronthuyal_block(uint64_t *image, size_t length, uint64_t
 struct ronthuyal_answer ronthuyal_hard_block(uint64_t *image, size_t length, uint64_t cpu, uint64_t time,
                                              uint64_t context);
 
+/* ronthuyal_call by the plain engine, which looks through all entries each time and builds the next image afresh: the
+   same answer and the same words, slowly. */
+struct ronthuyal_answer ronthuyal_plain_call(uint64_t *image, size_t length, uint64_t operation, uint64_t cpu,
+                                             uint64_t time, uint64_t context);
+
 /* No operation: unblocks every context x whose bit x is set in mask, by rising number, or, refused, none. result is
    how many of them were soft-blocked, interrupt is 1 if a wake-up of any of them went to another CPU. */
 struct ronthuyal_answer ronthuyal_unblock_group(uint64_t *image, size_t length, uint64_t cpu, uint64_t time,

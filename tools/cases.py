@@ -144,7 +144,7 @@ def main():
     items = (image_cases.CASES + switch_cases.CASES + refused_cases.CASES + group_cases.CASES
              + timer_cases.CASES + newest_cases.CASES + rule_cases.CASES + weight_cases.CASES + remainder_cases.CASES
              + ask_cases.CASES + window_cases.CASES + humblest_cases.CASES
-             + rival_cases.CASES + apart_cases.CASES + plain_cases.CORNERS)
+             + rival_cases.CASES + apart_cases.CASES + plain_cases.CASES)
     kernel = [item for item in items if isinstance(item, Case) and item.call[0] not in ("s", "t")]
     switches = list_of(kernel, lambda case: line_of(case, switch_of(case)))
     answers = subprocess.run(KERNEL, input=switches, capture_output=True, text=True, check=True).stdout

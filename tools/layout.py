@@ -211,6 +211,8 @@ OPERATIONS = [
 
 # Calls that have no operation number and are no function of the kernel.
 CALLS = [
+    Call("plain_call", ("operation", "cpu", "time", "context"), False, "the operation's",
+         "the operation of that number by the plain engine, slowly: the same answer and the same image"),
     Call("unblock_group", ("cpu", "time", "mask"), False, "how many of them were soft-blocked",
          "operation 4 for every context x whose bit x is set in the mask, by rising number; refused, for none"),
     Call("total_weight", ("cpu",), True, "the sum",

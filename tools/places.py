@@ -43,6 +43,10 @@ struct ronthuyal_answer ronthuyal_call(uint64_t *image, size_t length, uint64_t 
 
 
 NOTES = {
+    "plain_call": """
+/* ronthuyal_call by the plain engine, which looks through all entries each time and builds the next image afresh: the
+   same answer and the same words, slowly. */
+""",
     "unblock_group": """
 /* No operation: unblocks every context x whose bit x is set in mask, by rising number, or, refused, none. result is
    how many of them were soft-blocked, interrupt is 1 if a wake-up of any of them went to another CPU. */

@@ -1,6 +1,5 @@
-//! Finds the port's two archives, which become the `cfg`s `port` and `cue_board`; `plain` says that
-//! the first has the plain engine. RONTHUYAL_PORT names another archive than the repository's own;
-//! that of the cue board stands beside it.
+//! Finds the port's two archives, which become the `cfg`s `port` and `cue_board`. RONTHUYAL_PORT
+//! names another archive than the repository's own; that of the cue board stands beside it.
 
 use std::{env, fs, path::PathBuf};
 
@@ -19,9 +18,8 @@ const EXPORTS: &[&str] = &[
     "ronthuyal_share_of_all\0",
     "ronthuyal_apart\0",
     "ronthuyal_run\0",
+    "ronthuyal_plain_call\0",
 ];
-/// What an archive may lack until it is proved, and the `cfg` that says that it is there.
-const LATER: [(&str, &str); 1] = [("plain", "ronthuyal_plain_call\0")];
 const CUE_BOARD_EXPORTS: [&str; 2] = ["cue_board_add\0", "cue_board_next\0"];
 
 fn main() {
@@ -31,7 +29,7 @@ fn main() {
         .unwrap_or_else(|_| here.join("../../target/staticlib/libronthuyal.a"));
     let board = archive.with_file_name("libcue_board.a");
     println!("cargo::rerun-if-env-changed=RONTHUYAL_PORT");
-    println!("cargo::rustc-check-cfg=cfg(port, cue_board, plain)");
+    println!("cargo::rustc-check-cfg=cfg(port, cue_board)");
     for archive in [&archive, &board] {
         println!("cargo::rerun-if-changed={}", archive.display());
     }
@@ -49,11 +47,6 @@ fn main() {
     }
     println!("cargo::rustc-cfg=port");
     println!("cargo::rustc-link-arg={}", archive.display());
-    for (name, export) in LATER {
-        if holds(&bytes, export) {
-            println!("cargo::rustc-cfg={name}");
-        }
-    }
     // A stand-in has the calls of both.
     let has_board = |bytes: &[u8]| CUE_BOARD_EXPORTS.iter().all(|export| holds(bytes, export));
     if has_board(&bytes) {

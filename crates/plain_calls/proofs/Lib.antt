@@ -1,1 +1,2 @@
 pub mod IsCall
+pub mod Answering

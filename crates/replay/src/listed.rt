@@ -96,6 +96,14 @@ fn play(m: &mut [u64], operation: u64, h: Head) -> Answer {
     ronthuyal::ronthuyal_call(m, operation, h.cpu, h.time, h.named)
 }
 
+fn play_plainly(m: &mut [u64], operation: u64, h: Head) -> Answer {
+    let n = numbers::index(h.length);
+    if n <= m.len() {
+        return ronthuyal::ronthuyal_plain_call(&mut m[0..n], operation, h.cpu, h.time, h.named);
+    }
+    ronthuyal::ronthuyal_plain_call(m, operation, h.cpu, h.time, h.named)
+}
+
 fn play_group(m: &mut [u64], h: Head) -> Answer {
     let n = numbers::index(h.length);
     if n <= m.len() {
@@ -171,6 +179,16 @@ fn case(s: &[u8], from: usize, m: &mut [u64], old: &mut [u64]) -> usize {
     let h = read_head(s, operation.end);
     let end = prepare(s, h, m, old);
     let a = play(m, operation.value, h);
+    image::answer(a, m, old);
+    end
+}
+
+// The same by the plain engine.
+fn plain_case(s: &[u8], from: usize, m: &mut [u64], old: &mut [u64]) -> usize {
+    let operation = text::next(s, from);
+    let h = read_head(s, operation.end);
+    let end = prepare(s, h, m, old);
+    let a = play_plainly(m, operation.value, h);
     image::answer(a, m, old);
     end
 }
@@ -281,6 +299,10 @@ fn item(s: &[u8], from: usize, m: &mut [u64], old: &mut [u64]) -> usize {
     let behind = text::after(s, from, b'g');
     if from < behind {
         return group(s, behind, m, old);
+    }
+    let plain = text::after(s, from, b'p');
+    if from < plain {
+        return plain_case(s, plain, m, old);
     }
     let weighed = text::after(s, from, b'w');
     if from < weighed {

@@ -37,6 +37,9 @@ fn is_mark(b: u8) -> bool {
     if b == b'o' {
         return true;
     }
+    if b == b'p' {
+        return true;
+    }
     if b == b'r' {
         return true;
     }

@@ -160,6 +160,22 @@ pub extern "C" fn ronthuyal_call(
     operations::call(image, operation, cpu, time, context)
 }
 
+// Any operation by the plain engine: the answer and every word are those of `ronthuyal_call`.
+#[no_mangle]
+pub extern "C" fn ronthuyal_plain_call(
+    image: &mut [u64],
+    operation: u64,
+    cpu: u64,
+    time: u64,
+    context: u64,
+) -> Answer
+    ensures { λ r. ⌜ reply r (now (image .exit)) ≡ call (now (image .entry)) operation cpu time context ⌝ }
+    ensures { λ r. ⌜ DemandMet (now (image .entry)) (now (image .exit)) operation cpu time context (r .refusal) ⌝ }
+    ensures { λ r. ⌜ Leaves max-word (now (image .entry)) (now (image .exit)) (r .refusal) ⌝ }
+{
+    plain_calls::call(image, operation, cpu, time, context)
+}
+
 // Operation 4 for every context of the mask, by rising number, or for none. The result is how many were soft-blocked.
 #[no_mangle]
 pub extern "C" fn ronthuyal_unblock_group(

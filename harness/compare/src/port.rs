@@ -62,8 +62,6 @@ unsafe extern "C" {
 
 /// Whether there is a port to compare with.
 pub const THERE: bool = cfg!(port);
-/// Whether it has the plain engine.
-pub const PLAIN: bool = cfg!(plain);
 /// Whether there is a cue board.
 pub const CUE_BOARD: bool = cfg!(cue_board);
 

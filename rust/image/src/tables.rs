@@ -743,7 +743,14 @@ pub const OPERATIONS: [OperationRow; 7] = [
 ];
 
 /// The calls that have no number.
-pub const CALLS: [CallRow; 11] = [
+pub const CALLS: [CallRow; 12] = [
+    CallRow {
+        name: "plain_call",
+        takes: &["operation", "cpu", "time", "context"],
+        reads: false,
+        result: "the operation's",
+        says: "the operation of that number by the plain engine, slowly: the same answer and the same image",
+    },
     CallRow {
         name: "unblock_group",
         takes: &["cpu", "time", "mask"],

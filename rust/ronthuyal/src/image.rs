@@ -167,6 +167,26 @@ impl<W: AsRef<[u64]> + AsMut<[u64]>> Image<W> {
         };
         read(call, answer)
     }
+    /// An operation by its number, by the plain engine: the answer and the words of [`call`](Self::call), slowly. A call
+    /// that is no operation is refused with 5.
+    ///
+    /// ```
+    /// use ronthuyal::{Call, Cpu, Image, Time};
+    ///
+    /// let mut image = Image::from_text("context idle\ncontext a\ncpu 0 idle_ctxt=idle\nqueue 0 a").unwrap();
+    /// let mut plain = image.clone();
+    /// let call = Call::switch(Cpu(0), Time::from_millis(1));
+    /// assert_eq!(plain.plain_call(&call), image.call(&call));
+    /// assert!(plain == image);
+    /// ```
+    pub fn plain_call(&mut self, call: &Call) -> Result<Done, Refusal> {
+        let [operation, cpu, time, context] = call.operation_words().unwrap_or_default();
+        let words = self.0.as_mut();
+        let (at, length) = (words.as_mut_ptr(), words.len());
+        // SAFETY: address and length are those of a slice that nobody else uses during the call.
+        let answer = unsafe { sys::ronthuyal_plain_call(at, length, operation, cpu, time, context) };
+        read(call, answer)
+    }
     /// The timer's tick: counts it, and switches on the third.
     pub fn tick(&mut self, cpu: Cpu, time: Time) -> Result<Done, Refusal> {
         self.call(&Call::tick(cpu, time))

@@ -156,3 +156,16 @@ fn a_run_is_its_calls() {
     assert_eq!(other.run(&[]), []);
     assert_eq!(one, other);
 }
+
+/// The plain engine makes operations alone.
+#[test]
+fn the_plain_engine_is_the_other_one() {
+    let (mut one, mut other) = (moment(), moment());
+    for call in evening() {
+        match call.words() {
+            Words::Operation { .. } => assert_eq!(other.plain_call(&call), one.call(&call)),
+            _ => assert_eq!(other.plain_call(&call), Err(Refusal::Unknown)),
+        }
+        assert_eq!(one, other);
+    }
+}

@@ -117,6 +117,15 @@ unsafe extern "C" {
         time: u64,
         context: u64,
     ) -> Answer;
+    /// The operation of that number by the plain engine, slowly: the same answer and the same image.
+    pub fn ronthuyal_plain_call(
+        image: *mut u64,
+        length: usize,
+        operation: u64,
+        cpu: u64,
+        time: u64,
+        context: u64,
+    ) -> Answer;
     /// Operation 4 for every context x whose bit x is set in the mask, by rising number; refused, for none.
     pub fn ronthuyal_unblock_group(
         image: *mut u64,
@@ -211,7 +220,7 @@ unsafe extern "C" {
 }
 
 /// The names of all exports.
-pub const EXPORTS: [&str; 19] = [
+pub const EXPORTS: [&str; 20] = [
     "ronthuyal_call",
     "ronthuyal_tick",
     "ronthuyal_switch",
@@ -220,6 +229,7 @@ pub const EXPORTS: [&str; 19] = [
     "ronthuyal_drain_ipi_context_wakeups",
     "ronthuyal_block",
     "ronthuyal_hard_block",
+    "ronthuyal_plain_call",
     "ronthuyal_unblock_group",
     "ronthuyal_total_weight",
     "ronthuyal_ask",

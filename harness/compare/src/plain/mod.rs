@@ -65,8 +65,8 @@ pub fn plain(seed: u64, count: u64) -> bool {
     if good {
         println!("{} plain calls of seed {seed}, no difference", each * 5);
     }
-    if !port::PLAIN {
-        println!("NOT compared: there is no plain engine of the port.");
+    if !port::THERE {
+        println!("NOT compared: there is no archive of the port.");
     }
     // Without the kernel and without a port no call is made.
     let judged = port::THERE || cfg!(feature = "oracle");

@@ -2,13 +2,13 @@
 
 use image::{Answer, Call};
 
-#[cfg(plain)]
+#[cfg(port)]
 unsafe extern "C" {
     /// Of the image's address and length, operation, CPU, time and context.
     fn ronthuyal_plain_call(_: *mut u64, _: usize, _: u64, _: u64, _: u64, _: u64) -> Answer;
 }
 
-#[cfg(plain)]
+#[cfg(port)]
 pub fn plain_call(image: &mut [u64], call: &Call) -> Option<Answer> {
     let (at, len) = (image.as_mut_ptr(), image.len());
     let Call {
@@ -20,7 +20,7 @@ pub fn plain_call(image: &mut [u64], call: &Call) -> Option<Answer> {
     Some(unsafe { ronthuyal_plain_call(at, len, operation, cpu, time, context) })
 }
 
-#[cfg(not(plain))]
+#[cfg(not(port))]
 pub fn plain_call(_image: &mut [u64], _call: &Call) -> Option<Answer> {
     None
 }

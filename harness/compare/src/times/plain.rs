@@ -14,10 +14,6 @@ fn plain(image: &mut [u64], _: &mut Built) {
 
 /// Prints a row for each number of entries, on 4 CPUs with 64 contexts.
 pub fn table() -> bool {
-    if !port::PLAIN {
-        println!("\nThere is no plain engine of the port: it is not timed.");
-        return true;
-    }
     println!("\n| 4 CPUs, 64 contexts: entries | switch | by the plain engine | plain/switch |");
     println!("|---|---|---|---|");
     for entries in [0, 8, 32, 59] {

@@ -1,0 +1,59 @@
+use Rattle.calls.proofs.Called.{call-refused, call-image, call-time, call-ranged, call-done}
+use borrow.Author.Needs.{needs}
+use Rattle.plain_calls.proofs.direct_switch_call.Statement.{statement}
+use Rattle.plain_calls.proofs.direct_switch_call.Tie as tie
+use Rattle.plain_calls.proofs.direct_switch_call.Reads as reads
+use Rattle.plain_calls.proofs.direct_switch_call.Lts as lts
+use Rattle.answer.proofs.refused.Reads as refused-reads
+use Rattle.calls.proofs.check.Reads as check-reads
+use Rattle.plain_calls.proofs.direct_switch_to.Reads as direct-switch-to-reads
+
+-- src/lib.rt:125:9
+check-requires : tie.Need-check-requires
+check-requires c κs = search needs
+
+-- src/lib.rt:127:26
+enum-known-checked : tie.Need-enum-known-checked
+enum-known-checked c = search needs
+
+-- src/lib.rt:127:37
+refused-requires : tie.Need-refused-requires
+refused-requires c κs = search needs
+
+-- src/lib.rt:128:25
+enum-known-checked-2 : tie.Need-enum-known-checked-2
+enum-known-checked-2 c = search needs
+
+-- src/lib.rt:128:34
+direct-switch-to-requires : tie.Need-direct-switch-to-requires
+direct-switch-to-requires c κs = (call-image _ _ _ (c .before .before .before .before .check .ensures) _ _ (c .before .before .checked2 .given .1), (call-time _ _ _ (c .before .before .before .before .check .ensures) _ _ (c .before .before .checked2 .given .1), call-ranged _ _ _ (c .before .before .before .before .check .ensures) _ _ (c .before .before .checked2 .given .1)))
+
+-- src/lib.rt:122:1
+same-length : tie.Need-same-length
+same-length c = search needs
+
+-- src/lib.rt:122:1
+returns : tie.Need-returns
+returns c = call-refused _ _ _ (c .before .before .before .before .check .ensures) _ _ (c .before .before .checked .given .1) (c .refused .ensures)
+
+-- src/lib.rt:122:1
+same-length-2 : tie.Need-same-length-2
+same-length-2 c = search needs
+
+-- src/lib.rt:122:1
+returns-2 : tie.Need-returns-2
+returns-2 c = call-done _ _ _ (c .before .before .before .before .before .before .before .check .ensures) _ _ _ (c .before .before .before .before .before .checked2 .given .1) (c .before .before .direct-switch-to .ensures)
+
+pub direct-switch-call-spec : {M : Type 1} → statement M
+direct-switch-call-spec =
+    tie.close
+    (tie.spec
+    check-requires
+    enum-known-checked
+    refused-requires
+    enum-known-checked-2
+    direct-switch-to-requires
+    same-length
+    returns
+    same-length-2
+    returns-2)

@@ -1,0 +1,4 @@
+pub mod Full
+pub mod Fitted
+pub mod Choosing
+pub mod Scheduling
