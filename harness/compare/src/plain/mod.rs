@@ -13,24 +13,12 @@ use crate::{
     run::{one, unedited},
 };
 use image::{Answer, check};
-use std::sync::atomic::{AtomicU64, Ordering};
 
 /// Of so many cases each sort must be met.
 const ENOUGH: u64 = 12_000;
 
-/// The plain engine is slow: of the cases of other commands it makes one in so many.
-const EVERY: u64 = 5;
-static CASES: AtomicU64 = AtomicU64::new(0);
-
-/// Of a case that was compared, now and then: the plain engine answers and leaves the same.
+/// Of a case that was compared: the plain engine answers and leaves the same.
 pub fn also<A: Ask>(case: &Case<A>, answer: &Answer, after: &[u64]) -> Option<()> {
-    match CASES.fetch_add(1, Ordering::Relaxed) % EVERY {
-        0 => held(case, answer, after),
-        _ => Some(()),
-    }
-}
-
-fn held<A: Ask>(case: &Case<A>, answer: &Answer, after: &[u64]) -> Option<()> {
     let mut image = case.image.clone();
     let Some(got) = case.call.plain(&mut image) else {
         return Some(());
@@ -93,7 +81,7 @@ fn all(mut stream: Stream, mut several: Option<Rng>, seed: u64, count: u64, met:
 
 fn step(case: &Case, met: &mut Met) -> Option<Vec<u64>> {
     let (answer, after) = one(case)?;
-    held(case, &answer, &after)?;
+    also(case, &answer, &after)?;
     read(case, &answer, &after)?;
     sorts::note(met, &case.image, &case.call, &answer, &after);
     Some(after)
