@@ -1,10 +1,12 @@
 // What a call answers.
+#![tactic(auto)]
+
 ghost use Rattle.std.specs.Prelude.{◌≡◌};
 ghost use Rattle.answer.specs.Number.{result_number, rule_number};
 
 // 0 or the number of its refusal, the result, whether a wake-up went to another CPU, and the number of the rule that decided
 #[repr(C)]
-#[derive(Drop)]
+#[derive(Clone, Copy)]
 pub struct Answer {
     pub refusal: u64,
     pub result: u64,
@@ -13,7 +15,7 @@ pub struct Answer {
 }
 
 pub fn refused(number: u64) -> Answer
-    ensures* { λ r. ⌜ r ≡ record { refusal = number; result = 0; interrupt = 0; rule = 0 } ⌝ }
+    ensures { result ≡ record { refusal = number; result = 0; interrupt = 0; rule = 0 } }
 {
     Answer {
         refusal: number,
@@ -24,7 +26,7 @@ pub fn refused(number: u64) -> Answer
 }
 
 // what a switch comes to (context/switch.rs)
-#[derive(Drop)]
+#[derive(Clone, Copy)]
 pub enum SwitchResult {
     Switched,
     AllContextsIdle,
@@ -40,7 +42,7 @@ pub fn result_number(r: SwitchResult) -> u64
 }
 
 // Who is left in charge by a decision, and why.
-#[derive(Drop)]
+#[derive(Clone, Copy)]
 pub enum Rule {
     // the first eligible entry
     FirstEligible,

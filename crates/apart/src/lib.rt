@@ -1,5 +1,7 @@
 // Whether two CPUs name no context together, in any roles.
 // A block is lent as its words; m is the image of a machine of c CPUs and n contexts.
+#![tactic(auto)]
+
 ghost use Rattle.std.specs.Prelude.{◌≡◌, not, ◌&&◌, ℕ, ◌<◌, ◌≤◌, length};
 ghost use Rattle.columns.specs.Common.{every};
 ghost use Rattle.percpu.specs.Places.{block_size};

@@ -1,4 +1,6 @@
 // Asking what a switch would answer and leave on its CPU, and committing to it: the switch is made if that is still so.
+#![tactic(auto)]
+
 ghost use Rattle.std.specs.Prelude.{◌≡◌, ◌≤◌};
 ghost use Rattle.machine.specs.Machine.{Machine};
 ghost use Rattle.machine.specs.Encode.{encode};

@@ -1,4 +1,6 @@
 // The five numbers that are told of a reply, and two of them compared.
+#![tactic(auto)]
+
 ghost use Rattle.std.specs.Prelude.{◌≡◌, get_or};
 ghost use Rattle.context_ops.specs.Reply.{reply};
 ghost use Rattle.asked.specs.OfReply.{refused, accepted, BlockInside, asked_of, same, commit_refusal};
@@ -8,7 +10,7 @@ use percpu::places;
 
 // 0 or the number of its refusal, the result, and the CPU's context in charge, current context and V
 #[repr(C)]
-#[derive(Drop)]
+#[derive(Clone, Copy)]
 pub struct Asked {
     pub refusal: u64,
     pub result: u64,

@@ -1,11 +1,13 @@
 // A cue board of lent bytes: its sizes and the numbers of its cues.
+#![tactic(auto)]
+
 pub mod places;
 
 ghost use Rattle.std.specs.Prelude.{◌≡◌, ◌+◌, ◌<◌, ◌≤◌, length};
 ghost use Rattle.board.specs.Board.{Board, number_at, put_number, sizes_of, cue_at};
 
 // The capacity, how many cues are stored, and how many of these are handed out.
-#[derive(Drop)]
+#[derive(Clone, Copy)]
 pub enum Sizes {
     Wrong,
     Right(usize, usize, usize),

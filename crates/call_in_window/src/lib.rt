@@ -1,4 +1,6 @@
 // A call beside which a window is lent: an accepted decision adds its record to it.
+#![tactic(auto)]
+
 ghost use Rattle.std.specs.Prelude.{◌≡◌, ◌≤◌};
 ghost use Rattle.machine.specs.Encode.{max_image_size};
 ghost use Rattle.context_ops.specs.Reply.{reply};

@@ -1,1 +1,2 @@
 // Switches of CPUs that are apart, in either order: theorems over the calls, in proofs/.
+#![tactic(auto)]

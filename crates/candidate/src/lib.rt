@@ -1,5 +1,7 @@
 // A context that is on no CPU, for trials with it: refusal 5 where it is gone, queued or in charge.
 // In every function m is the image of a machine of c CPUs and n contexts.
+#![tactic(auto)]
+
 ghost use Rattle.std.specs.Prelude.{◌≡◌, ◌<◌, ◌≤◌, length, get_or};
 ghost use Rattle.percpu.specs.Places.{block_size, queue_count};
 ghost use Rattle.machine.specs.Machine.{Machine, cpu_at};

@@ -1,5 +1,7 @@
 // Document 01's cases that are not starred, its traps, its table of refused calls, groups, due timers, the newest timer, weights added up,
 // asking and committing, windows, the humblest priority, writer against rival, and CPUs that are apart.
+#![tactic(auto)]
+
 fn main() {
     replay::run();
 }

@@ -1,4 +1,6 @@
 // What the holder of the CPU pays for its turn (`select_next_context`, context/switch.rs).
+#![tactic(auto)]
+
 ghost use Rattle.std.specs.Prelude.{◌≡◌, ℕ, ◌*◌, ◌<◌, ◌≤◌};
 ghost use Rattle.charging.specs.Charge.{charged, stopped, renewed, Chargeable};
 ghost use Rattle.numbers.specs.Limits.{number_range};

@@ -1,4 +1,6 @@
 // A context's record: what the scheduler reads and writes of it (context/context.rs).
+#![tactic(auto)]
+
 mod key;
 pub mod places;
 mod record;
@@ -10,7 +12,7 @@ ghost use Rattle.context.specs.Status.{is_runnable, is_soft_blocked};
 
 pub use record::{load_context, status_number, status_of, store_context};
 
-#[derive(Drop)]
+#[derive(Clone, Copy)]
 pub enum Status {
     Runnable,
     Blocked,
@@ -20,7 +22,7 @@ pub enum Status {
     Dead,
 }
 
-#[derive(Drop)]
+#[derive(Clone, Copy)]
 pub struct Context {
     pub gone: bool,
     pub debug_id: u64,
@@ -54,7 +56,7 @@ pub struct Context {
 }
 
 // a record and whether it was changed
-#[derive(Drop)]
+#[derive(Clone, Copy)]
 pub struct Changed {
     pub context: Context,
     pub done: bool,

@@ -1,5 +1,7 @@
 // Operations 4 to 7 on an image that was checked: `unblock_context`, `drain_ipi_context_wakeups`, `block` and `hard_block`.
 // In every function m is the image of a machine of c CPUs and n contexts.
+#![tactic(auto)]
+
 mod named;
 mod wake;
 

@@ -7,7 +7,7 @@ ghost use Rattle.context_ops.specs.Named.{named};
 
 use machine::{CpuLookup, Lookup};
 
-#[derive(Drop)]
+#[derive(Clone, Copy)]
 pub enum Named {
     Refused(u64),
     Found(usize, usize),

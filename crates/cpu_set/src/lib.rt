@@ -1,4 +1,6 @@
 // A set of CPUs in one word: bit k is CPU k (cpu_set.rs).
+#![tactic(auto)]
+
 ghost use Rattle.std.specs.Prelude.{◌≡◌, ℕ, ◌<◌, ◌≤◌, length};
 ghost use Rattle.cpu_set.specs.Set.{contains};
 ghost use Rattle.cpu_set.specs.Members.{members, next_cpu, rest_cpus, with_cpu, without_cpu};

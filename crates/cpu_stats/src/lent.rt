@@ -8,7 +8,7 @@ ghost use Rattle.numbers.specs.Limits.{number_range, half_range};
 
 use crate::{CpuState, CpuStats};
 
-#[derive(Drop)]
+#[derive(Clone, Copy)]
 pub enum Change {
     State(CpuState),
     // milliseconds for the state that the CPU is in

@@ -1,4 +1,6 @@
 // A CPU's state and counters (cpu_stats.rs).
+#![tactic(auto)]
+
 ghost use Rattle.std.specs.Prelude.{◌≡◌, ℕ, ◌<◌, ◌≤◌};
 ghost use Rattle.cpu_stats.specs.State.{state_number, state_of};
 ghost use Rattle.cpu_stats.specs.With.{stats_state};
@@ -7,14 +9,14 @@ ghost use Rattle.numbers.specs.Limits.{number_range, half_range};
 
 pub mod lent;
 
-#[derive(Drop)]
+#[derive(Clone, Copy)]
 pub enum CpuState {
     Idle,
     Kernel,
     User,
 }
 
-#[derive(Drop)]
+#[derive(Clone, Copy)]
 pub struct CpuStats {
     pub state: CpuState,
     // milliseconds spent in each state
@@ -26,7 +28,7 @@ pub struct CpuStats {
 }
 
 // the counters after a turn, and the state that its time went to
-#[derive(Drop)]
+#[derive(Clone, Copy)]
 pub struct Accounted {
     pub stats: CpuStats,
     pub state: CpuState,

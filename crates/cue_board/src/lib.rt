@@ -1,4 +1,6 @@
 // The cue board, of any bytes and any image: a cue is added, or the next one handed out and its writer woken.
+#![tactic(auto)]
+
 ghost use Rattle.std.specs.Prelude.{◌≡◌, ◌<◌};
 ghost use Rattle.board.specs.Board.{Board, offered, cue_at};
 ghost use Rattle.cues.specs.Add.{added, add};
@@ -9,7 +11,7 @@ use cues::Due;
 
 // What asking for the next cue answers.
 #[repr(C)]
-#[derive(Drop)]
+#[derive(Clone, Copy)]
 pub struct Handed {
     pub refusal: u64,
     // 1 if a cue is handed out

@@ -1,4 +1,6 @@
 // Refusals 10 and 11 of the cues that are stored, in one pass.
+#![tactic(auto)]
+
 ghost use Rattle.std.specs.Prelude.{◌≡◌, ◌||◌, ◌-◌, ◌<◌, ◌≤◌, eqb, ltb, leb};
 ghost use Rattle.columns.specs.Common.{tabulate};
 ghost use Rattle.board.specs.Board.{Board, row_size, cue_at};

@@ -1,4 +1,5 @@
 // A cue is added to a board, or the next one looked for, in one pass over what is stored.
+#![tactic(auto)]
 
 ghost use Rattle.std.specs.Prelude.{◌≡◌, [], ◌∷◌, ◌++◌, ◌+◌, ◌<◌, ◌≤◌, length};
 ghost use Rattle.columns.specs.Common.{tabulate};
@@ -11,14 +12,14 @@ ghost use Rattle.cues.specs.Due.{next_due};
 use board::Sizes;
 
 // What offering a cue comes to: a refusal, or the board's capacity and its first free slot.
-#[derive(Drop)]
+#[derive(Clone, Copy)]
 pub enum Free {
     Refused(u64),
     Slot(usize, usize),
 }
 
 // What asking at a time comes to: a refusal, no cue, or the board's capacity and the slot of one.
-#[derive(Drop)]
+#[derive(Clone, Copy)]
 pub enum Due {
     Refused(u64),
     Nothing,

@@ -4,7 +4,7 @@ ghost use Rattle.decide.specs.Input.{half_at, word_at, head_of, image_words, max
 
 use libc::STDIN_FILENO;
 
-#[derive(Drop)]
+#[derive(Clone, Copy)]
 pub struct Head {
     pub operation: u64,
     pub cpu: u64,

@@ -1,5 +1,7 @@
 // Reads an operation, a CPU, a time, a context and an image from standard input, all words of 64 bits, lowest byte first. Prints the call's
 // refusal, its result and that CPU's in charge, current and V.
+#![tactic(auto)]
+
 mod input;
 mod output;
 

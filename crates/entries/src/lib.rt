@@ -1,15 +1,17 @@
 // What a CPU's run queue holds (context/mod.rs): `ContextQueueKey`, an entry of the queue, and a timer.
+#![tactic(auto)]
+
 ghost use Rattle.std.specs.Prelude.{◌≡◌};
 ghost use Rattle.entries.specs.Order.{before, sooner, superseded};
 
-#[derive(Drop)]
+#[derive(Clone, Copy)]
 pub struct Key {
     pub vd: u64,
     pub rem_slice: u64,
     pub ctxt_id: u64,
 }
 
-#[derive(Drop)]
+#[derive(Clone, Copy)]
 pub struct Entry {
     pub key: Key,
     pub vtime: u64,
@@ -17,7 +19,7 @@ pub struct Entry {
     pub context_ref: u64,
 }
 
-#[derive(Drop)]
+#[derive(Clone, Copy)]
 pub struct Timer {
     pub wake: u64,
     pub context_ref: u64,

@@ -1,5 +1,7 @@
 // `unblock_group` on an image that was checked: `unblock_context` for every context of a set, by rising number, or for none.
 // In every function m is the image of a machine of c CPUs and n contexts.
+#![tactic(auto)]
+
 mod room;
 
 ghost use Rattle.std.specs.Prelude.{◌≡◌, false, ℕ, ◌<◌};

@@ -1,4 +1,6 @@
 // How far the numbers of an image can have grown: bounds of its times and counters, and of its virtual times and weights.
+#![tactic(auto)]
+
 ghost use Rattle.std.specs.Prelude.{◌≡◌, ◌+◌, ◌*◌, ◌≤◌};
 ghost use Rattle.machine.specs.Machine.{Machine};
 ghost use Rattle.machine.specs.Encode.{encode};
@@ -19,7 +21,7 @@ ghost use Rattle.growth.specs.Growth.{
 use percpu::PercpuBlock;
 
 // The greatest of the times and counters, and of the virtual times and weights, or more.
-#[derive(Drop)]
+#[derive(Clone, Copy)]
 pub struct Bounds {
     pub times: u64,
     pub virtual_times: u64,

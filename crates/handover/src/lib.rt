@@ -1,5 +1,7 @@
 // The end of `select_next_context`: virtual time advances, a runnable holder that lost goes back to the queue, and the slice changes hands.
 // In every function m is the image of a machine of c CPUs and n contexts, and k is the CPU.
+#![tactic(auto)]
+
 mod advancing;
 mod handing;
 mod next;

@@ -1,4 +1,6 @@
 // The humblest priority that still gets the CPU: the largest number with which a context that is on no CPU would be left in charge.
+#![tactic(auto)]
+
 ghost use Rattle.std.specs.Prelude.{◌≡◌, ◌≤◌, length};
 ghost use Rattle.machine.specs.Encode.{decode, max_image_size};
 ghost use Rattle.image.specs.Refusal.{size_c, size_n, image_refusal};
@@ -12,7 +14,7 @@ use context_ops::Named;
 
 // 0 or the number of its refusal, 1 if some priority gets the CPU, and the largest that does
 #[repr(C)]
-#[derive(Drop)]
+#[derive(Clone, Copy)]
 pub struct Humblest {
     pub refusal: u64,
     pub found: u64,

@@ -1,4 +1,6 @@
 // Refusals 1 to 4 of document 01: the sizes, the length, every word's range, and the structure.
+#![tactic(auto)]
+
 ghost use Rattle.std.specs.Prelude.{◌≡◌, Bool, true, false, ℕ, ◌+◌, ◌*◌, ◌<◌, ◌≤◌, length, get_or};
 ghost use Rattle.image.specs.Refusal.{in_bounds, ranges, sized_refusal, image_refusal};
 ghost use Rattle.machine.specs.Encode.{cpu_place};

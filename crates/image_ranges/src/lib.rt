@@ -1,4 +1,6 @@
 // Whether every word of an image is in its range (refusal 3): records, then blocks.
+#![tactic(auto)]
+
 mod ranges;
 mod records;
 

@@ -1,4 +1,6 @@
 // The structure of an image whose words are in their ranges.
+#![tactic(auto)]
+
 mod ids;
 
 ghost use Rattle.std.specs.Prelude.{◌≡◌, Bool, true, false, ℕ, ◌+◌, ◌-◌, ◌*◌, ◌<◌, ◌≤◌, length, get_or};

@@ -1,4 +1,6 @@
 // Numbers of 8 bytes, lowest first: Rust's `u64::from_le_bytes` and `u64::to_le_bytes` on a lent slice.
+#![tactic(auto)]
+
 ghost use Rattle.std.specs.Prelude.{◌≡◌, ◌<◌, ◌%◌, length};
 ghost use Rattle.le_bytes.specs.LeBytes.{from_le_bytes, to_le_bytes};
 

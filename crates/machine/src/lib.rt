@@ -1,5 +1,7 @@
 // The machine image: where a context's record and a CPU's block stand, and looking them up.
 // In every function m is the image of a machine of c CPUs and n contexts.
+#![tactic(auto)]
+
 ghost use Rattle.std.specs.Prelude.{◌≡◌, ℕ, ◌+◌, ◌*◌, ◌<◌, ◌≤◌, length, get_or};
 ghost use Rattle.machine.specs.Machine.{Machine, context_at, set_context};
 ghost use Rattle.machine.specs.Encode.{encode, context_place, cpu_place};
@@ -11,14 +13,14 @@ use context::places::RECORD_SIZE;
 use percpu::places::BLOCK_SIZE;
 
 // A context by its number.
-#[derive(Drop)]
+#[derive(Clone, Copy)]
 pub enum Lookup {
     Live(usize),
     Gone,
 }
 
 // A CPU by its number.
-#[derive(Drop)]
+#[derive(Clone, Copy)]
 pub enum CpuLookup {
     Present(usize),
     Absent,

@@ -1,4 +1,6 @@
 // The greatest numbers of an image that was checked, of those that a call can raise: times and counters, virtual times and weights.
+#![tactic(auto)]
+
 ghost use Rattle.std.specs.Prelude.{◌≡◌, ◌+◌, ◌≤◌, length};
 ghost use Rattle.context.specs.Words.{record_size};
 ghost use Rattle.percpu.specs.Places.{block_size};

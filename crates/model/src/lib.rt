@@ -1,1 +1,2 @@
 // The scheduling decisions (context/switch.rs): their definitions are in specs/.
+#![tactic(auto)]

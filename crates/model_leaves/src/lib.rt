@@ -1,1 +1,2 @@
 // What an accepted call leaves: lemmas over the definitions, in proofs/.
+#![tactic(auto)]

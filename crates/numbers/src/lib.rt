@@ -1,4 +1,6 @@
 // The limits that document 01 sets to the image's numbers, and what Rust has as methods of numbers and truths.
+#![tactic(auto)]
+
 ghost use Rattle.std.specs.Prelude.{◌≡◌, ◌&&◌, ◌||◌, ℕ, ◌-◌, max};
 
 // the greatest of a number that has no range of its own, and of a call's time

@@ -1,4 +1,6 @@
 // A CPU's block without its arrays (percpu.rs and `ContextSwitchPercpu` of context/switch.rs).
+#![tactic(auto)]
+
 pub mod places;
 
 ghost use Rattle.std.specs.Prelude.{◌≡◌, ℕ, ◌<◌, ◌≤◌, length};
@@ -9,7 +11,7 @@ ghost use Rattle.percpu.specs.With.{block_stats};
 
 use cpu_stats::CpuStats;
 
-#[derive(Drop)]
+#[derive(Clone, Copy)]
 pub struct PercpuBlock {
     pub present: bool,
     pub current_ctxt: u64,

@@ -1,8 +1,10 @@
 // Who was picked: a context by its number, or nobody (`Option` of a context in context/switch.rs).
+#![tactic(auto)]
+
 ghost use Rattle.std.specs.Prelude.{◌≡◌};
 ghost use Rattle.picked.specs.Names.{is_some, contains};
 
-#[derive(Drop)]
+#[derive(Clone, Copy)]
 pub enum Picked {
     Nobody,
     Somebody(usize),

@@ -1,4 +1,6 @@
 // A plain call, of any words: the image is checked, decided on by value, and built afresh.
+#![tactic(auto)]
+
 ghost use Rattle.std.specs.Prelude.{◌≡◌, ◌<◌, ◌≤◌};
 ghost use Rattle.numbers.specs.Limits.{max_number};
 ghost use Rattle.machine.specs.Machine.{Machine};
@@ -18,7 +20,7 @@ use machine::{CpuLookup, Lookup};
 use switch_ops::Decision;
 
 fn accepted(res: u64, rule: u64) -> Answer
-    ensures* { λ r. ⌜ r ≡ record { refusal = 0; result = res; interrupt = 0; rule = rule } ⌝ }
+    ensures { result ≡ record { refusal = 0; result = res; interrupt = 0; rule = rule } }
 {
     Answer {
         refusal: 0,

@@ -12,14 +12,14 @@ use picked::Picked;
 use plain_lists::Queue;
 
 // the contexts that the decision keeps locked, the winner aside: the holder, and the best late entry
-#[derive(Drop)]
+#[derive(Clone, Copy)]
 pub struct Locked {
     pub sched_ctxt: usize,
     pub best: Picked,
 }
 
 // what the search goes by: the CPU that steals, its locks, its winner, and how many entries are wanted
-#[derive(Drop)]
+#[derive(Clone, Copy)]
 pub struct Thief {
     pub cpu: usize,
     pub locked: Locked,

@@ -1,4 +1,6 @@
 // Stealing judged by the plain engine, by value: which CPU has enough, and which of its entries can be stolen.
+#![tactic(auto)]
+
 mod judge;
 mod victim;
 

@@ -1,4 +1,6 @@
 // The choice of the plain engine, by value: one table of rules.
+#![tactic(auto)]
+
 ghost use Rattle.std.specs.Prelude.{◌≡◌};
 ghost use Rattle.model.specs.Choice.{named};
 ghost use Rattle.select_judge.specs.Values.{best_of};
@@ -12,7 +14,7 @@ use picked::Picked;
 use select_judge::{Best, Holder};
 
 // Who won, V, the context that stays locked besides the holder and the winner, and the rule where nothing is stolen.
-#[derive(Drop)]
+#[derive(Clone, Copy)]
 pub struct Choice {
     pub winner: Picked,
     pub v: u64,

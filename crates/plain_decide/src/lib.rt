@@ -1,5 +1,7 @@
 // The calls that decide, of the plain engine and by value: `tick`, `switch` and `direct_switch_to`.
 // In every function k is the CPU, of c CPUs and n contexts, and s its state.
+#![tactic(auto)]
+
 mod switching;
 
 ghost use Rattle.std.specs.Prelude.{◌<◌};

@@ -25,7 +25,7 @@ use plain_steal::Cpus;
 
 // The state, every CPU (this one as it was), the number of what the switch came to and that of its rule, 0 where nothing was decided.
 // Where an insertion found no room, these say nothing.
-#[derive(Drop)]
+#[derive(Clone, Copy)]
 pub struct Decided {
     pub state: State,
     pub cpus: Cpus,
@@ -35,7 +35,7 @@ pub struct Decided {
 
 // A switch without a decision.
 pub fn switched(state: State, cpus: Cpus) -> Decided
-    ensures* { λ r. ⌜ r ≡ record { state = state; cpus = cpus; result = result_number Switched; rule = 0 } ⌝ }
+    ensures { result ≡ record { state = state; cpus = cpus; result = result_number Switched; rule = 0 } }
 {
     Decided {
         state: state,

@@ -1,4 +1,6 @@
 // The end of a decision of the plain engine, by value: V advances, a runnable holder that lost goes back to the queue, the slice changes hands.
+#![tactic(auto)]
+
 mod advancing;
 mod handing;
 mod requeuing;

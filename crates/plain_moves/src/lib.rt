@@ -1,4 +1,6 @@
 // Entries moved from a victim's queue to the CPU that steals, by value.
+#![tactic(auto)]
+
 mod stolen;
 
 ghost use Rattle.std.specs.Prelude.{◌≡◌, false, ◌<◌, ◌≤◌};
@@ -23,7 +25,7 @@ use plain_lists::Queue;
 use plain_state::{Cpu, State};
 
 // the state of this CPU, the victim, and who has won
-#[derive(Drop)]
+#[derive(Clone, Copy)]
 pub struct Moving {
     pub state: State,
     pub victim: Cpu,

@@ -1,5 +1,7 @@
 // Operations 1 to 3 of the plain engine on an image that refusals 1 to 8 let pass: read, decided by value, built afresh.
 // In every function m is the image of a machine of c CPUs and n contexts, and k a CPU of it.
+#![tactic(auto)]
+
 ghost use Rattle.std.specs.Prelude.{◌≡◌, ◌<◌};
 ghost use Rattle.machine.specs.Machine.{Machine};
 ghost use Rattle.machine.specs.Encode.{encode};
@@ -19,7 +21,7 @@ use plain_steal::Cpus;
 use switch_ops::Decision;
 
 // CPU k's state, and every CPU.
-#[derive(Drop)]
+#[derive(Clone, Copy)]
 pub struct Loaded {
     pub state: State,
     pub cpus: Cpus,

@@ -1,4 +1,6 @@
 // The scan of the plain engine, by value: every entry in its turn, and flags say what is passed over.
+#![tactic(auto)]
+
 mod judge;
 
 ghost use Rattle.std.specs.Prelude.{◌≡◌, ◌*◌, ◌<◌, ◌≤◌};
@@ -19,7 +21,7 @@ use plain_lists::Queue;
 use select_judge::{Best, MinVtime, Scanner, Visit};
 
 // The records as they are judged, the best entries, the weight given up, and the entries that are to leave.
-#[derive(Drop)]
+#[derive(Clone, Copy)]
 pub struct Scan {
     pub contexts: [Context; 64],
     pub eligible_best: Best,

@@ -1,5 +1,7 @@
 // A decision of the plain engine, by value: the turn, the choice, the stealing and the hand-over.
 // In every function k is the CPU that decides, of c CPUs and n contexts.
+#![tactic(auto)]
+
 ghost use Rattle.std.specs.Prelude.{◌≡◌, false, ◌<◌, ◌≤◌};
 ghost use Rattle.numbers.specs.Limits.{max_number};
 ghost use Rattle.ticks.specs.Ticks.{max_ticks};
@@ -22,7 +24,7 @@ use plain_steal::Cpus;
 use ticks::Spent;
 
 // The state, every CPU (this one as it was), who won or gets the slice (nobody: the holder keeps it), and by which rule.
-#[derive(Drop)]
+#[derive(Clone, Copy)]
 pub struct Next {
     pub state: State,
     pub cpus: Cpus,

@@ -1,4 +1,6 @@
 // What the choice of the plain engine takes out of the queue, by value.
+#![tactic(auto)]
+
 mod held;
 
 ghost use Rattle.std.specs.Prelude.{◌≡◌, map, ◌<◌};
@@ -28,7 +30,7 @@ use plain_state::{Cpu, State};
 use select_judge::{Best, Holder, Scanner};
 
 // Who wins, and the state after the choice.
-#[derive(Drop)]
+#[derive(Clone, Copy)]
 pub struct Selected {
     pub state: State,
     pub choice: Choice,

@@ -1,4 +1,6 @@
 // The state of a decision of the plain engine, by value: the contexts, and the CPU that decides with its lists in any order.
+#![tactic(auto)]
+
 ghost use Rattle.std.specs.Prelude.{◌≡◌, [], ◌∷◌, ◌++◌, map, ◌<◌, ◌≤◌};
 ghost use Rattle.columns.specs.Common.{All, keep};
 ghost use Rattle.entries.specs.declared.Entry.{Entry};
@@ -13,14 +15,14 @@ use percpu::PercpuBlock;
 use plain_lists::Queue;
 
 // A list of contexts by their numbers.
-#[derive(Drop)]
+#[derive(Clone, Copy)]
 pub struct Names {
     pub names: [u64; 64],
     pub len: usize,
 }
 
 // A timer stands in its queue as an entry: its wake is the deadline, its context the id.
-#[derive(Drop)]
+#[derive(Clone, Copy)]
 pub struct Cpu {
     pub block: PercpuBlock,
     pub queue: Queue,
@@ -30,7 +32,7 @@ pub struct Cpu {
     pub remainder: u64,
 }
 
-#[derive(Drop)]
+#[derive(Clone, Copy)]
 pub struct State {
     pub contexts: [Context; 64],
     pub cpu: Cpu,

@@ -9,7 +9,7 @@ ghost use Rattle.plain_steal.specs.Stealing.{cpus_in, CpusSound, CpusBecame};
 
 use plain_state::{Cpu, State};
 
-#[derive(Drop)]
+#[derive(Clone, Copy)]
 pub struct Cpus {
     pub cpus: [Cpu; 4],
 }

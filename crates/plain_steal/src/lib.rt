@@ -1,5 +1,7 @@
 // Stealing of the plain engine, by value: every other CPU is tried in its turn, and a flag says when it is enough.
 // In every function k is the CPU that steals, of c CPUs and n contexts; `runs`: the holder is runnable.
+#![tactic(auto)]
+
 mod counter;
 mod cpus;
 
@@ -26,7 +28,7 @@ use plain_moves::Moving;
 use plain_state::{Cpu, State};
 
 // the state, every CPU (this one as it was), who won, and whether a victim was found
-#[derive(Drop)]
+#[derive(Clone, Copy)]
 pub struct Stealing {
     pub state: State,
     pub cpus: Cpus,

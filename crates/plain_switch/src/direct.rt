@@ -17,7 +17,7 @@ use plain_state::State;
 use runnable::UpdateResult;
 
 // the state, after a switch if one was made
-#[derive(Drop)]
+#[derive(Clone, Copy)]
 pub struct DirectSwitch {
     pub state: State,
     pub switched: bool,

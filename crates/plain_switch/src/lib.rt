@@ -1,5 +1,7 @@
 // `switch_to` of the plain engine, by value: the current context leaves the CPU and another comes.
 // In every function k is the CPU.
+#![tactic(auto)]
+
 mod direct;
 mod records;
 

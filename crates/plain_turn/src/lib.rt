@@ -1,4 +1,6 @@
 // The turn that ends, of the plain engine and by value: the decision is counted, wake-ups are served, the time is kept and the holder pays.
+#![tactic(auto)]
+
 mod holder;
 mod timing;
 
@@ -12,7 +14,7 @@ use plain_state::State;
 use ticks::Spent;
 
 // The state in which the choice is made, the turn as it was charged, and whether the CPU was idle.
-#[derive(Drop)]
+#[derive(Clone, Copy)]
 pub struct Turned {
     pub state: State,
     pub spent: Spent,

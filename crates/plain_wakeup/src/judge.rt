@@ -10,7 +10,7 @@ use entries::Timer;
 use percpu::PercpuBlock;
 
 // A context to be woken; `wake` is that of the timer that gave it, if a timer did.
-#[derive(Drop)]
+#[derive(Clone, Copy)]
 pub struct Wakeup {
     pub by_timer: bool,
     pub wake: u64,

@@ -1,4 +1,6 @@
 // The wake-ups of the plain engine, by value: each timer in its turn, then the local list.
+#![tactic(auto)]
+
 mod drain;
 mod judge;
 mod serve;

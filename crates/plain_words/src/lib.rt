@@ -1,4 +1,6 @@
 // From the words of an image to the structs of the plain engine.
+#![tactic(auto)]
+
 pub mod store;
 
 ghost use Rattle.std.specs.Prelude.{◌≡◌, map, ℕ, ◌+◌, ◌<◌, ◌≤◌, length, get_or, take};

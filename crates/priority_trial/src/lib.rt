@@ -1,5 +1,7 @@
 // One priority tried: stored, with its context put last on the CPU's local list, and a switch made of it on a copy.
 // In every function m is the image of a machine of c CPUs and n contexts.
+#![tactic(auto)]
+
 ghost use Rattle.std.specs.Prelude.{◌≡◌, true, ◌+◌, ◌<◌, ◌≤◌, length};
 ghost use Rattle.machine.specs.Machine.{Machine};
 ghost use Rattle.machine.specs.Encode.{encode, cpu_place};

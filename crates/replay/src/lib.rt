@@ -12,6 +12,8 @@
 // One that begins with r plays writer against rival: CPU, time, writer, rival, rounds, then the image; printed are refusal,
 // forced and choice. One that begins with o looks at two CPUs: these, then the image. A line that begins with # is printed
 // as it is.
+#![tactic(auto)]
+
 mod image;
 mod listed;
 mod text;
@@ -20,7 +22,7 @@ mod windows;
 use libc::STDIN_FILENO;
 
 // How much of the text is at hand, and whether more may come.
-#[derive(Drop)]
+#[derive(Clone, Copy)]
 struct Turn {
     have: usize,
     more: bool,

@@ -6,7 +6,7 @@ use humblest::Humblest;
 use libc::STDOUT_FILENO;
 use rival::Game;
 
-#[derive(Drop)]
+#[derive(Clone, Copy)]
 struct Head {
     cpu: u64,
     time: u64,
@@ -40,7 +40,7 @@ fn read_sizes(s: &[u8], from: usize, cpu: u64, time: u64, named: u64) -> Head {
 }
 
 // A reply that is committed to.
-#[derive(Drop)]
+#[derive(Clone, Copy)]
 struct Given {
     reply: Asked,
     end: usize,
@@ -63,7 +63,7 @@ fn read_reply(s: &[u8], from: usize) -> Given {
 }
 
 // Two contexts, and how many rounds they play.
-#[derive(Drop)]
+#[derive(Clone, Copy)]
 struct Match {
     writer: u64,
     rival: u64,

@@ -6,7 +6,7 @@ use window::Whose;
 // One word more than a window: such a one is refused by its length.
 const LONGEST: usize = window::WINDOW_SIZE + 1;
 
-#[derive(Drop)]
+#[derive(Clone, Copy)]
 struct Head {
     operation: u64,
     cpu: u64,
@@ -31,7 +31,7 @@ fn read_head(s: &[u8], from: usize) -> Head {
 }
 
 // Words that were listed: how many there are, and where the text goes on.
-#[derive(Drop)]
+#[derive(Clone, Copy)]
 struct Listed {
     length: usize,
     end: usize,

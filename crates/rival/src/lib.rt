@@ -1,4 +1,6 @@
 // Writer against rival (document 02, No. 13): whether the writer can force itself into charge, whatever the rival picks.
+#![tactic(auto)]
+
 mod turns;
 
 ghost use Rattle.std.specs.Prelude.{◌≡◌, ◌≤◌, length};
@@ -16,7 +18,7 @@ pub use turns::Parties;
 
 // 0 or the number of its refusal, whether the writer can force itself into charge, and its first winning choice
 #[repr(C)]
-#[derive(Drop)]
+#[derive(Clone, Copy)]
 pub struct Game {
     pub refusal: u64,
     pub forced: u64,

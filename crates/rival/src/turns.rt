@@ -12,7 +12,7 @@ use percpu::places;
 use rounds::Choice;
 
 // how many contexts the image has, the CPU, and the two contexts
-#[derive(Drop)]
+#[derive(Clone, Copy)]
 pub struct Parties {
     pub contexts: usize,
     pub cpu: usize,
@@ -21,7 +21,7 @@ pub struct Parties {
 }
 
 // what a round leads to: the game is over, or it is somebody's turn, the rival's too where neither is in charge
-#[derive(Drop)]
+#[derive(Clone, Copy)]
 enum Next {
     Lost,
     Won,

@@ -1,4 +1,6 @@
 // The calls, of any words: the image is checked, and refused by document 01's number or worked on.
+#![tactic(auto)]
+
 ghost use Rattle.std.specs.Prelude.{◌≡◌};
 ghost use Rattle.context_ops.specs.Reply.{reply};
 ghost use Rattle.calls.specs.Call.{

@@ -1,4 +1,6 @@
 // A round of writer against rival (document 02, No. 13), played on an image of any words.
+#![tactic(auto)]
+
 ghost use Rattle.std.specs.Prelude.{◌≡◌, ◌+◌, ◌≤◌, length};
 ghost use Rattle.context.specs.Words.{record_size};
 ghost use Rattle.machine.specs.Encode.{context_place};
@@ -18,7 +20,7 @@ pub const YIELD_NANOS: u64 = 1_000_000;
 pub const WAKE_NANOS: u64 = 4_500_000;
 
 // what the one in charge does with its round
-#[derive(Drop)]
+#[derive(Clone, Copy)]
 pub enum Choice {
     GoOn,
     Yield,

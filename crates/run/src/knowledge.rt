@@ -15,7 +15,7 @@ const WAIT: u64 = 16;
 
 // Where `known`, the image passes, has so many CPUs and contexts, and no number that a call can raise is over its bound. Else so many calls wait for the
 // next measurement.
-#[derive(Drop)]
+#[derive(Clone, Copy)]
 pub struct Knowledge {
     pub known: bool,
     pub wait: u64,
@@ -24,7 +24,7 @@ pub struct Knowledge {
     pub bounds: Bounds,
 }
 
-#[derive(Drop)]
+#[derive(Clone, Copy)]
 pub struct Made {
     pub answer: Answer,
     pub knowledge: Knowledge,

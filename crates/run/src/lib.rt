@@ -1,4 +1,6 @@
 // A run of calls on one image: each call is on the image that the one before it left.
+#![tactic(auto)]
+
 mod knowledge;
 
 ghost use Rattle.std.specs.Prelude.{◌≡◌, ◌+◌, ◌*◌, ◌≤◌, length};
@@ -13,7 +15,7 @@ pub const CALL_SIZE: usize = 4;
 pub const UNFIT: u64 = u64::MAX;
 
 // A call as the list has it.
-#[derive(Drop)]
+#[derive(Clone, Copy)]
 pub struct Call {
     pub operation: u64,
     pub cpu: u64,

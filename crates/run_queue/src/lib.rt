@@ -1,4 +1,6 @@
 // The run queue in a CPU's block: six columns, sorted by key (`RunContextData` of context/mod.rs, a `BTreeMap` there).
+#![tactic(auto)]
+
 ghost use Rattle.std.specs.Prelude.{◌≡◌, ℕ, ◌<◌, ◌≤◌, length, get_or};
 ghost use Rattle.entries.specs.Order.{entry_before};
 ghost use Rattle.entries.specs.Queue.{queue_remove};

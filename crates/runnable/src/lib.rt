@@ -1,11 +1,13 @@
 // `update_runnable` (context/switch.rs).
+#![tactic(auto)]
+
 ghost use Rattle.std.specs.Prelude.{◌≡◌, ◌&&◌, not, ℕ, ◌<◌, ◌≤◌};
 ghost use Rattle.runnable.specs.Runnable.{update_runnable, wake_has_come};
 
 use context::Context;
 
 // what `update_runnable` says; the record where it can be switched to, woken if its wake has come
-#[derive(Drop)]
+#[derive(Clone, Copy)]
 pub enum UpdateResult {
     CanSwitch(Context),
     Skip,

@@ -13,7 +13,7 @@ ghost use Rattle.stages.specs.Bounds.{t_timed, b_woken};
 use ticks::Spent;
 use turn::Turn;
 
-#[derive(Drop)]
+#[derive(Clone, Copy)]
 pub struct Begun {
     // a wake-up found no room
     pub full: bool,

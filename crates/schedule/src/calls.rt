@@ -17,7 +17,7 @@ use answer::SwitchResult;
 use switch_to::DirectSwitch;
 
 // What a tick came to: no switch was due, or the switch.
-#[derive(Drop)]
+#[derive(Clone, Copy)]
 pub enum Ticked {
     NotDue,
     Due(Decided),

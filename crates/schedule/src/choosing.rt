@@ -33,7 +33,7 @@ pub fn prev_runnable(m: &[u64], c: usize, n: usize, k: usize) -> bool
 }
 
 // Who won after the stealing, and by which rule.
-#[derive(Drop)]
+#[derive(Clone, Copy)]
 pub struct Chosen {
     // an insertion found no room
     pub full: bool,

@@ -1,4 +1,6 @@
 // The decisions: `schedule` and the calls that decide, over the stages.
+#![tactic(auto)]
+
 mod beginning;
 mod calls;
 mod choosing;

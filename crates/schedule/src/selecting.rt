@@ -16,7 +16,7 @@ use answer::Rule;
 use picked::Picked;
 use ticks::Spent;
 
-#[derive(Drop)]
+#[derive(Clone, Copy)]
 pub struct Next {
     // an insertion found no room
     pub full: bool,

@@ -24,7 +24,7 @@ use switch_to::DirectSwitch;
 
 // Whether an insertion found no room, what the switch came to, and the number of its rule, 0 where nothing was decided;
 // without room these say nothing.
-#[derive(Drop)]
+#[derive(Clone, Copy)]
 pub struct Decided {
     pub full: bool,
     pub result: SwitchResult,

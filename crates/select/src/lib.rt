@@ -1,5 +1,7 @@
 // The scan of a CPU's queue, the clean-up after it, and the choice of who runs next (`select_next_context` of context/switch.rs).
 // In every function m is the image of a machine of c CPUs and n contexts.
+#![tactic(auto)]
+
 mod choice;
 mod clean_up;
 mod read;

@@ -1,4 +1,6 @@
 // The scan and the choice by value: an entry judged, the best so far, the holder, and who goes first (`select_next_context` of context/switch.rs).
+#![tactic(auto)]
+
 mod choice;
 mod judge;
 mod prev;
@@ -12,21 +14,21 @@ use picked::Picked;
 pub use prev::{holder_of, ineligible_holder};
 
 // A least vtime, if there is one.
-#[derive(Drop)]
+#[derive(Clone, Copy)]
 pub enum MinVtime {
     Nobody,
     At(u64),
 }
 
 // The best entry so far, if there is one.
-#[derive(Drop)]
+#[derive(Clone, Copy)]
 pub enum Best {
     Nobody,
     Found(Entry),
 }
 
 // What an entry is to the scan; the record that is stored, if it changes.
-#[derive(Drop)]
+#[derive(Clone, Copy)]
 pub enum Visit {
     Pass,
     Gone,
@@ -36,7 +38,7 @@ pub enum Visit {
 }
 
 // What the scan goes by: the CPU, the time, words of the CPU's block, and the vtime of a runnable holder that is not eligible.
-#[derive(Drop)]
+#[derive(Clone, Copy)]
 pub struct Scanner {
     pub cpu_id: u64,
     pub time: u64,
@@ -48,7 +50,7 @@ pub struct Scanner {
 }
 
 // The context in charge before the decision, as the choice sees it.
-#[derive(Drop)]
+#[derive(Clone, Copy)]
 pub struct Holder {
     pub runnable: bool,
     pub eligible: bool,
@@ -60,7 +62,7 @@ pub struct Holder {
 }
 
 // What the scan has found; the keys to remove are in a scratch slice, three words a key, and counted here.
-#[derive(Drop)]
+#[derive(Clone, Copy)]
 pub struct Scanned {
     pub eligible_best: Best,
     pub ineligible_best: Best,
@@ -70,7 +72,7 @@ pub struct Scanned {
 
 // Who won, V, the context that the decision keeps locked besides the holder and the winner, and the rule, which is Idle
 // where nobody waits.
-#[derive(Drop)]
+#[derive(Clone, Copy)]
 pub struct Selected {
     pub winner: Picked,
     pub v: u64,

@@ -1,4 +1,6 @@
 // A cue is put into a slot of a board.
+#![tactic(auto)]
+
 mod row;
 
 ghost use Rattle.std.specs.Prelude.{◌≡◌, ◌<◌, ◌≤◌, length};

@@ -1,5 +1,7 @@
 // What the stages of a decision are made of, in place on the image: the scalars of a CPU's block, a context's record, and
 // the insertions and removals. In every function m is the image of a machine of c CPUs and n contexts, and k is the CPU.
+#![tactic(auto)]
+
 mod block;
 
 ghost use Rattle.std.specs.Prelude.{◌≡◌, Bool, true, false, ℕ, ◌+◌, ◌*◌, ◌<◌, ◌≤◌, length, get_or};

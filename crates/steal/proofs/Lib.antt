@@ -3,7 +3,7 @@ pub mod Round
 pub mod Offered
 pub mod Blocks
 pub mod Victims
-pub mod Moved
+pub mod AfterMove
 pub mod Movable
 pub mod Stolen
 pub mod Apart

@@ -1,5 +1,7 @@
 // Work stealing from other CPUs (`select_next_context`, context/switch.rs), in place on the image.
 // In every function m is the image of a machine of c CPUs and n contexts, k is this CPU and t the victim.
+#![tactic(auto)]
+
 mod block;
 mod cpu;
 mod moving;

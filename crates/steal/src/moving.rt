@@ -21,7 +21,7 @@ use picked::Picked;
 use steal_judge::Candidates;
 
 // who won, and whether an insertion found no room
-#[derive(Drop)]
+#[derive(Clone, Copy)]
 pub struct Moved {
     pub winner: Picked,
     pub full: bool,

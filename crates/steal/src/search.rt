@@ -17,7 +17,7 @@ use picked::Picked;
 use steal_judge::{Candidates, Locked};
 
 // a CPU and the entries that are stolen from it
-#[derive(Drop)]
+#[derive(Clone, Copy)]
 pub struct Victim {
     pub cpu: usize,
     pub got: Candidates,

@@ -1,4 +1,6 @@
 // Work stealing judged by value (`select_next_context`, context/switch.rs).
+#![tactic(auto)]
+
 pub mod stolen;
 pub mod victim;
 
@@ -17,14 +19,14 @@ const STEAL_INTERVAL: u64 = 16;
 const IDLE_STEAL_INTERVAL: u64 = 2;
 
 // the contexts that the decision keeps locked, the winner aside: the holder, and the best entry that was not eligible
-#[derive(Drop)]
+#[derive(Clone, Copy)]
 pub struct Locked {
     pub sched_ctxt: usize,
     pub best: Picked,
 }
 
 // the entries found so far, at most two
-#[derive(Drop)]
+#[derive(Clone, Copy)]
 pub enum Candidates {
     Nothing,
     Single(Entry),

@@ -1,5 +1,7 @@
 // Operations 1 to 3 on an image that was checked: `tick`, `switch` and `direct_switch_to`.
 // In every function m is the image of a machine of c CPUs and n contexts.
+#![tactic(auto)]
+
 ghost use Rattle.std.specs.Prelude.{◌≡◌, ℕ, ◌+◌, ◌<◌, ◌≤◌, ltb, length};
 ghost use Rattle.machine.specs.Machine.{Machine, cpu_at};
 ghost use Rattle.machine.specs.Encode.{encode};
@@ -18,7 +20,7 @@ use machine::{CpuLookup, Lookup};
 use percpu::places;
 use schedule::{Decided, Ticked};
 
-#[derive(Drop)]
+#[derive(Clone, Copy)]
 pub enum Decision {
     Tick,
     Switch,
@@ -26,7 +28,7 @@ pub enum Decision {
 }
 
 fn accepted(res: u64, rule: u64) -> Answer
-    ensures* { λ r. ⌜ r ≡ record { refusal = 0; result = res; interrupt = 0; rule = rule } ⌝ }
+    ensures { result ≡ record { refusal = 0; result = res; interrupt = 0; rule = rule } }
 {
     Answer {
         refusal: 0,
@@ -37,7 +39,7 @@ fn accepted(res: u64, rule: u64) -> Answer
 }
 
 // whether an insertion found no room, and the numbers of the result and of the rule
-#[derive(Drop)]
+#[derive(Clone, Copy)]
 struct Followed {
     full: bool,
     result: u64,

@@ -12,7 +12,7 @@ ghost use Rattle.stages.specs.Bounds.{t_handed, b_advanced};
 use context::Context;
 use runnable::UpdateResult;
 
-#[derive(Drop)]
+#[derive(Clone, Copy)]
 pub enum DirectSwitch {
     NotSwitched,
     Switched,

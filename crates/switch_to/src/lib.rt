@@ -1,5 +1,7 @@
 // `switch_to`: the current context leaves the CPU and another comes.
 // In every function m is the image of a machine of c CPUs and n contexts, and k is the CPU.
+#![tactic(auto)]
+
 mod direct;
 mod records;
 

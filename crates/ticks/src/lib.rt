@@ -1,4 +1,6 @@
 // Elapsed nanoseconds in scaled ticks. What a division leaves over is carried to the next one.
+#![tactic(auto)]
+
 ghost use Rattle.std.specs.Prelude.{◌≡◌, ℕ, ◌-◌, ◌<◌, ◌≤◌};
 ghost use Rattle.ticks.specs.Ticks.{converted, max_ticks, max_remainder};
 ghost use Rattle.numbers.specs.Limits.{max_elapsed};
@@ -15,14 +17,14 @@ pub const NANOS_PER_TICK: u64 = 2_250_000;
 pub const MAX_REMAINDER: u64 = NANOS_PER_TICK - 1;
 
 // A turn: its nanoseconds, and the scaled ticks that they are converted to.
-#[derive(Drop)]
+#[derive(Clone, Copy)]
 pub struct Spent {
     pub elapsed: u64,
     pub ticks: u64,
 }
 
 // What a conversion gives: the ticks, and what the next one carries.
-#[derive(Drop)]
+#[derive(Clone, Copy)]
 pub struct Converted {
     pub ticks: u64,
     pub remainder: u64,

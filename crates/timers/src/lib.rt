@@ -1,4 +1,6 @@
 // The timers in a CPU's block: two columns, sorted by wake and context (a `BTreeSet` in context/mod.rs).
+#![tactic(auto)]
+
 ghost use Rattle.std.specs.Prelude.{◌≡◌, ℕ, ◌+◌, ◌-◌, ◌<◌, ◌≤◌, length, get_or};
 ghost use Rattle.columns.specs.Columns.{remove_at};
 ghost use Rattle.entries.specs.Order.{sooner, is_due};

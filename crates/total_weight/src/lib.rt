@@ -1,5 +1,7 @@
 // The weight of a CPU, added up from its queue entries and the context in charge.
 // In every function m is the image of a machine of c CPUs and n contexts.
+#![tactic(auto)]
+
 ghost use Rattle.std.specs.Prelude.{◌≡◌, ◌*◌, ◌<◌, ◌≤◌, length, get_or};
 ghost use Rattle.weights.specs.Weights.{max_weight};
 ghost use Rattle.percpu.specs.Places.{block_size, queue_count};

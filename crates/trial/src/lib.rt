@@ -1,4 +1,6 @@
 // A switch for trial: on a copy of the image, or on words that the caller can put back. Nothing is saved for refusal 9, so words are copied at most once.
+#![tactic(auto)]
+
 ghost use Rattle.std.specs.Prelude.{◌≡◌, ◌<◌, ◌≤◌, length, take};
 ghost use Rattle.machine.specs.Machine.{Machine};
 ghost use Rattle.machine.specs.Encode.{encode, max_image_size};

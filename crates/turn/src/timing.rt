@@ -17,7 +17,7 @@ use percpu::PercpuBlock;
 use ticks::Spent;
 
 // the time since the CPU's last decision, and whether its state was Idle
-#[derive(Drop)]
+#[derive(Clone, Copy)]
 pub struct Turn {
     pub spent: Spent,
     pub was_idle: bool,

@@ -1,6 +1,8 @@
 // The wake-up stage of `schedule` (context/switch.rs): due timers and the local list.
 // In every function m is the image of a machine of c CPUs and n contexts, and k is the CPU. A function that returns a truth
 // returns whether there is no room; the image is then of no interest.
+#![tactic(auto)]
+
 mod enter;
 
 ghost use Rattle.std.specs.Prelude.{◌≡◌, ◌<◌, ◌≤◌, length};

@@ -1,4 +1,6 @@
 // A wake-up of a decision judged by value (`schedule`, context/switch.rs): what it comes to, and the record that enters the queue.
+#![tactic(auto)]
+
 ghost use Rattle.std.specs.Prelude.{◌≡◌, false, ◌≢◌, ◌<◌};
 ghost use Rattle.model.specs.Wakeup.{waits_for, woken_by, entering};
 ghost use Rattle.wakeup_judge.specs.Judge.{live_at, unreadable_at, wake_of, may_enter_at, judged, activated_block, Enterable};
@@ -9,7 +11,7 @@ use entries::Timer;
 use percpu::PercpuBlock;
 
 // A context to be woken; `wake` is that of the timer that gave it, if a timer did.
-#[derive(Drop)]
+#[derive(Clone, Copy)]
 pub struct Wakeup {
     pub by_timer: bool,
     pub wake: u64,
@@ -17,7 +19,7 @@ pub struct Wakeup {
 }
 
 // what a wake-up comes to, with the record that is stored
-#[derive(Drop)]
+#[derive(Clone, Copy)]
 pub enum WakeupResult {
     Dropped,
     Locked,

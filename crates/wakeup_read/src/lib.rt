@@ -1,5 +1,7 @@
 // The wake-ups of a decision read into a scratch, and taken out of the timers and the local list.
 // In every function m is the image of a machine of c CPUs and n contexts, and k is the CPU; d is the scratch, three words a wake-up.
+#![tactic(auto)]
+
 mod scratch;
 mod take_out;
 

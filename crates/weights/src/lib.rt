@@ -1,4 +1,6 @@
 // Weights by priority (`SCHED_PRIO_TO_WEIGHT`), and the whole slice of each priority.
+#![tactic(auto)]
+
 ghost use Rattle.std.specs.Prelude.{◌≡◌, ℕ, ◌<◌, ◌≤◌};
 ghost use Rattle.weights.specs.Weights.{weight, whole_slice, min_weight, max_weight, max_whole_slice};
 

@@ -1,4 +1,6 @@
 // A window: the last decisions of one CPU, 256 at most, oldest first.
+#![tactic(auto)]
+
 ghost use Rattle.std.specs.Prelude.{◌≡◌, ◌≤◌, ◌<◌, length, get_or};
 ghost use Rattle.columns.specs.Common.{every};
 ghost use Rattle.window.specs.Window.{
@@ -30,14 +32,14 @@ pub const TIMES: usize = CONTEXTS + CAPACITY;
 pub const WINDOW_SIZE: usize = TIMES + CAPACITY;
 
 // A decision: the context in charge before it, and the nanoseconds since the one before.
-#[derive(Drop)]
+#[derive(Clone, Copy)]
 pub struct Record {
     pub context: u64,
     pub time: u64,
 }
 
 // Whose time is added up.
-#[derive(Drop)]
+#[derive(Clone, Copy)]
 pub enum Whose {
     Context(u64),
     All,

@@ -1,4 +1,6 @@
 // Copying words.
+#![tactic(auto)]
+
 ghost use Rattle.std.specs.Prelude.{◌≡◌, ◌≤◌, length, take};
 
 pub fn copy(from: &[u64], to: &mut [u64], len: usize)

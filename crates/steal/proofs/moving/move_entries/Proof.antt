@@ -1,5 +1,5 @@
 use Rattle.steal.proofs.Victims.{moves_none}
-use Rattle.steal.proofs.Moved.{moved_nothing, moved_single, moved_pair, fits_single, fits_pair}
+use Rattle.steal.proofs.AfterMove.{moved_nothing, moved_single, moved_pair, fits_single, fits_pair}
 use Rattle.steal.proofs.Movable.{movable_first}
 use borrow.Author.Rules.{rules}
 use Rattle.steal.proofs.moving.move_entries.Statement.{statement}

@@ -1,7 +1,7 @@
 use mathlib.Core.Path.{refl}
 use Rattle.model.specs.Steal.{give_up}
 use Rattle.percpu.specs.Cpu.{Cpu}
-use Rattle.steal.proofs.Moved.{entry_moved}
+use Rattle.steal.proofs.AfterMove.{entry_moved}
 use Rattle.steal.proofs.Movable.{weight_small}
 use native.Mathlib.Omega.{arith}
 use borrow.Author.Rules.{rules}

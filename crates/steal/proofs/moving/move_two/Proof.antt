@@ -1,6 +1,6 @@
 use Rattle.model.specs.Steal.{Moving, move_entry}
 use Rattle.steal.proofs.Victims.{moves_then, moves_full}
-use Rattle.steal.proofs.Moved.{move_stays_full}
+use Rattle.steal.proofs.AfterMove.{move_stays_full}
 use Rattle.steal.proofs.Movable.{movable_first, movable_second}
 use borrow.Author.Rules.{rules}
 use Rattle.steal.proofs.moving.move_two.Statement.{statement}

@@ -1,5 +1,5 @@
 use mathlib.Core.Path.{refl}
-use Rattle.steal.proofs.Moved.{keyed_fits, entry_fits, queued}
+use Rattle.steal.proofs.AfterMove.{keyed_fits, entry_fits, queued}
 use native.Mathlib.Omega.{arith}
 use borrow.Author.Rules.{rules}
 use Rattle.steal.proofs.moving.queue_in.Statement.{statement}

@@ -1,4 +1,4 @@
-use Rattle.steal.proofs.Moved.{stolen_fits, stolen_as}
+use Rattle.steal.proofs.AfterMove.{stolen_fits, stolen_as}
 use Rattle.steal.proofs.Movable.{movable_sum}
 use borrow.Author.Rules.{rules}
 use Rattle.steal.proofs.moving.stolen.Statement.{statement}

@@ -1,4 +1,4 @@
-use Rattle.steal.proofs.Moved.{first_in, later_in}
+use Rattle.steal.proofs.AfterMove.{first_in, later_in}
 use native.Mathlib.Omega.{arith}
 use borrow.Author.Rules.{rules}
 use Rattle.steal.proofs.moving.take_in.Statement.{statement}
