@@ -1,0 +1,6 @@
+use Rattle.context.specs.Words.{context_of}
+use Rattle.context.proofs.record.load_context.Goals as goal
+
+pub returns : goal.returns
+unfolding context_of
+returns c = rw c.status_of-status.ensures

@@ -1,0 +1,18 @@
+use Rattle.machine.proofs.Steps.{sized}
+use Rattle.words.proofs.Copied.{put_back}
+use Rattle.group_ops.proofs.Reaching.{given_up, accepted}
+use native.Mathlib.Omega.{arith}
+use borrow.Author.Rules.{rules}
+use Rattle.group_ops.proofs.with_copy.Goals as goal
+
+pub copy-requires : goal.copy-requires
+copy-requires c = omega (arith, sized c.requires.image)
+
+pub copy-requires-then-a-ne0 : goal.copy-requires-then-a-ne0
+copy-requires-then-a-ne0 c = omega (arith, sized c.requires.image)
+
+pub returns-then-a-ne0 : goal.returns-then-a-ne0
+returns-then-a-ne0 c = λ M e o. given_up _ (c.unblock_each-a.ensures M e o) c.if-a-ne0.true c.refused.ensures (put_back _ _ _ c.copy.ensures c.copy-then-a-ne0.ensures (search rules))
+
+pub returns : goal.returns
+returns c = λ M e o. accepted _ (c.unblock_each-a.ensures M e o) c.if-a-ne0.false

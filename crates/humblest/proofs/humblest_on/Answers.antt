@@ -1,0 +1,24 @@
+use Rattle.humblest.proofs.Finding.{checked_image, fits_longest, not_candidate, ready, searched}
+use lib.ListN.{length-take, length-drop}
+use native.Mathlib.Omega.{arith}
+use Rattle.humblest.proofs.humblest_on.Goals as goal
+
+-- src/lib.rt:58:9
+pub candidate-who-requires : goal.candidate-who-requires
+candidate-who-requires c = checked_image _ _ c.requires
+
+-- src/lib.rt:64:27
+pub slice_bounds-copy-end : goal.slice_bounds-copy-end
+slice_bounds-copy-end c = omega (arith, fits_longest _ _ c.requires)
+
+-- src/lib.rt:64:13
+pub search-requires : goal.search-requires
+search-requires c = record { ready = ready _ _ c.requires _ _ _ c.candidate-who.ensures _ _ c.in-Found.is; copy_len = simp (length-take, length-drop) (omega (arith, fits_longest _ _ c.requires)) }
+
+-- src/lib.rt:54:1
+pub returns-in-Refused : goal.returns-in-Refused
+returns-in-Refused c = not_candidate _ _ c.requires _ _ _ c.candidate-who.ensures _ c.in-Refused.is c.refused.ensures
+
+-- src/lib.rt:54:1
+pub returns-in-Found : goal.returns-in-Found
+returns-in-Found c = searched _ _ c.requires _ _ _ c.candidate-who.ensures _ _ c.in-Found.is c.search.ensures

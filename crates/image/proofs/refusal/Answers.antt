@@ -1,0 +1,24 @@
+use Rattle.image.proofs.Admitted.{bounded}
+use Rattle.image.specs.Refusal.{image_refusal}
+use borrow.Author.Tests.{lt-ltb, le-ltb, not-true, not-false}
+use mathlib.Core.Path.{sym, ◌∙◌}
+use Rattle.image.proofs.refusal.Goals as goal
+
+pub returns-then-m-lt2 : goal.returns-then-m-lt2
+unfolding image_refusal
+returns-then-m-lt2 c = rw (lt-ltb _ 2 c.if-m-lt2.true)
+
+pub returns-then-not-in_bounds : goal.returns-then-not-in_bounds
+unfolding image_refusal
+returns-then-not-in_bounds c = rw (le-ltb _ 2 c.if-m-lt2.false, sym c.in_bounds.ensures ∙ not-true _ c.if-not-in_bounds.true)
+
+pub returns-then-not-in_bounds-2 : goal.returns-then-not-in_bounds-2
+unfolding image_refusal
+returns-then-not-in_bounds-2 c = rw (le-ltb _ 2 c.if-m-lt2.false, sym c.in_bounds.ensures ∙ not-false _ c.if-not-in_bounds.false, sym c.in_bounds-2.ensures ∙ not-true _ c.if-not-in_bounds-2.true)
+
+pub sized_refusal-requires : goal.sized_refusal-requires
+sized_refusal-requires c = let a = bounded _ 4 (sym c.in_bounds.ensures ∙ not-false _ c.if-not-in_bounds.false) in let b = bounded _ 64 (sym c.in_bounds-2.ensures ∙ not-false _ c.if-not-in_bounds-2.false) in (c.if-m-lt2.false, a.1, b.0, b.1)
+
+pub returns : goal.returns
+unfolding image_refusal
+returns c = rw (le-ltb _ 2 c.if-m-lt2.false, sym c.in_bounds.ensures ∙ not-false _ c.if-not-in_bounds.false, sym c.in_bounds-2.ensures ∙ not-false _ c.if-not-in_bounds-2.false) c.sized_refusal.ensures

@@ -1,0 +1,10 @@
+use Rattle.switch_to.proofs.Recorded.{left_idle, left_other}
+use Rattle.plain_switch.proofs.records.leave.Goals as goal
+
+-- src/records.rt:36:9
+pub returns-then-b : goal.returns-then-b
+returns-then-b c = left_idle c.args.b c.args.q c.args.time c.if-b.true
+
+-- src/records.rt:29:1
+pub returns : goal.returns
+returns c = left_other c.args.b c.args.q c.args.time _ c.if-b.false c.saturating_sub-elapsed.ensures

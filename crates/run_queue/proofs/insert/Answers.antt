@@ -1,0 +1,14 @@
+-- `run_queue::insert` meets its contract. Assumes nothing.
+use mathlib.Core.Path.{refl}
+use Rattle.run_queue.proofs.Table.{queue_table, queue_lies}
+use Rattle.table.proofs.Sorted.{puts}
+use Rattle.table.proofs.Tables.{row}
+use Rattle.table.specs.Keys.{key_at}
+use Rattle.percpu.specs.Layout.{entry_at}
+use Rattle.entries.specs.Order.{entry_before}
+use Rattle.entries.proofs.Ordered.{entries_ordered}
+use Rattle.run_queue.proofs.insert.Goals as goal
+
+pub returns : goal.returns
+unfolding row key_at entry_at
+returns c = λ k hb g u. puts queue_table queue_lies entry_before entries_ordered c.args.e c.args.b.now _ _ _ refl c.find-p.ensures.1 c.holds-held.ensures.0 k hb g u _ _ c.put.ensures.0 c.put.ensures.1

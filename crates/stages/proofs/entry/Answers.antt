@@ -1,0 +1,14 @@
+use Rattle.stages.proofs.Lent.{queue_small, entry_read}
+use Rattle.machine.proofs.Steps.{sized}
+use native.Mathlib.Omega.{arith}
+use borrow.Author.Rules.{rules}
+use Rattle.stages.proofs.entry.Goals as goal
+
+pub slice_bounds-entry-end : goal.slice_bounds-entry-end
+slice_bounds-entry-end c = omega (arith, sized c.requires.image)
+
+pub entry-requires : goal.entry-requires
+entry-requires c = (search rules, omega (arith, queue_small c.requires.image _ c.requires.k_lt_c.0))
+
+pub returns : goal.returns
+returns c = entry_read c.requires.image _ _ c.cpu_place-at.ensures c.requires.k_lt_c.0 c.requires.k_lt_c.1 _ c.entry.ensures

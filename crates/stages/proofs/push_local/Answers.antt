@@ -1,0 +1,10 @@
+use Rattle.stages.proofs.Lent.{staged_name}
+use Rattle.machine.proofs.Steps.{sized}
+use native.Mathlib.Omega.{arith}
+use Rattle.stages.proofs.push_local.Goals as goal
+
+pub slice_bounds-push_local-end : goal.slice_bounds-push_local-end
+slice_bounds-push_local-end c = omega (arith, sized c.requires.image)
+
+pub returns : goal.returns
+returns c = staged_name c.requires.image _ c.cpu_place-at.ensures c.requires.k_lt_c.0 _ _ _ _ c.requires.k_lt_c.1 c.word-name.ensures c.push_local.ensures

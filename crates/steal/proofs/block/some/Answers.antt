@@ -1,0 +1,8 @@
+use borrow.Author.Tests.{eq-eqb, ne_eqb}
+use Rattle.steal.proofs.block.some.Goals as goal
+
+pub returns-then-len-eq0 : goal.returns-then-len-eq0
+returns-then-len-eq0 c = rw (eq-eqb _ 0 c.if-len-eq0.true)
+
+pub returns : goal.returns
+returns c = rw (ne_eqb _ 0 c.if-len-eq0.false)

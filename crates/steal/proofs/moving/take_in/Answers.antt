@@ -1,0 +1,15 @@
+use Rattle.steal.proofs.AfterMove.{first_in, later_in}
+use native.Mathlib.Omega.{arith}
+use Rattle.steal.proofs.moving.take_in.Goals as goal
+
+pub store_context-requires : goal.store_context-requires
+store_context-requires c = record { image = c.requires.image; k_lt_c = (c.requires.k_lt_c.0, omega (arith, c.requires.k_lt_c.1.name, c.index-x.ensures)); context_fits = c.requires.context_fits }
+
+pub returns-then-first_wins : goal.returns-then-first_wins
+returns-then-first_wins c = first_in c.args.e c.args.q c.args.runs c.args.w c.store_context.ensures c.index-x.ensures c.first_wins.ensures c.if-first_wins.true
+
+pub queue_in-full-requires : goal.queue_in-full-requires
+queue_in-full-requires c = record { image = c.requires.image; k_lt_c = (c.requires.k_lt_c.0, c.requires.k_lt_c.1, c.index-x.ensures); context_fits = c.requires.context_fits }
+
+pub returns : goal.returns
+returns c = later_in c.args.e c.args.q c.args.runs c.args.w c.queue_in-full.ensures c.first_wins.ensures c.if-first_wins.false

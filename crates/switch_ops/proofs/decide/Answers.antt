@@ -1,0 +1,12 @@
+use Rattle.context_ops.proofs.Resolved.{present_below}
+use Rattle.switch_ops.proofs.Answered.{absent, present_on}
+use Rattle.switch_ops.proofs.decide.Goals as goal
+
+pub decide_on-requires : goal.decide_on-requires
+decide_on-requires c = record { image = c.requires.image; k_lt_c = (present_below c.requires.image _ _ _ c.get_percpu_block-p.ensures c.in-Present.is, c.requires.time_le_max_number); target_below = c.requires.target_below; ranged = c.requires.ranged }
+
+pub returns-in-Present : goal.returns-in-Present
+returns-in-Present c = λ M e o. present_on _ M _ _ _ _ (c.get_percpu_block-p.ensures M e o) _ c.in-Present.is (c.decide_on.ensures M e o)
+
+pub returns-in-Absent : goal.returns-in-Absent
+returns-in-Absent c = λ M e o. absent _ M _ _ _ _ (c.get_percpu_block-p.ensures M e o) c.in-Absent.is c.refused.ensures

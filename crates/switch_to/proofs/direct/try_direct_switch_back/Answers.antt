@@ -1,0 +1,13 @@
+-- `switch_to::direct::try_direct_switch_back` meets its contract. Assumes nothing.
+use Rattle.stages.proofs.Reading.{sched_named}
+use Rattle.switch_to.proofs.Directly.{in_charge, switched_back}
+use Rattle.switch_to.proofs.direct.try_direct_switch_back.Goals as goal
+
+pub returns-then-b : goal.returns-then-b
+returns-then-b c = in_charge _ c.args.time _ c.load_block-b.ensures c.if-b.true c.requires.image
+
+pub direct_switch_by-requires : goal.direct_switch_by-requires
+direct_switch_by-requires c = record { image = c.requires.image; k_lt_c = (c.requires.k_lt_c.0, sched_named _ _ c.load_block-b.ensures _ c.index-x.ensures c.requires.image c.requires.k_lt_c.0, c.requires.k_lt_c.1); ranged = c.requires.ranged }
+
+pub returns : goal.returns
+returns c = switched_back _ c.args.time _ c.load_block-b.ensures _ c.if-b.false c.index-x.ensures c.direct_switch_by.ensures

@@ -1,0 +1,6 @@
+-- `switch_to::records::become_current` meets its contract. Assumes nothing.
+use Rattle.switch_to.proofs.Recorded.{current_as}
+use Rattle.switch_to.proofs.records.become_current.Goals as goal
+
+pub returns : goal.returns
+returns c = current_as c.args.b c.args.q _ _ _ _ _ c.state_in-state.ensures c.update-stats.ensures c.with_stats-r.ensures c.word.ensures

@@ -1,0 +1,5 @@
+-- `turn::counting::counted` meets its contract. Assumes nothing.
+use Rattle.turn.proofs.counting.counted.Goals as goal
+
+pub returns : goal.returns
+returns c = rw (c.with_stats-r.ensures, c.update-stats.ensures)

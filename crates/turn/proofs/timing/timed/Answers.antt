@@ -1,0 +1,5 @@
+-- `turn::timing::timed` meets its contract. Assumes nothing.
+use Rattle.turn.proofs.timing.timed.Goals as goal
+
+pub returns : goal.returns
+returns c = rw (c.with_stats-r.ensures, c.update-stats.ensures)

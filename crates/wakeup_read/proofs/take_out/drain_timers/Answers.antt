@@ -1,0 +1,16 @@
+use mathlib.Core.Path.{refl}
+use Rattle.wakeup_read.proofs.Draining.{drains_start, drains_long, drains_next, drains_end}
+use native.Mathlib.Omega.{arith}
+use Rattle.wakeup_read.proofs.take_out.drain_timers.Goals as goal
+
+pub loop-i-init : goal.loop-i-init
+loop-i-init c = (refl, drains_start _ _ c.requires.k_lt_c.0 c.requires.image c.due-i.ensures.2)
+
+pub take_timer-requires : goal.take_timer-requires
+take_timer-requires c = record { image = c.loop-i.invariant.1.staged.image refl; k_lt_c = (c.requires.k_lt_c.0, drains_long c.requires.k_lt_c.0 c.loop-i.invariant.1 (omega arith) c.requires.image) }
+
+pub loop-i-preserved : goal.loop-i-preserved
+loop-i-preserved c = (omega (arith, c.loop-i.invariant.0), drains_next c.requires.k_lt_c.0 c.loop-i.invariant.1 (omega arith) c.take_timer.ensures)
+
+pub returns : goal.returns
+returns c = drains_end c.loop-i.invariant.1 (omega arith)
