@@ -1,6 +1,1 @@
 pub mod States
-pub mod Slot
-pub mod Operation
-pub mod Method
-pub mod Borrower
-pub mod Lender

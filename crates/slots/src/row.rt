@@ -1,5 +1,5 @@
 // A row, with zeros behind it.
-ghost use Rattle.std.specs.Prelude.{◌≡◌, ◌++◌, ◌+◌, ◌-◌, ◌≤◌, length, take, replicate};
+ghost use Rattle.std.specs.Prelude.{◌≡◌, ◌++◌, ◌+◌, ◌-◌, ◌≤◌, length, take, drop, replicate};
 ghost use Rattle.board.specs.Board.{row_size, padded};
 ghost use Rattle.columns.specs.Blocks.{splice};
 
@@ -17,11 +17,22 @@ fn clear(w: &mut [u8], from: usize)
     }
 }
 
+// Copies `from` to the front of `to`, and says how long it is.
+fn copy(from: &[u8], to: &mut [u8]) -> usize
+    requires { length from.now ≤ length to.old }
+    ensures count { result ≡ length from.now }
+    ensures copied { to.new ≡ take (length from.now) from.now ++ drop (length from.now) to.old }
+{
+    let n = from.len();
+    to[..n].copy_from_slice(from);
+    n
+}
+
 fn fill(w: &mut [u8], row: &[u8])
     requires { (length w.old ≡ row_size) × (length row.now ≤ row_size) }
     ensures { w.new ≡ padded row.now }
 {
-    let n = bytes::copy(row, w);
+    let n = copy(row, w);
     clear(w, n);
 }
 

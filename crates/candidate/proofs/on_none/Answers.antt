@@ -16,11 +16,11 @@ not_on-requires c = record { image = c.requires; k_lt_c = omega arith }
 
 -- src/lib.rt:57:13
 pub returns-then-not-not_on : goal.returns-then-not-not_on
-returns-then-not-not_on c = λ M e o. one_on _ M o _ c.loop-k-test.true _ (c.not_on.ensures M e o) (not-true _ c.if-not-not_on.true)
+returns-then-not-not_on c = λ M e o. one_on _ M o _ c.loop-k-test.true _ (c.not_on.ensures M e o) c.if-not-not_on.true
 
 -- src/lib.rt:55:5
 pub loop-k-preserved : goal.loop-k-preserved
-loop-k-preserved c = (omega arith, λ M e o. one_off _ M o _ _ (c.not_on.ensures M e o) (not-false _ c.if-not-not_on.false) (c.loop-k.invariant.1 M e o))
+loop-k-preserved c = (omega arith, λ M e o. one_off _ M o _ _ (c.not_on.ensures M e o) c.if-not-not_on.false (c.loop-k.invariant.1 M e o))
 
 -- src/lib.rt:50:1
 pub returns : goal.returns

@@ -9,8 +9,8 @@ returns-then-time-gt-MAX_NUMBER c = rw (lt-leb _ _ c.if-time-gt-MAX_NUMBER.true)
 
 pub returns-then-not-contexts_in_range : goal.returns-then-not-contexts_in_range
 unfolding ranges ranges_to
-returns-then-not-contexts_in_range c = rw (le-leb _ _ c.if-time-gt-MAX_NUMBER.false, ← c.index-n.ensures, sym c.contexts_in_range.ensures ∙ not-true _ c.if-not-contexts_in_range.true)
+returns-then-not-contexts_in_range c = rw (le-leb _ _ c.if-time-gt-MAX_NUMBER.false, ← c.index-n.ensures, sym c.contexts_in_range.ensures ∙ c.if-not-contexts_in_range.true)
 
 pub returns : goal.returns
 unfolding ranges ranges_to
-returns c = rw (le-leb _ _ c.if-time-gt-MAX_NUMBER.false, ← c.index-n.ensures, sym c.contexts_in_range.ensures ∙ not-false _ c.if-not-contexts_in_range.false) (rw (← c.index-c.ensures) c.blocks_in_range.ensures)
+returns c = rw (le-leb _ _ c.if-time-gt-MAX_NUMBER.false, ← c.index-n.ensures, sym c.contexts_in_range.ensures ∙ c.if-not-contexts_in_range.false) (rw (← c.index-c.ensures) c.blocks_in_range.ensures)

@@ -10,15 +10,15 @@ returns-then-m-lt2 c = rw (lt-ltb _ 2 c.if-m-lt2.true)
 
 pub returns-then-not-in_bounds : goal.returns-then-not-in_bounds
 unfolding image_refusal
-returns-then-not-in_bounds c = rw (le-ltb _ 2 c.if-m-lt2.false, sym c.in_bounds.ensures ∙ not-true _ c.if-not-in_bounds.true)
+returns-then-not-in_bounds c = rw (le-ltb _ 2 c.if-m-lt2.false, sym c.in_bounds.ensures ∙ c.if-not-in_bounds.true)
 
 pub returns-then-not-in_bounds-2 : goal.returns-then-not-in_bounds-2
 unfolding image_refusal
-returns-then-not-in_bounds-2 c = rw (le-ltb _ 2 c.if-m-lt2.false, sym c.in_bounds.ensures ∙ not-false _ c.if-not-in_bounds.false, sym c.in_bounds-2.ensures ∙ not-true _ c.if-not-in_bounds-2.true)
+returns-then-not-in_bounds-2 c = rw (le-ltb _ 2 c.if-m-lt2.false, sym c.in_bounds.ensures ∙ c.if-not-in_bounds.false, sym c.in_bounds-2.ensures ∙ c.if-not-in_bounds-2.true)
 
 pub sized_refusal-requires : goal.sized_refusal-requires
-sized_refusal-requires c = let a = bounded _ 4 (sym c.in_bounds.ensures ∙ not-false _ c.if-not-in_bounds.false) in let b = bounded _ 64 (sym c.in_bounds-2.ensures ∙ not-false _ c.if-not-in_bounds-2.false) in (c.if-m-lt2.false, a.1, b.0, b.1)
+sized_refusal-requires c = let a = bounded _ 4 (sym c.in_bounds.ensures ∙ c.if-not-in_bounds.false) in let b = bounded _ 64 (sym c.in_bounds-2.ensures ∙ c.if-not-in_bounds-2.false) in (c.if-m-lt2.false, a.1, b.0, b.1)
 
 pub returns : goal.returns
 unfolding image_refusal
-returns c = rw (le-ltb _ 2 c.if-m-lt2.false, sym c.in_bounds.ensures ∙ not-false _ c.if-not-in_bounds.false, sym c.in_bounds-2.ensures ∙ not-false _ c.if-not-in_bounds-2.false) c.sized_refusal.ensures
+returns c = rw (le-ltb _ 2 c.if-m-lt2.false, sym c.in_bounds.ensures ∙ c.if-not-in_bounds.false, sym c.in_bounds-2.ensures ∙ c.if-not-in_bounds-2.false) c.sized_refusal.ensures

@@ -14,10 +14,10 @@ loop-i-init c = (omega arith, c.key-last.ensures, every_none _)
 
 pub returns-then-not-before : goal.returns-then-not-before
 unfolding rises
-returns-then-not-before c = sym (every_no _ _ _ (omega arith) (neighbours before (key_at c.args.b.now c.args.s c.args.t c.args.u) _ _ _ c.loop-i.invariant.1 c.key-next.ensures c.before-in-loop-i.ensures (not-true _ c.if-not-before.true)))
+returns-then-not-before c = sym (every_no _ _ _ (omega arith) (neighbours before (key_at c.args.b.now c.args.s c.args.t c.args.u) _ _ _ c.loop-i.invariant.1 c.key-next.ensures c.before-in-loop-i.ensures c.if-not-before.true))
 
 pub loop-i-preserved : goal.loop-i-preserved
-loop-i-preserved c = (omega arith, c.key-next.ensures, every_next _ _ c.loop-i.invariant.2 (neighbours before (key_at c.args.b.now c.args.s c.args.t c.args.u) _ _ _ c.loop-i.invariant.1 c.key-next.ensures c.before-in-loop-i.ensures (not-false _ c.if-not-before.false)))
+loop-i-preserved c = (omega arith, c.key-next.ensures, every_next _ _ c.loop-i.invariant.2 (neighbours before (key_at c.args.b.now c.args.s c.args.t c.args.u) _ _ _ c.loop-i.invariant.1 c.key-next.ensures c.before-in-loop-i.ensures c.if-not-before.false))
 
 pub returns : goal.returns
 unfolding rises

@@ -26,4 +26,4 @@ pub returns-in-7 : goal.returns-in-7
 returns-in-7 c = λ M e o. on_hard_block _ M _ _ _ _ c.in-7.is (c.hard_block.ensures M e o)
 
 pub returns-in_default : goal.returns-in_default
-returns-in_default c = λ M e o. on_none _ M _ _ _ _ c.in_default.rest.0.0.0.0.0.0.1 c.in_default.rest.0.0.0.0.0.1 c.in_default.rest.0.0.0.0.1 c.in_default.rest.0.0.0.1 c.in_default.rest.0.0.1 c.in_default.rest.0.1 c.in_default.rest.1 (ap (λ (a : Answer). reply a c.args.image.now) c.refused.ensures)
+returns-in_default c = λ M e o. on_none _ M _ _ _ _ c.in_default.in_default-own.rest.0.0.0.0.0.0.1 c.in_default.in_default-own.rest.0.0.0.0.0.1 c.in_default.in_default-own.rest.0.0.0.0.1 c.in_default.in_default-own.rest.0.0.0.1 c.in_default.in_default-own.rest.0.0.1 c.in_default.in_default-own.rest.0.1 c.in_default.in_default-own.rest.1 (ap (λ (a : Answer). reply a c.args.image.now) c.refused.ensures)

@@ -15,4 +15,4 @@ returns-in-3 c = on_direct_switch _ c.args.operation c.args.cpu c.args.time c.ar
 
 -- src/lib.rt:133:1
 pub returns-in_default : goal.returns-in_default
-returns-in_default c = delegated _ c.args.operation c.args.cpu c.args.time c.args.context c.in_default.rest.0.0.1 c.in_default.rest.0.1 c.in_default.rest.1 c.call.ensures
+returns-in_default c = delegated _ c.args.operation c.args.cpu c.args.time c.args.context c.in_default.in_default-own.rest.0.0.1 c.in_default.in_default-own.rest.0.1 c.in_default.in_default-own.rest.1 c.call.ensures

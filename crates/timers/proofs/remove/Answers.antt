@@ -8,4 +8,4 @@ use Rattle.timers.proofs.remove.Goals as goal
 
 pub returns : goal.returns
 unfolding row
-returns c = record { timers_count_after = get_or-set_same c.remove_row.new.0 22 _ 0 (search rules); b_after = timer_out _ _ _ c.requires.2 c.remove_row.ensures }
+returns c = record { timers_count_after = get_or-set_same c.remove_row.new.b 22 _ 0 (search rules); b_after = timer_out _ _ _ c.requires.2 c.remove_row.ensures }

@@ -11,4 +11,4 @@ use Rattle.wakeup_lists.proofs.push_local.Goals as goal
 
 pub returns : goal.returns
 unfolding part splice
-returns c = record { b_after = (λ p e. pushed (local_listed p) _ _ _ _ _ e c.index-n.ensures (omega (arith, c.requires.1, c.index-n.ensures)) c.insert_at.ensures c.word.ensures); local_count_after = get_or-set_same (put_mid local_wakeup_list_column 64 c.args.b.now c.insert_at.new.0) 23 c.word.result 0 (search rules) ∙ c.word.ensures ∙ ap (λ y. y + 1) c.index-n.ensures }
+returns c = record { b_after = (λ p e. pushed (local_listed p) _ _ _ _ _ e c.index-n.ensures (omega (arith, c.requires.1, c.index-n.ensures)) c.insert_at.ensures c.word.ensures); local_count_after = get_or-set_same (put_mid local_wakeup_list_column 64 c.args.b.now c.insert_at.new.a) 23 c.word.result 0 (search rules) ∙ c.word.ensures ∙ ap (λ y. y + 1) c.index-n.ensures }

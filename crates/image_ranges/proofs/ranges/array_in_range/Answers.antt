@@ -7,10 +7,10 @@ pub used-requires : goal.used-requires
 used-requires c = let h = count_fits _ _ _ _ _ c.before.before.before.before.before.before.pre.1.0 c.before.before.before.before.before.before.pre.1.1.0 c.counter_of-s.ensures.0 c.index-k.ensures in search rules
 
 pub returns-then-not-used : goal.returns-then-not-used
-returns-then-not-used c = array_used _ _ _ _ _ _ _ c.counter_of-s.ensures.0 c.index-k.ensures c.array_least-low.ensures c.before.before.before.before.before.before.before.before.pre.1.1.1 c.used.ensures (not-true _ c.if-not-used.taken)
+returns-then-not-used c = array_used _ _ _ _ _ _ _ c.counter_of-s.ensures.0 c.index-k.ensures c.array_least-low.ensures c.before.before.before.before.before.before.before.before.pre.1.1.1 c.used.ensures c.if-not-used.true
 
 pub unused-requires : goal.unused-requires
 unused-requires c = (search rules, count_fits _ _ _ _ _ c.before.before.before.before.before.before.before.before.before.pre.1.0 c.before.before.before.before.before.before.before.before.before.pre.1.1.0 c.counter_of-s.ensures.0 c.index-k.ensures)
 
 pub returns : goal.returns
-returns c = array_unused _ _ _ _ _ _ _ c.counter_of-s.ensures.0 c.index-k.ensures c.array_least-low.ensures c.before.before.before.before.before.before.before.before.before.before.pre.1.1.1 c.used.ensures (not-false _ c.if-not-used.left) c.unused.ensures
+returns c = array_unused _ _ _ _ _ _ _ c.counter_of-s.ensures.0 c.index-k.ensures c.array_least-low.ensures c.before.before.before.before.before.before.before.before.before.before.pre.1.1.1 c.used.ensures c.if-not-used.false c.unused.ensures

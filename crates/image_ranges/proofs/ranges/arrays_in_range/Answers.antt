@@ -15,10 +15,10 @@ pub array_in_range-requires : goal.array_in_range-requires
 array_in_range-requires c = record { b_len = c.requires.b_len; front_size_value = c.requires.front_size_value; j_bound = (c.loop-j-test.true, ap (λ l. get_or l c.loop-j.j 0) c.loop-j.invariant.1) }
 
 pub returns-then-not-array_in_range : goal.returns-then-not-array_in_range
-returns-then-not-array_in_range c = sym (every_no _ 10 _ c.loop-j-test.true (sym c.array_in_range.ensures ∙ not-true _ c.if-not-array_in_range.true))
+returns-then-not-array_in_range c = sym (every_no _ 10 _ c.loop-j-test.true (sym c.array_in_range.ensures ∙ c.if-not-array_in_range.true))
 
 pub loop-j-preserved : goal.loop-j-preserved
-loop-j-preserved c = (omega arith, c.loop-j.invariant.1, every_next _ _ c.loop-j.invariant.2 (sym c.array_in_range.ensures ∙ not-false _ c.if-not-array_in_range.false))
+loop-j-preserved c = (omega arith, c.loop-j.invariant.1, every_next _ _ c.loop-j.invariant.2 (sym c.array_in_range.ensures ∙ c.if-not-array_in_range.false))
 
 pub returns : goal.returns
 returns c = every_end _ 10 _ c.loop-j-test.false c.loop-j.invariant.0 c.loop-j.invariant.2

@@ -6,20 +6,20 @@ use Rattle.image_ranges.proofs.ranges.block_in_range.Goals as goal
 
 pub returns-then-b-eq0 : goal.returns-then-b-eq0
 unfolding block_in_range_to
-returns-then-b-eq0 c = rw (eq-eqb _ 0 c.if-b-eq0.taken) c.zero_words.ensures
+returns-then-b-eq0 c = rw (eq-eqb _ 0 c.if-b-eq0.true) c.zero_words.ensures
 
 pub returns-then-not-within : goal.returns-then-not-within
 unfolding block_in_range_to block_most_to
-returns-then-not-within c = rw (ne_eqb _ 0 c.if-b-eq0.left, sym c.within.ensures ∙ not-true _ c.if-not-within.taken)
+returns-then-not-within c = rw (ne_eqb _ 0 c.if-b-eq0.false, sym c.within.ensures ∙ c.if-not-within.true)
 
 pub returns-then-b-gt-MAX_REMAINDER : goal.returns-then-b-gt-MAX_REMAINDER
 unfolding block_in_range_to block_most_to
-returns-then-b-gt-MAX_REMAINDER c = rw (ne_eqb _ 0 c.if-b-eq0.left, sym c.within.ensures ∙ not-false _ c.if-not-within.left, lt-leb _ max_remainder c.if-b-gt-MAX_REMAINDER.taken)
+returns-then-b-gt-MAX_REMAINDER c = rw (ne_eqb _ 0 c.if-b-eq0.false, sym c.within.ensures ∙ c.if-not-within.false, lt-leb _ max_remainder c.if-b-gt-MAX_REMAINDER.true)
 
 pub arrays_in_range-requires : goal.arrays_in_range-requires
 unfolding block_most_to
-arrays_in_range-requires c = record { b_len = c.before.before.before.before.before.before.before.before.pre.0; front_size_value = sym c.within.ensures ∙ not-false _ c.if-not-within.left; le_n = c.before.before.before.before.before.before.before.before.pre.1 }
+arrays_in_range-requires c = record { b_len = c.before.before.before.before.before.before.before.before.pre.0; front_size_value = sym c.within.ensures ∙ c.if-not-within.false; le_n = c.before.before.before.before.before.before.before.before.pre.1 }
 
 pub returns : goal.returns
 unfolding block_in_range_to block_most_to
-returns c = rw (ne_eqb _ 0 c.if-b-eq0.left, sym c.within.ensures ∙ not-false _ c.if-not-within.left, le-leb _ max_remainder c.if-b-gt-MAX_REMAINDER.left) c.arrays_in_range.ensures
+returns c = rw (ne_eqb _ 0 c.if-b-eq0.false, sym c.within.ensures ∙ c.if-not-within.false, le-leb _ max_remainder c.if-b-gt-MAX_REMAINDER.false) c.arrays_in_range.ensures

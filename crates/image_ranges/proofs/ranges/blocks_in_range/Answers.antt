@@ -12,10 +12,10 @@ loop-k-init c = (omega arith, every_none _)
 
 pub returns-then-not-block_in_range : goal.returns-then-not-block_in_range
 unfolding blocks_in_range_to
-returns-then-not-block_in_range c = sym (every_no _ _ _ c.loop-k-test.true (sym (block_lent _ _ _ _ c.cpu_place-at.ensures c.word-names.ensures c.block_in_range.ensures) ∙ not-true _ c.if-not-block_in_range.true))
+returns-then-not-block_in_range c = sym (every_no _ _ _ c.loop-k-test.true (sym (block_lent _ _ _ _ c.cpu_place-at.ensures c.word-names.ensures c.block_in_range.ensures) ∙ c.if-not-block_in_range.true))
 
 pub loop-k-preserved : goal.loop-k-preserved
-loop-k-preserved c = (omega arith, every_next _ _ c.loop-k.invariant.1 (sym (block_lent _ _ _ _ c.cpu_place-at.ensures c.word-names.ensures c.block_in_range.ensures) ∙ not-false _ c.if-not-block_in_range.false))
+loop-k-preserved c = (omega arith, every_next _ _ c.loop-k.invariant.1 (sym (block_lent _ _ _ _ c.cpu_place-at.ensures c.word-names.ensures c.block_in_range.ensures) ∙ c.if-not-block_in_range.false))
 
 pub returns : goal.returns
 unfolding blocks_in_range_to

@@ -17,10 +17,10 @@ is_new_if-requires c = record { record_size_in_bounds = (omega arith, omega arit
 
 pub returns-then-not-is_new_if : goal.returns-then-not-is_new_if
 unfolding ids_differ
-returns-then-not-is_new_if c = sym (every_no _ _ _ c.loop-y-test.true (sym c.is_new_if.ensures ∙ not-true _ c.if-not-is_new_if.true))
+returns-then-not-is_new_if c = sym (every_no _ _ _ c.loop-y-test.true (sym c.is_new_if.ensures ∙ c.if-not-is_new_if.true))
 
 pub loop-y-preserved : goal.loop-y-preserved
-loop-y-preserved c = (omega arith, (rw (length-set) c.loop-y.invariant.1), seen_more c.args.m.now c.loop-y.seen c.loop-y.y _ _ c.id_of-id.ensures c.index-h.ensures (omega arith) c.loop-y.invariant.2, every_next _ _ c.loop-y.invariant.3 (sym c.is_new_if.ensures ∙ not-false _ c.if-not-is_new_if.false))
+loop-y-preserved c = (omega arith, (rw (length-set) c.loop-y.invariant.1), seen_more c.args.m.now c.loop-y.seen c.loop-y.y _ _ c.id_of-id.ensures c.index-h.ensures (omega arith) c.loop-y.invariant.2, every_next _ _ c.loop-y.invariant.3 (sym c.is_new_if.ensures ∙ c.if-not-is_new_if.false))
 
 pub returns : goal.returns
 unfolding ids_differ

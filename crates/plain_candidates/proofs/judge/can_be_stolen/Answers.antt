@@ -11,12 +11,12 @@ returns-then-q c = stolen_gone c.args.t.cpu (locked_of c.args.t.locked) (picked_
 
 -- src/judge.rt:101:9
 pub returns-then-not-free : goal.returns-then-not-free
-returns-then-not-free c = stolen_locked c.args.t.cpu (locked_of c.args.t.locked) (picked_of c.args.t.winner) (entries_of c.args.got) c.args.x c.args.q c.if-q.false (not_is_true _ c.if-not-free.true)
+returns-then-not-free c = stolen_locked c.args.t.cpu (locked_of c.args.t.locked) (picked_of c.args.t.winner) (entries_of c.args.got) c.args.x c.args.q c.if-q.false c.if-not-free.true
 
 -- src/judge.rt:104:9
 pub returns-then-is_held : goal.returns-then-is_held
-returns-then-is_held c = stolen_held c.args.t.cpu (locked_of c.args.t.locked) (picked_of c.args.t.winner) (entries_of c.args.got) c.args.x c.args.q c.if-q.false (not_is_false _ c.if-not-free.false) c.is_held.ensures c.if-is_held.true
+returns-then-is_held c = stolen_held c.args.t.cpu (locked_of c.args.t.locked) (picked_of c.args.t.winner) (entries_of c.args.got) c.args.x c.args.q c.if-q.false c.if-not-free.false c.is_held.ensures c.if-is_held.true
 
 -- src/judge.rt:92:1
 pub returns : goal.returns
-returns c = stolen_moves c.args.t.cpu (locked_of c.args.t.locked) (picked_of c.args.t.winner) (entries_of c.args.got) c.args.x c.args.q c.if-q.false (not_is_false _ c.if-not-free.false) c.is_held.ensures c.if-is_held.false c.word-cpu.ensures c.may_move.ensures
+returns c = stolen_moves c.args.t.cpu (locked_of c.args.t.locked) (picked_of c.args.t.winner) (entries_of c.args.got) c.args.x c.args.q c.if-q.false c.if-not-free.false c.is_held.ensures c.if-is_held.false c.word-cpu.ensures c.may_move.ensures

@@ -35,4 +35,4 @@ pub returns-else-won : goal.returns-else-won
 returns-else-won c = idle_left c.in-Idle.is c.if-won.false
 
 pub returns-in_default : goal.returns-in_default
-returns-in_default c = let k = c.in_default.keys2 in other _ c.args.rule (λ e. miss (0 ∷ 1 ∷ 2 ∷ 3 ∷ 4 ∷ 5 ∷ 6 ∷ 7 ∷ []) 8 tt (rw e at k))
+returns-in_default c = let k = c.in_default.in_default-own.keys2 in other _ c.args.rule (λ e. miss (0 ∷ 1 ∷ 2 ∷ 3 ∷ 4 ∷ 5 ∷ 6 ∷ 7 ∷ []) 8 tt (rw e at k))
