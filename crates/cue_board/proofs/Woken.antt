@@ -59,10 +59,10 @@ module _ (b m m' : List ℕ) (cpu time k i writer : ℕ) (a : Answer) (w : write
   cue_goes b' x y start first second z p q r s u t = rw (← w, ← e, eq-eqb a.refusal 0 z, p, q, r, s, t, u)
 
 -- d: which cue the code found due
-pub slot_right : (b : List ℕ) (time k i : ℕ) (d : Due) → d ≡ next_due b time → d ≡ Slot k i → (Board k b) × (i < k)
+pub slot_right : (b : List ℕ) (time k i : ℕ) (d : Due) → d ≡ next_due b time → d ≡ Slot k i → record { board : Board k b; i_lt_k : i < k }
 slot_right b time k i d e g =
     let s = slot_due b time k i (sym g ∙ e) in
-    let o = sized_is b s.accepted.sized in rw (s.capacity_is, s.slot_is) (o.board, omega (arith, s.waits, o.fewer))
+    let o = sized_is b s.accepted.sized in rw (s.capacity_is, s.slot_is) (record { board = o.board; i_lt_k = omega (arith, s.waits, o.fewer) })
 
 module _ (b m : List ℕ) (cpu time : ℕ) (d : Due) (e : d ≡ next_due b time) where
   pub next_refused : (r : ℕ) (h : Handed) → d ≡ DueRefused r → h ≡ no_cue r → asked h b m ≡ next b m cpu time

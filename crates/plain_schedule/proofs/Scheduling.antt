@@ -52,8 +52,8 @@ module _ (n c k time : ℕ) (s : State) (cpus : Cpus) (e : Spent) {runs : Bool} 
   not_settled h = without_room hm.sound hm.cpus h (settled_full (prev_runnable (state_in n s)) e.ticks (choose_and_steal k time (cpus_in c cpus) (state_in n s)) (sym hm.room ∙ h))
 
   module _ (fm : m.state.no_room ≡ false → NextFits n t_timed b_stolen m) (h : m.state.no_room ≡ false) where
-    pub settle_asks : e.ticks ≤ max_ticks → ((Sound n m.state) × (StateFits n (state_in n m.state)) × (e.ticks ≤ max_gain)) × (StateBelow n t_timed b_stolen (placed (state_in n m.state)))
-    settle_asks l = ((hm.sound, (fm h).fits, omega arith), (fm h).below)
+    pub settle_asks : e.ticks ≤ max_ticks → record { sound : (Sound n m.state) × (StateFits n (state_in n m.state)) × (e.ticks ≤ max_gain); state_below : StateBelow n t_timed b_stolen (placed (state_in n m.state)) }
+    settle_asks l = record { sound = (hm.sound, (fm h).fits, omega arith); state_below = (fm h).below }
 
     -- t: V has advanced, and a holder that lost is back in the queue; w: who gets the slice
     module _ {t : State} {w : Picked} (ht : Tracks n t (settled runs e.ticks (stealing_of (state_in n m.state) (picked_of m.context))))

@@ -94,10 +94,6 @@ module _ (n : ℕ) (f : Scan) (h : Holder) (o : scans.Sound n f) (q : Context) (
 -- the scan, the choice and the clean-up together
 pub selected_all : (n k time : ℕ) (s t : State) (f : Scan) (w : Choice) → scans.scan_of n f ≡ scanned k time (state_in n s) → choice_of w ≡ plain.choice (state_in n s) (scans.scan_of n f)
     → Became n t (plain.chosen (choice_of w) (scans.scan_of n f) (state_in n s)) → WinnerBelow n w.winner
-    → (choice_of w ≡ plain.choice (state_in n s) (scanned k time (state_in n s)))
-    × (Became n t (plain.chosen (plain.choice (state_in n s) (scanned k time (state_in n s))) (scanned k time (state_in n s)) (state_in n s)) × WinnerBelow n w.winner)
+    → record { choice_value : choice_of w ≡ plain.choice (state_in n s) (scanned k time (state_in n s)); became : Became n t (plain.chosen (plain.choice (state_in n s) (scanned k time (state_in n s))) (scanned k time (state_in n s)) (state_in n s)); winner_below : WinnerBelow n w.winner }
 selected_all n k time s t f w a b c d =
-    let e : choice_of w ≡ plain.choice (state_in n s) (scanned k time (state_in n s)) = b ∙ ap (plain.choice (state_in n s)) a in (
-      e,
-      (record { sound = c.sound; is = c.is ∙ (λ i. plain.chosen (e i) (a i) (state_in n s)) }, d),
-    )
+    let e : choice_of w ≡ plain.choice (state_in n s) (scanned k time (state_in n s)) = b ∙ ap (plain.choice (state_in n s)) a in record { choice_value = e; became = record { sound = c.sound; is = c.is ∙ (λ i. plain.chosen (e i) (a i) (state_in n s)) }; winner_below = d }

@@ -110,9 +110,9 @@ module _ {c n k time x : ℕ} (m : List ℕ) (o : Ready m c n k time x) where
       passes : checks.Passed c n ≡ check m₂ time
       passes = rw (there.1 t) (tried_passes m p o h room)
 
-      pub ready_to_switch : (Image c n m₂) × ((time ≤ max_number) × (Ranged c n max_number max_number m₂))
+      pub ready_to_switch : record { image : Image c n m₂; time_le_max_number : time ≤ max_number; ranged : Ranged c n max_number max_number m₂ }
       ready_to_switch =
-          (call_image m₂ time _ passes c n refl, (call_time m₂ time _ passes c n refl, call_ranged m₂ time _ passes c n refl))
+          record { image = call_image m₂ time _ passes c n refl; time_le_max_number = call_time m₂ time _ passes c n refl; ranged = call_ranged m₂ time _ passes c n refl }
 
       -- m₃: what the switch left, which answered a; s: what was then read
       module _ {a : Answer} (m₃ : List ℕ) (cpu : ℕ) (is : cpu ≡ k) (s : Bool)

@@ -92,7 +92,7 @@ pub inside : {c n : ℕ} {m : List ℕ} (k w r cpu writer rival rounds time : �
     → ((M : Machine) → m ≡ encode M → Fits c n M → b ≡ look_up M writer) → b ≡ Live w
     → ((M : Machine) → m ≡ encode M → Fits c n M → d ≡ look_up M rival) → d ≡ Live r
     → time ≤ max_number → true ≡ is_game w r rounds
-    → (Inside (record { contexts = n; cpu = k; writer = w; rival = r }) (length m)) × ((InTime rounds time) × (1 ≤ rounds))
+    → record { inside : Inside (record { contexts = n; cpu = k; writer = w; rival = r }) (length m); in_time : (InTime rounds time) × (1 ≤ rounds) }
 inside {c} {n} {m} k w r cpu writer rival rounds time a b d i ea fa eb fb ed fd t g =
     let p = present i.M cpu k (sym fa ∙ ea i.M i.eq i.fits)
     in let l = live i.M writer w (sym fb ∙ eb i.M i.eq i.fits)
@@ -101,17 +101,18 @@ inside {c} {n} {m} k w r cpu writer rival rounds time a b d i ea fa eb fb ed fd 
     in let o = i.fits.bounds
     in let kc : k < c = omega (arith, p.is, p.below, i.fits.cpus)
     in let q = few w r rounds g
-    in (
-      record {
-        contexts = s.contexts;
-        cpu = omega arith;
-        writer = omega (arith, l.is, l.below, i.fits.contexts);
-        rival = omega (arith, v.is, v.below, i.fits.contexts);
-        long = omega arith;
-        short = omega arith;
-      },
-      (omega arith, q.0),
-    )
+    in record {
+      inside =
+          record {
+            contexts = s.contexts;
+            cpu = omega arith;
+            writer = omega (arith, l.is, l.below, i.fits.contexts);
+            rival = omega (arith, v.is, v.below, i.fits.contexts);
+            long = omega arith;
+            short = omega arith;
+          };
+      in_time = (omega arith, q.0);
+    }
 
 -- y: what the code's check gave
 module _ (m : List ℕ) (cpu time writer rival rounds : ℕ) (y : Checked) (e : y ≡ check m time) where

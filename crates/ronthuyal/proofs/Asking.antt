@@ -21,13 +21,7 @@ use Rattle.numbers.specs.Limits.{max_word}
 -- words: those of the image after
 module _ {a : Answer} {m' : List ℕ} (m : List ℕ) (cpu time : ℕ) where
   pub commit_promises : (given : Asked) → ((i : ℕ) → Fits w64 (get_or m' i 0)) → reply a m' ≡ commit m cpu time given
-      → (reply a m' ≡ commit m cpu time given) × (DemandMet m m' 2 cpu time 0 a.refusal × Leaves max_word m m' a.refusal)
+      → record { image_after : reply a m' ≡ commit m cpu time given; demand_met : DemandMet m m' 2 cpu time 0 a.refusal; leaves : Leaves max_word m m' a.refusal }
   commit_promises given words e =
       let s : a.refusal ≡ 0 → reply a m' ≡ switch_call m cpu time = λ z. e ∙ accepted_is_switch m cpu time given (sym (ap (λ (y : Reply). y.answer.refusal) e) ∙ z)
-      in (
-        e,
-        (
-          record { met = λ d y z. (switch_demand m cpu time (s z)).met d y z },
-          record { left = λ z. (leaves m 2 cpu time 0 (is_switch m 2 cpu time 0 refl (s z)) words).left z },
-        ),
-      )
+      in record { image_after = e; demand_met = record { met = λ d y z. (switch_demand m cpu time (s z)).met d y z }; leaves = record { left = λ z. (leaves m 2 cpu time 0 (is_switch m 2 cpu time 0 refl (s z)) words).left z } }

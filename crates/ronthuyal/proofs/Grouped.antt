@@ -126,5 +126,5 @@ module _ (a : Answer) (m m' : List ℕ) (cpu time mask : ℕ) (z : a.refusal ≡
   left_checked (Passed c n) h e = left_on (call_none m time (Passed c n) h c n refl) (get_percpu_block (decode m) cpu) refl e
 
 pub group_promises : {a : Answer} {m' : List ℕ} (m : List ℕ) (cpu time mask : ℕ) → reply a m' ≡ unblock_group_call m cpu time mask
-    → (reply a m' ≡ unblock_group_call m cpu time mask) × Leaves max_number m m' a.refusal
-group_promises {a} {m'} m cpu time mask e = (e, record { left = λ z. unraised_left (left_checked a m m' cpu time mask z (check m time) refl e) })
+    → record { image_after : reply a m' ≡ unblock_group_call m cpu time mask; leaves : Leaves max_number m m' a.refusal }
+group_promises {a} {m'} m cpu time mask e = record { image_after = e; leaves = record { left = λ z. unraised_left (left_checked a m m' cpu time mask z (check m time) refl e) } }

@@ -121,35 +121,35 @@ unraised_left f = left_by max_number (unraised_formed f) f.holds.raised
 
 -- what operations 4 to 7 promise, from the first promise
 module _ {a : Answer} {m' : List ℕ} (m : List ℕ) (cpu time context : ℕ) where
-  pub unblock_promises : reply a m' ≡ unblock_context_call m cpu time context → (reply a m' ≡ unblock_context_call m cpu time context) × Leaves max_number m m' a.refusal
-  unblock_promises e = (e, record { left = λ z. unraised_left (unblocks a m m' cpu time context z e) })
+  pub unblock_promises : reply a m' ≡ unblock_context_call m cpu time context → record { image_after : reply a m' ≡ unblock_context_call m cpu time context; leaves : Leaves max_number m m' a.refusal }
+  unblock_promises e = record { image_after = e; leaves = record { left = λ z. unraised_left (unblocks a m m' cpu time context z e) } }
 
-  pub drain_promises : reply a m' ≡ drain_ipi_context_wakeups_call m cpu time → (reply a m' ≡ drain_ipi_context_wakeups_call m cpu time) × Leaves max_number m m' a.refusal
-  drain_promises e = (e, record { left = λ z. unraised_left (drains a m m' cpu time context z e) })
+  pub drain_promises : reply a m' ≡ drain_ipi_context_wakeups_call m cpu time → record { image_after : reply a m' ≡ drain_ipi_context_wakeups_call m cpu time; leaves : Leaves max_number m m' a.refusal }
+  drain_promises e = record { image_after = e; leaves = record { left = λ z. unraised_left (drains a m m' cpu time context z e) } }
 
-  pub block_promises : reply a m' ≡ block_call m cpu time context → (reply a m' ≡ block_call m cpu time context) × Leaves max_number m m' a.refusal
-  block_promises e = (e, record { left = λ z. unraised_left (blocks a m m' cpu time context z e) })
+  pub block_promises : reply a m' ≡ block_call m cpu time context → record { image_after : reply a m' ≡ block_call m cpu time context; leaves : Leaves max_number m m' a.refusal }
+  block_promises e = record { image_after = e; leaves = record { left = λ z. unraised_left (blocks a m m' cpu time context z e) } }
 
-  pub hard_block_promises : reply a m' ≡ hard_block_call m cpu time context → (reply a m' ≡ hard_block_call m cpu time context) × Leaves max_number m m' a.refusal
-  hard_block_promises e = (e, record { left = λ z. unraised_left (hard_blocks a m m' cpu time context z e) })
+  pub hard_block_promises : reply a m' ≡ hard_block_call m cpu time context → record { image_after : reply a m' ≡ hard_block_call m cpu time context; leaves : Leaves max_number m m' a.refusal }
+  hard_block_promises e = record { image_after = e; leaves = record { left = λ z. unraised_left (hard_blocks a m m' cpu time context z e) } }
 
 -- what operations 1 to 3 promise, and any by its number, from the first two promises; words: those of the image after
 module _ {a : Answer} {m' : List ℕ} (m : List ℕ) (cpu time context : ℕ) (words : (i : ℕ) → Fits w64 (get_or m' i 0)) where
   pub call_promises : (operation : ℕ) → reply a m' ≡ call m operation cpu time context → DemandMet m m' operation cpu time context a.refusal
-      → (reply a m' ≡ call m operation cpu time context) × (DemandMet m m' operation cpu time context a.refusal × Leaves max_word m m' a.refusal)
-  call_promises operation e d = (e, (d, leaves m operation cpu time context e words))
+      → record { image_after : reply a m' ≡ call m operation cpu time context; demand_met : DemandMet m m' operation cpu time context a.refusal; leaves : Leaves max_word m m' a.refusal }
+  call_promises operation e d = record { image_after = e; demand_met = d; leaves = leaves m operation cpu time context e words }
 
   pub tick_promises : reply a m' ≡ tick_call m cpu time → DemandMet m m' 1 cpu time 0 a.refusal
-      → (reply a m' ≡ tick_call m cpu time) × (DemandMet m m' 1 cpu time 0 a.refusal × Leaves max_word m m' a.refusal)
-  tick_promises e d = (e, (d, leaves m 1 cpu time 0 (is_tick m 1 cpu time 0 refl e) words))
+      → record { image_after : reply a m' ≡ tick_call m cpu time; demand_met : DemandMet m m' 1 cpu time 0 a.refusal; leaves : Leaves max_word m m' a.refusal }
+  tick_promises e d = record { image_after = e; demand_met = d; leaves = leaves m 1 cpu time 0 (is_tick m 1 cpu time 0 refl e) words }
 
   pub switch_promises : reply a m' ≡ switch_call m cpu time → DemandMet m m' 2 cpu time 0 a.refusal
-      → (reply a m' ≡ switch_call m cpu time) × (DemandMet m m' 2 cpu time 0 a.refusal × Leaves max_word m m' a.refusal)
-  switch_promises e d = (e, (d, leaves m 2 cpu time 0 (is_switch m 2 cpu time 0 refl e) words))
+      → record { image_after : reply a m' ≡ switch_call m cpu time; demand_met : DemandMet m m' 2 cpu time 0 a.refusal; leaves : Leaves max_word m m' a.refusal }
+  switch_promises e d = record { image_after = e; demand_met = d; leaves = leaves m 2 cpu time 0 (is_switch m 2 cpu time 0 refl e) words }
 
   pub direct_switch_to_promises : reply a m' ≡ direct_switch_to_call m cpu time context → DemandMet m m' 3 cpu time context a.refusal
-      → (reply a m' ≡ direct_switch_to_call m cpu time context) × (DemandMet m m' 3 cpu time context a.refusal × Leaves max_word m m' a.refusal)
-  direct_switch_to_promises e d = (e, (d, leaves m 3 cpu time context (is_direct_switch_to m 3 cpu time context refl e) words))
+      → record { image_after : reply a m' ≡ direct_switch_to_call m cpu time context; demand_met : DemandMet m m' 3 cpu time context a.refusal; leaves : Leaves max_word m m' a.refusal }
+  direct_switch_to_promises e d = record { image_after = e; demand_met = d; leaves = leaves m 3 cpu time context (is_direct_switch_to m 3 cpu time context refl e) words }
 
 -- if no word that it raised is over 2^62 - 1, the image passes again
 pub call_passes_again : (a : Answer) (m m' : List ℕ) (operation cpu time context : ℕ) → reply a m' ≡ call m operation cpu time context → a.refusal ≡ 0 → RaisedAtMost max_number m'

@@ -62,8 +62,8 @@ module _ (m : List ℕ) (time : ℕ) (w : Checked) (e : w ≡ check m time) wher
     pub fits_longest : length m ≤ max_image_size
     fits_longest = let s = sized (call_image m time w e c n g) in omega (arith, s.size, s.cpus, s.contexts)
 
-    pub passes : (Image c n m) × ((time ≤ max_number) × (Ranged c n max_number max_number m))
-    passes = (call_image m time w e c n g, (call_time m time w e c n g, call_ranged m time w e c n g))
+    pub passes : record { image : Image c n m; time_le_max_number : time ≤ max_number; ranged : Ranged c n max_number max_number m }
+    passes = record { image = call_image m time w e c n g; time_le_max_number = call_time m time w e c n g; ranged = call_ranged m time w e c n g }
 
     -- the switch was made on m itself, which became m'
     pub tried_here : {a : Answer} (m' : List ℕ) (cpu : ℕ)
@@ -80,7 +80,7 @@ module _ (m : List ℕ) (time : ℕ) (w : Checked) (e : w ≡ check m time) wher
         }
 
     -- p: the copy
-    pub copy_passes : (p : List ℕ) → p ≡ m → (Image c n p) × ((time ≤ max_number) × (Ranged c n max_number max_number p))
+    pub copy_passes : (p : List ℕ) → p ≡ m → record { image : Image c n p; time_le_max_number : time ≤ max_number; ranged : Ranged c n max_number max_number p }
     copy_passes p q = rw q passes
 
     -- p': the copy after the switch, rest: what stands behind it

@@ -1,7 +1,6 @@
 use Rattle.candidate.proofs.Apart.{one_on, one_off, all_off}
 use Rattle.candidate.specs.Candidate.{not_on}
 use Rattle.columns.proofs.Tests.{every_none}
-use borrow.Author.Tests.{not-true, not-false}
 use mathlib.Core.Bool.{true}
 use native.Mathlib.Omega.{arith}
 use Rattle.candidate.proofs.on_none.Goals as goal

@@ -1,4 +1,3 @@
-use borrow.Author.Tests.{not-true, not-false}
 use Rattle.cue_line.proofs.Passed.{pass_stops, fit_none, fit_next, rise_none, last_none, pass_rises, pass_falls}
 use Rattle.cue_line.proofs.Lined.{rise_next, last_next}
 use mathlib.Core.Bool.{true}

@@ -1,5 +1,4 @@
 use Rattle.cues.proofs.Offered.{offered_long, stored_refused, offered_early, offered_well}
-use borrow.Author.Tests.{not-true, not-false}
 use Rattle.cues.proofs.offered_refusal.Goals as goal
 
 pub returns-then-not-both : goal.returns-then-not-both

@@ -1,5 +1,5 @@
 use Rattle.image.specs.Refusal.{ranges, ranges_to}
-use borrow.Author.Tests.{le-leb, lt-leb, not-true, not-false}
+use borrow.Author.Tests.{le-leb, lt-leb}
 use mathlib.Core.Path.{sym, ◌∙◌}
 use Rattle.image.proofs.in_ranges.Goals as goal
 

@@ -1,6 +1,6 @@
 use Rattle.image.proofs.Admitted.{bounded}
 use Rattle.image.specs.Refusal.{image_refusal}
-use borrow.Author.Tests.{lt-ltb, le-ltb, not-true, not-false}
+use borrow.Author.Tests.{lt-ltb, le-ltb}
 use mathlib.Core.Path.{sym, ◌∙◌}
 use Rattle.image.proofs.refusal.Goals as goal
 

@@ -1,5 +1,4 @@
 use Rattle.image.proofs.Admitted.{wrong_length, out_of_range, blocks_in, broken, not_refused}
-use borrow.Author.Tests.{not-true, not-false}
 use mathlib.Core.Path.{sym, ◌∙◌}
 use native.Mathlib.Omega.{arith}
 use Rattle.image.proofs.sized_refusal.Goals as goal

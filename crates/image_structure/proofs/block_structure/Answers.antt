@@ -1,7 +1,7 @@
 use Rattle.image_structure.proofs.Structured.{keys_are, timers_are}
 use Rattle.image_ranges.proofs.Named.{queue_count, timer_count}
 use Rattle.image_structure.specs.Structure.{block_structure}
-use borrow.Author.Tests.{eq-eqb, ne_eqb, not-true, not-false}
+use borrow.Author.Tests.{eq-eqb, ne_eqb}
 use mathlib.Core.Path.{sym, ◌∙◌}
 use native.Mathlib.Omega.{arith}
 use Rattle.image_structure.proofs.block_structure.Goals as goal

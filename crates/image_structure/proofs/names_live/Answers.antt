@@ -1,6 +1,5 @@
 use Rattle.image_ranges.proofs.Named.{current_name, sched_name, idle_name}
 use Rattle.image_structure.specs.Structure.{names_live}
-use borrow.Author.Tests.{not-true, not-false}
 use mathlib.Core.Path.{sym, ◌∙◌}
 use native.Mathlib.Omega.{arith}
 use Rattle.image_structure.proofs.names_live.Goals as goal

@@ -3,7 +3,6 @@ use Rattle.image_structure.specs.Rises.{rises}
 use Rattle.table.specs.Keys.{key_at}
 use Rattle.entries.specs.Order.{before}
 use Rattle.columns.proofs.Tests.{every_none, every_next, every_no, every_end}
-use borrow.Author.Tests.{not-true, not-false}
 use mathlib.Core.Bool.{true}
 use mathlib.Core.Path.{sym}
 use native.Mathlib.Omega.{arith}

@@ -7,4 +7,4 @@ record-q-requires c = record { sound = c.requires.0; x_lt_n = c.best_context-x.e
 
 -- src/lib.rt:224:1
 pub returns : goal.returns
-returns c = record { result_value = chooses c.args.n c.args.f c.args.h c.requires.0 c.before.«record».result c.choose.result c.choose.ensures c.best_context-x.ensures c.before.«record».ensures; winner_below = winner_fits c.args.n c.args.f c.args.h c.requires.0 c.before.«record».result c.choose.result c.choose.ensures }
+returns c = record { result_value = chooses c.args.n c.args.f c.args.h c.requires.0 c.record-q.result c.choose.result c.choose.ensures c.best_context-x.ensures c.record-q.ensures; winner_below = winner_fits c.args.n c.args.f c.args.h c.requires.0 c.record-q.result c.choose.result c.choose.ensures }

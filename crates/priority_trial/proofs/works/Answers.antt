@@ -1,5 +1,4 @@
 use Rattle.priority_trial.proofs.Trying.{copied, copy_image, block_inside, full_fails, ready_to_switch, switch_tells}
-use borrow.Author.Tests.{not-true, not-false}
 use native.Mathlib.Omega.{arith}
 use borrow.Author.Rules.{rules}
 use Rattle.priority_trial.proofs.works.Goals as goal

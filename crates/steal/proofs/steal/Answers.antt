@@ -1,5 +1,4 @@
 use mathlib.Core.Path.{refl}
-use Rattle.model.proofs.Cases.{not_is_true, not_is_false}
 use Rattle.steal.proofs.Round.{not_empty, is_empty_list}
 use Rattle.steal.proofs.Stolen.{counted_ranged, not_due, nothing_stolen, robbed}
 use native.Mathlib.Omega.{arith}

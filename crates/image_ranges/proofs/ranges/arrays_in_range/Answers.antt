@@ -1,6 +1,5 @@
 use Rattle.image_ranges.specs.Ranges.{array_in_range, array_most_to}
 use Rattle.columns.proofs.Tests.{every_none, every_next, every_no, every_end}
-use borrow.Author.Tests.{not-true, not-false}
 use lib.ListN.{get_or}
 use mathlib.Core.Bool.{true}
 use mathlib.Core.Path.{refl, sym, ap, ◌∙◌}

@@ -1,5 +1,5 @@
 use Rattle.image_ranges.specs.Ranges.{block_in_range_to, block_most_to}
-use borrow.Author.Tests.{eq-eqb, ne_eqb, not-true, not-false, le-leb, lt-leb}
+use borrow.Author.Tests.{eq-eqb, ne_eqb, le-leb, lt-leb}
 use Rattle.ticks.specs.Ticks.{max_remainder}
 use mathlib.Core.Path.{sym, ◌∙◌}
 use Rattle.image_ranges.proofs.ranges.block_in_range.Goals as goal
@@ -18,7 +18,7 @@ returns-then-b-gt-MAX_REMAINDER c = rw (ne_eqb _ 0 c.if-b-eq0.false, sym c.withi
 
 pub arrays_in_range-requires : goal.arrays_in_range-requires
 unfolding block_most_to
-arrays_in_range-requires c = record { b_len = c.before.before.before.before.before.before.before.before.pre.0; front_size_value = sym c.within.ensures ∙ c.if-not-within.false; le_n = c.before.before.before.before.before.before.before.before.pre.1 }
+arrays_in_range-requires c = record { b_len = c.requires.b_len; front_size_value = sym c.within.ensures ∙ c.if-not-within.false; le_n = c.requires.le_n }
 
 pub returns : goal.returns
 unfolding block_in_range_to block_most_to

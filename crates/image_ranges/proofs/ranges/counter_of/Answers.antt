@@ -5,4 +5,4 @@ use Rattle.image_ranges.proofs.ranges.counter_of.Goals as goal
 
 pub returns : goal.returns
 unfolding counter
-returns c = (refl, counter_small _ c.pre)
+returns c = (refl, counter_small _ c.requires)

@@ -1,6 +1,6 @@
 -- `image::records::context_in_range` meets its contract. Assumes nothing.
 use mathlib.Core.Path.{sym, ◌∙◌}
-use borrow.Author.Tests.{eq-eqb, ne_eqb, not-true, not-false}
+use borrow.Author.Tests.{eq-eqb, ne_eqb}
 use Rattle.image_ranges.specs.Ranges.{gone_most, context_in_range_to}
 use Rattle.image_ranges.proofs.records.context_in_range.Goals as goal
 

@@ -3,7 +3,7 @@ use Rattle.image_structure.specs.Structure.{ids_differ}
 use borrow.Author.Tests.{eqb-true}
 use lib.ListN.{length-set}
 use Rattle.columns.proofs.Tests.{every_none, every_next, every_no, every_end}
-use borrow.Author.Tests.{not-true, not-false}
+use borrow.Author.Tests.{not-false}
 use mathlib.Core.Bool.{true}
 use mathlib.Core.Path.{refl, sym, ◌∙◌}
 use native.Mathlib.Omega.{arith}

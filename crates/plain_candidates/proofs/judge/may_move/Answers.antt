@@ -1,5 +1,4 @@
 use Rattle.steal_judge.proofs.Judging.{not_here, not_runnable, runs_already, scheduled_already, space_decides}
-use Rattle.model.proofs.Cases.{not_is_true, not_is_false}
 use Rattle.plain_candidates.proofs.judge.may_move.Goals as goal
 
 -- src/judge.rt:76:9

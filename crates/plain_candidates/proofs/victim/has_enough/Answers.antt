@@ -1,5 +1,4 @@
 use Rattle.steal_judge.proofs.Judging.{not_stealable, published_few, queue_locked, length_decides}
-use Rattle.model.proofs.Cases.{not_is_true, not_is_false}
 use Rattle.plain_candidates.proofs.victim.has_enough.Goals as goal
 
 -- src/victim.rt:35:9

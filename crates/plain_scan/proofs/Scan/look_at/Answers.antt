@@ -17,7 +17,7 @@ returns-in-Gone c = look_gone c.args.n c.args.t c.args.e c.args.self c.args.v c.
 
 -- src/lib.rt:159:5
 pub returns-in-Blocked : goal.returns-in-Blocked
-returns-in-Blocked c = look_blocked c.args.n c.args.t c.args.e c.args.self c.args.v _ c.args.x c.weight_of-w.result c.before.before.before.«record».result c.in-Blocked.is c.store-s.ensures c.before.before.before.«record».ensures c.requires.x_lt_n.1 c.weight_of-w.ensures.0 c.weight_of-w.ensures.1 c.give_up-in-Blocked.ensures
+returns-in-Blocked c = look_blocked c.args.n c.args.t c.args.e c.args.self c.args.v _ c.args.x c.weight_of-w.result c.record-was.result c.in-Blocked.is c.store-s.ensures c.record-was.ensures c.requires.x_lt_n.1 c.weight_of-w.ensures.0 c.weight_of-w.ensures.1 c.give_up-in-Blocked.ensures
 
 -- src/lib.rt:159:5
 pub returns-in-NoAddrSpace : goal.returns-in-NoAddrSpace

@@ -1,4 +1,3 @@
-use Rattle.model.proofs.Cases.{not_is_true, not_is_false}
 use Rattle.steal_judge.proofs.Judging.{not_here, not_runnable, runs_already, scheduled_already, space_decides}
 use Rattle.steal_judge.proofs.stolen.may_move.Goals as goal
 

@@ -1,4 +1,3 @@
-use Rattle.model.proofs.Cases.{not_is_true, not_is_false}
 use Rattle.steal_judge.proofs.Judging.{not_stealable, published_few, queue_locked, length_decides}
 use Rattle.steal_judge.proofs.victim.can_steal_from.Goals as goal
 
