@@ -55,9 +55,9 @@ module _ {q t l : ℕ} (s : State) (h : Within q t l s) (a : q < 64) (b : t < 64
 served_within : {q t l : ℕ} (s : State) (ws : List Wakeup) → Within q t l s → q + length ws ≤ 64 → t + length ws ≤ 64 → l + length ws ≤ 64
     → Within (q + length ws) (t + length ws) (l + length ws) (fold serve_wakeup s ws)
 served_within s [] h a b d = weaker (omega arith) (omega arith) (omega arith) h
-served_within s (w ∷ ws) h a b d =
+served_within {q = q} {t = t} {l = l} s (w ∷ ws) h a b d =
     weaker (omega arith) (omega arith) (omega arith)
-    (served_within (serve_wakeup s w) ws (serve_within s h (omega arith) (omega arith) (omega arith) w) (omega arith) (omega arith) (omega arith))
+    (served_within {q = q + 1} {t = t + 1} {l = l + 1} (serve_wakeup s w) ws (serve_within s h (omega arith) (omega arith) (omega arith) w) (omega arith) (omega arith) (omega arith))
 
 -- a context that can be read is not one that cannot
 read_or_not : (g l h : Bool) → (not g && not l && not h) ≡ true → (not g && (l || h)) ≡ false

@@ -72,8 +72,8 @@ move_within {q} {t} {l} runs m e r h =
 
 moves_within : {q t l : ℕ} (runs : Bool) (m : Moving) (es : List Entry) → q + length es ≤ 64 → Within q t l m.state → Within (q + length es) t l (fold (move_entry runs) m es).state
 moves_within runs m [] r h = weaker (omega arith) (omega arith) (omega arith) h
-moves_within runs m (e ∷ es) r h =
-    weaker (omega arith) (omega arith) (omega arith) (moves_within runs (move_entry runs m e) es (omega arith) (move_within runs m e (omega arith) h))
+moves_within {q = q} {t = t} {l = l} runs m (e ∷ es) r h =
+    weaker (omega arith) (omega arith) (omega arith) (moves_within {q = q + 1} {t = t} {l = l} runs (move_entry runs m e) es (omega arith) (move_within runs m e (omega arith) h))
 
 -- q: 64, or 63 where the holder, which is not idle, counts in the load
 module _ {q t l : ℕ} (k : ℕ) (runs : Bool) (locked : List ℕ) (cpus : List Cpu) (w : Option ℕ) (s : State) (each : (i : ℕ) → length (get_or cpus i no_cpu).queue ≤ 64)

@@ -97,7 +97,7 @@ module _ {c n : ℕ} {m : List ℕ} (i : Image c n m) (k : ℕ) (h : k < c) {cs 
         sound = record { few = i.fits.bounds.3; contexts = hc.places; queue = b.sound.queue; timers = b.sound.timers; local = b.sound.local; ipi = b.sound.ipi; flat = b.sound.flat };
         room = refl;
         cpus = cpus_sound;
-        state = λ M e f j. record { contexts = hc.is M e f j; cpu = (b.is ∙ ap (λ (l : List Cpu). get_or l k no_cpu) (hp.is M e f)) j; no-room = false };
+        state = λ M e f j. record { contexts = hc.is M e f j; cpu = (b.is ∙ ap (λ (l : List Cpu). get_or l k no_cpu) (hp.is M e f)) j; no_room = false };
         all = hp.is;
       }
 

@@ -102,7 +102,7 @@ module _ (n : ℕ) (s : State) (f : Scan) (o : Sound n s) (g : scanned.Sound n f
           ipi_context_wakeup_list = (state_in n s).cpu.ipi_context_wakeup_list;
           remainder = s.cpu.remainder;
         };
-        no-room = s.no_room;
+        no_room = s.no_room;
       }
 
   pub cleaned : {q : Queue} {len total : ℕ} → Stands q left → len ≡ q.len → total ≡ s.cpu.block.total_weight - f.weight_change

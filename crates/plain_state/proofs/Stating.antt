@@ -91,7 +91,7 @@ module _ (n : ℕ) (s : State) (o : Sound n s) where
         sound = b.sound;
         is =
             b.is ∙ put_as (queue_without k xs) false t
-            ∙ (λ i. record { contexts = (state_in n s).contexts; cpu = (remove_key k (state_in n s)).cpu; no-room = or_false s.no_room i });
+            ∙ (λ i. record { contexts = (state_in n s).contexts; cpu = (remove_key k (state_in n s)).cpu; no_room = or_false s.no_room i });
       }
 
   or_neither : (a b : Bool) → (a || b) ≡ false → b ≡ false
@@ -103,7 +103,7 @@ module _ (n : ℕ) (s : State) (o : Sound n s) where
   inserted e {q} {r} {full} f t b =
       record {
         sound = b.sound;
-        room = ap (λ (z : model.State). z.no-room) b.is ∙ ap (λ (z : Bool). s.no_room || z) f;
+        room = ap (λ (z : model.State). z.no_room) b.is ∙ ap (λ (z : Bool). s.no_room || z) f;
         is =
             λ h.
             b.is ∙ put_as (put_in entry_before e xs) full (t (f ∙ or_neither s.no_room (too_many (put_in entry_before e xs)) h))
@@ -191,7 +191,7 @@ module _ (n : ℕ) (s : State) (o : Sound n s) where
       let m : too_many (put_in sooner t (map timer_of ts)) ≡ true = sym (many_is e t k p) ∙ sym f ∙ h in
       record {
         sound = b.sound;
-        room = ap (λ (z : model.State). z.no-room) b.is ∙ or_true s.no_room true refl ∙ sym (or_true s.no_room (too_many (put_in sooner t (map timer_of ts))) m);
+        room = ap (λ (z : model.State). z.no_room) b.is ∙ or_true s.no_room true refl ∙ sym (or_true s.no_room (too_many (put_in sooner t (map timer_of ts))) m);
         is = λ z. never (sym (or_true s.no_room (too_many (put_in sooner t (map timer_of ts))) m) ∙ z);
       }
 
@@ -201,7 +201,7 @@ module _ (n : ℕ) (s : State) (o : Sound n s) where
       let m : too_many (put_in sooner t (map timer_of ts)) ≡ false = sym (many_is e t k p) ∙ sym f ∙ h in
       let l : map timer_of (entries_of q) ≡ put_in sooner t (map timer_of ts) = ap (map timer_of) u.is ∙ put_in_timers e ts p o.flat ∙ ap (λ (z : Timer). put_in sooner z (map timer_of ts)) k in
       let w : state_in n r ≡ insert_timer t (state_in n s) = b.is ∙ (let z : false ≡ too_many (put_in sooner t (map timer_of ts)) = sym m in λ i. timers_put (l i) (z i) (state_in n s)) in
-      record { sound = b.sound; room = ap (λ (z : model.State). z.no-room) w; is = λ z. w }
+      record { sound = b.sound; room = ap (λ (z : model.State). z.no_room) w; is = λ z. w }
 
   -- the local list
   pub local_full : (x : ℕ) → s.cpu.local.len ≡ 64 → Tracks n (record { contexts = s.contexts; cpu = s.cpu; no_room = true }) (push_local x (state_in n s))
@@ -256,7 +256,7 @@ module _ (n : ℕ) (s : State) (o : Sound n s) (t : Timer) {q : Queue} (k : Stan
       record {
         contexts = take n s.contexts;
         cpu = cpu_timers (without_superseded t (map timer_of (entries_of s.cpu.timers))) (cpu_in s.cpu);
-        no-room = or_none s.no_room i;
+        no_room = or_none s.no_room i;
       }))
       w
     where

@@ -3,4 +3,4 @@ use Rattle.plain_scan.proofs.Scan.record.Goals as goal
 
 -- src/lib.rt:29:5
 pub returns : goal.returns
-returns c = record_is c.args.n c.args.t1 c.args.x _ c.requires.sound c.requires.x_lt_n
+returns c = record_is c.args.n c.args.self c.args.x _ c.requires.sound c.requires.x_lt_n
