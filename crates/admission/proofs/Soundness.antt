@@ -1,4 +1,5 @@
 -- The machine of an image that passes the check is sound: what demand 3 asks of it besides being tidy. Assumes nothing.
+use Rattle.std.specs.Prelude.{if◌then◌else◌}
 use mathlib.Core.Path.{◌≡◌, refl, sym, ap, ◌∙◌, subst}
 use mathlib.Core.Logic.{◌≢◌, ◌⊎◌, inl, inr}
 use mathlib.Core.Bool.{Bool, true, false, ◌&&◌, not}
@@ -9,7 +10,7 @@ use mathlib.Core.List.{List, [], ◌∷◌}
 use lib.Dec.{ltb, leb, eqb}
 use lib.ListN.{length, get_or}
 use borrow.Author.Tests.{ltb-true, ltb-false, eqb-true, eqb-false, eq-eqb, not-true, not-false}
-use Rattle.columns.specs.Common.{every, if◌then◌else◌, tabulate, In}
+use Rattle.columns.specs.Common.{every, tabulate, In}
 use Rattle.columns.specs.Blocks.{part}
 use Rattle.columns.proofs.Tests.{by_test, every_at, and_both}
 use Rattle.columns.proofs.Tabulate.{part_get, length_tabulate, get_d_tabulate}

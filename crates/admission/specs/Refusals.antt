@@ -1,6 +1,5 @@
 -- Refusals 6 to 8 of operations 1 to 3 on a present CPU, in the table's order; 0 for none. Assumes nothing.
-use Rattle.std.specs.Prelude.{Bool, true, false, not, ◌&&◌, ℕ, ◌-◌, ltb, eqb}
-use Rattle.columns.specs.Common.{if◌then◌else◌}
+use Rattle.std.specs.Prelude.{Bool, true, false, not, ◌&&◌, ℕ, ◌-◌, ltb, eqb, if◌then◌else◌}
 use Rattle.context.specs.declared.Context.{Context}
 use Rattle.percpu.specs.declared.PercpuBlock.{PercpuBlock}
 use Rattle.machine.specs.Machine.{Machine, context_at, cpu_at}

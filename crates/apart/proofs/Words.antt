@@ -1,4 +1,5 @@
 -- The words of a CPU's block name what the CPU names. Assumes nothing.
+use Rattle.std.specs.Prelude.{if◌then◌else◌}
 use mathlib.Core.Path.{◌≡◌, refl, sym, ap, ◌∙◌, subst}
 use mathlib.Core.Bool.{Bool, true, false, not, ◌&&◌, ◌||◌}
 use mathlib.Core.List.{List, [], ◌∷◌, ◌++◌}
@@ -6,7 +7,7 @@ use Prim.Native.Nat.{ℕ, zero, suc, ◌+◌, ◌-◌, ◌<◌}
 use native.Mathlib.Omega.{arith}
 use lib.Dec.{eqb}
 use lib.ListN.{length, get_or, take, drop, length-map}
-use Rattle.columns.specs.Common.{if◌then◌else◌, every, mark}
+use Rattle.columns.specs.Common.{every, mark}
 use Rattle.columns.proofs.Tests.{by_test}
 use Rattle.columns.proofs.Tabulate.{get_d_map}
 use Rattle.entries.specs.declared.Entry.{Entry}

@@ -1,6 +1,6 @@
 -- The contexts that a CPU names, as the words of its block have them. Assumes nothing.
-use Rattle.std.specs.Prelude.{◌≡◌, Bool, true, not, ℕ, ◌+◌, ◌<◌, ◌≤◌, List, eqb, length, get_or}
-use Rattle.columns.specs.Common.{if◌then◌else◌, every}
+use Rattle.std.specs.Prelude.{◌≡◌, Bool, true, not, ℕ, ◌+◌, ◌<◌, ◌≤◌, List, eqb, length, get_or, if◌then◌else◌}
+use Rattle.columns.specs.Common.{every}
 use Rattle.percpu.specs.Places.{current_ctxt_place, sched_ctxt_place, idle_ctxt_place, queue_count, timers_count, local_count, ipi_count, entry_context_ref_column, timer_context_ref_column, local_wakeup_list_column, ipi_context_wakeup_list_column, front_size, block_size}
 
 -- x is current, in charge or idle

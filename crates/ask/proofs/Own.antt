@@ -1,4 +1,5 @@
 -- A switch of any words that is refused: it keeps every word, and its number is at most 9. Assumes nothing.
+use Rattle.std.specs.Prelude.{if◌then◌else◌}
 use mathlib.Core.Path.{◌≡◌, refl, sym}
 use mathlib.Core.Bool.{Bool, true, false, not}
 use Prim.Native.Nat.{ℕ, ◌≤◌}
@@ -6,7 +7,6 @@ use native.Mathlib.Omega.{arith}
 use mathlib.Core.List.{List}
 use lib.Dec.{ltb, eqb}
 use lib.ListN.{length}
-use Rattle.columns.specs.Common.{if◌then◌else◌}
 use Rattle.columns.proofs.Tests.{by_test}
 use Rattle.machine.specs.declared.CpuLookup.{CpuLookup}
 use Rattle.machine.specs.declared.CpuLookup.TheVariants.{Present, Absent}

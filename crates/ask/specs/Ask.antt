@@ -1,6 +1,5 @@
 -- Asking what a switch would give, and committing to it (document 02, No. 9). Assumes nothing.
-use Rattle.std.specs.Prelude.{ℕ, List, eqb}
-use Rattle.columns.specs.Common.{if◌then◌else◌}
+use Rattle.std.specs.Prelude.{ℕ, List, eqb, if◌then◌else◌}
 use Rattle.image.specs.Refusal.{size_n}
 use Rattle.context_ops.specs.Reply.{Reply, refuse}
 use Rattle.asked.specs.declared.Asked.{Asked}

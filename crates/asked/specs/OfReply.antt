@@ -1,6 +1,5 @@
 -- The five numbers of a reply: refusal, result, in charge, current and V (document 02, No. 9). Assumes nothing.
-use Rattle.std.specs.Prelude.{Bool, not, ◌&&◌, ℕ, ◌+◌, ◌≤◌, List, eqb, length, get_or}
-use Rattle.columns.specs.Common.{if◌then◌else◌}
+use Rattle.std.specs.Prelude.{Bool, not, ◌&&◌, ℕ, ◌+◌, ◌≤◌, List, eqb, length, get_or, if◌then◌else◌}
 use Rattle.percpu.specs.Places.{current_ctxt_place, sched_ctxt_place, v_place, block_size}
 use Rattle.machine.specs.Encode.{cpu_place}
 use Rattle.context_ops.specs.Reply.{Reply}

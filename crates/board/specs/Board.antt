@@ -1,6 +1,6 @@
 -- A cue board: its bytes, its sizes and its cues. Assumes nothing.
-use Rattle.std.specs.Prelude.{Bool, ◌&&◌, ◌≡◌, ℕ, ◌+◌, ◌-◌, ◌*◌, ◌≤◌, List, ◌++◌, ltb, leb, eqb, length, get_or, replicate}
-use Rattle.columns.specs.Common.{if◌then◌else◌, tabulate}
+use Rattle.std.specs.Prelude.{Bool, ◌&&◌, ◌≡◌, ℕ, ◌+◌, ◌-◌, ◌*◌, ◌≤◌, List, ◌++◌, ltb, leb, eqb, length, get_or, replicate, if◌then◌else◌}
+use Rattle.columns.specs.Common.{tabulate}
 use Rattle.columns.specs.Blocks.{part, splice}
 use Rattle.le_bytes.specs.LeBytes.{from_le_bytes, to_le_bytes}
 use Rattle.board.specs.declared.Sizes.{Sizes}

@@ -1,6 +1,5 @@
 -- A call beside which a window is lent (document 02, No. 11). Assumes nothing.
-use Rattle.std.specs.Prelude.{not, ℕ, ◌+◌, ◌-◌, List, eqb, get_or}
-use Rattle.columns.specs.Common.{if◌then◌else◌}
+use Rattle.std.specs.Prelude.{not, ℕ, ◌+◌, ◌-◌, List, eqb, get_or, if◌then◌else◌}
 use Rattle.percpu.specs.Places.{sched_ctxt_place, schedule_time_place}
 use Rattle.machine.specs.Encode.{cpu_place}
 use Rattle.image.specs.Refusal.{size_n}

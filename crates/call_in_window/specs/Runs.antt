@@ -1,6 +1,6 @@
 -- Runs of calls in a window that nobody else writes. Assumes nothing.
-use Rattle.std.specs.Prelude.{◌≡◌, ℕ, List, [], ◌∷◌, ◌++◌, eqb, length}
-use Rattle.columns.specs.Common.{if◌then◌else◌, All}
+use Rattle.std.specs.Prelude.{◌≡◌, ℕ, List, [], ◌∷◌, ◌++◌, eqb, length, if◌then◌else◌}
+use Rattle.columns.specs.Common.{All}
 use Rattle.image.specs.Refusal.{size_n}
 use Rattle.answer.specs.declared.Answer.{Answer}
 use Rattle.calls.specs.Call.{call}

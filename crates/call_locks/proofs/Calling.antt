@@ -1,4 +1,5 @@
 -- Operations 1 to 3 with other words where they do not look: contexts outside the set, and other CPUs' queue locks. Assumes nothing.
+use Rattle.std.specs.Prelude.{if◌then◌else◌}
 use mathlib.Core.Path.{◌≡◌, refl, sym, ap, ◌∙◌}
 use mathlib.Core.Logic.{◌⊎◌, inl, inr}
 use mathlib.Core.Bool.{Bool, true, false}
@@ -9,7 +10,7 @@ use native.Mathlib.Omega.{arith}
 use lib.Dec.{eqb, ltb}
 use lib.ListN.{length}
 use borrow.Author.Tests.{ne_eqb, eqb-false}
-use Rattle.columns.specs.Common.{if◌then◌else◌, All}
+use Rattle.columns.specs.Common.{All}
 use Rattle.ticks.specs.Ticks.{tick_interval}
 use Rattle.context.specs.declared.Context.{Context}
 use Rattle.runnable.specs.Runnable.{update_runnable}

@@ -1,4 +1,5 @@
 -- With other words for all that a call does not read it answers the same, and leaves the same image but for those words.
+use Rattle.std.specs.Prelude.{if◌then◌else◌}
 use mathlib.Core.Path.{◌≡◌, refl, sym, ap, ◌∙◌, subst}
 use mathlib.Core.Bool.{Bool, true, false}
 use mathlib.Core.List.{List}
@@ -6,7 +7,6 @@ use Prim.Native.Nat.{ℕ}
 use lib.Dec.{eqb}
 use lib.ListN.{length}
 use borrow.Author.Tests.{eqb-true}
-use Rattle.columns.specs.Common.{if◌then◌else◌}
 use Rattle.columns.proofs.Tabulate.{length_tabulate}
 use Rattle.context.specs.declared.Context.{Context}
 use Rattle.context.specs.declared.Status.TheVariants.{Blocked, Stopped}

@@ -1,11 +1,12 @@
 -- Operations 4 to 7 with other words where they do not look. Assumes nothing.
+use Rattle.std.specs.Prelude.{if◌then◌else◌}
 use mathlib.Core.Path.{◌≡◌, refl, ap, ◌∙◌}
 use mathlib.Core.Bool.{Bool, true, false}
 use mathlib.Core.List.{List, [], ◌++◌}
 use Prim.Native.Nat.{ℕ, ◌-◌}
 use lib.Dec.{leb, ltb, eqb}
 use lib.ListN.{length}
-use Rattle.columns.specs.Common.{if◌then◌else◌, mark}
+use Rattle.columns.specs.Common.{mark}
 use Rattle.context.specs.declared.Context.{Context}
 use Rattle.context.specs.declared.Status.{Status}
 use Rattle.context.specs.Status.{is_runnable}

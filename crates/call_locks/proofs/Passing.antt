@@ -1,11 +1,11 @@
 -- An image that passes the check passes with other lock words in their ranges. Assumes nothing.
+use Rattle.std.specs.Prelude.{if◌then◌else◌}
 use mathlib.Core.Path.{◌≡◌, refl, sym, ap, ◌∙◌, subst}
 use mathlib.Core.Bool.{Bool}
 use mathlib.Core.List.{List}
 use Prim.Native.Nat.{ℕ, ◌<◌}
 use native.Mathlib.Omega.{arith}
 use lib.ListN.{length}
-use Rattle.columns.specs.Common.{if◌then◌else◌}
 use Rattle.columns.proofs.Tests.{by_test, clash}
 use Rattle.columns.proofs.Tabulate.{get_d_tabulate}
 use Rattle.context.specs.declared.Context.{Context}

@@ -1,7 +1,7 @@
 -- Lock and address-space words that a call does not read: those of contexts that its CPU does not name, and other CPUs' queue locks. Assumes nothing.
-use Rattle.std.specs.Prelude.{◌≡◌, Bool, false, ◌&&◌, ◌||◌, List, [], ◌∷◌, ◌++◌, ℕ, ◌≤◌, eqb, length, get_or}
+use Rattle.std.specs.Prelude.{◌≡◌, Bool, false, ◌&&◌, ◌||◌, List, [], ◌∷◌, ◌++◌, ℕ, ◌≤◌, eqb, length, get_or, if◌then◌else◌}
 use Rattle.std.proofs.Math.Option.{none}
-use Rattle.columns.specs.Common.{if◌then◌else◌, tabulate}
+use Rattle.columns.specs.Common.{tabulate}
 use Rattle.context.specs.declared.Context.{Context}
 use Rattle.context.specs.With.{with_lock, with_addr_space}
 use Rattle.percpu.specs.Cpu.{Cpu}

@@ -1,4 +1,5 @@
 -- A list of switches of CPUs that are pairwise apart gives the same image and answers in every order that keeps each CPU's own.
+use Rattle.std.specs.Prelude.{if◌then◌else◌}
 use mathlib.Core.Path.{◌≡◌, refl, sym, ap, ◌∙◌, subst}
 use mathlib.Core.Logic.{◌≢◌}
 use mathlib.Core.Bool.{Bool, true, false}
@@ -8,7 +9,7 @@ use native.Mathlib.Omega.{arith}
 use lib.Dec.{eqb, ltb}
 use lib.ListN.{length}
 use borrow.Author.Tests.{ltb-true, ltb-false, eq-eqb}
-use Rattle.columns.specs.Common.{if◌then◌else◌, In}
+use Rattle.columns.specs.Common.{In}
 use Rattle.columns.proofs.Tabulate.{get_d_past}
 use Rattle.percpu.specs.Cpu.{Cpu}
 use Rattle.percpu.specs.Words.{block_of}

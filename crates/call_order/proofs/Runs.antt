@@ -1,4 +1,5 @@
 -- Switches of CPUs that are pairwise apart: each CPU's part of the machine is as if its own had been made alone. Assumes nothing.
+use Rattle.std.specs.Prelude.{if◌then◌else◌}
 use mathlib.Core.Path.{◌≡◌, refl, sym, ◌∙◌, subst}
 use mathlib.Core.Logic.{◌≢◌, ◌⊎◌, inl, inr}
 use mathlib.Core.Bool.{Bool, true, false}
@@ -7,7 +8,7 @@ use Prim.Native.Nat.{ℕ, ◌<◌}
 use lib.Dec.{eqb}
 use lib.ListN.{length}
 use borrow.Author.Tests.{eqb-true, eqb-false, eq-eqb}
-use Rattle.columns.specs.Common.{if◌then◌else◌, In}
+use Rattle.columns.specs.Common.{In}
 use Rattle.answer.specs.declared.Answer.{Answer}
 use Rattle.machine.specs.Machine.{Machine, context_at, cpu_at}
 use Rattle.model.specs.Schedule.{switch}

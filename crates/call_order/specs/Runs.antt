@@ -1,6 +1,6 @@
 -- Switches of CPUs that are pairwise apart, in any order that keeps each CPU's own. Assumes nothing.
-use Rattle.std.specs.Prelude.{◌≡◌, ◌≢◌, true, false, List, [], ◌∷◌, ℕ, eqb}
-use Rattle.columns.specs.Common.{if◌then◌else◌, keep, All, In}
+use Rattle.std.specs.Prelude.{◌≡◌, ◌≢◌, true, false, List, [], ◌∷◌, ℕ, eqb, if◌then◌else◌}
+use Rattle.columns.specs.Common.{keep, All, In}
 use Rattle.answer.specs.declared.Answer.{Answer}
 use Rattle.machine.specs.Machine.{Machine, cpu_at}
 use Rattle.machine.specs.Encode.{decode}

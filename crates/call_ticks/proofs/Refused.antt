@@ -1,10 +1,10 @@
 -- A refused call keeps every word of the image, whatever its operation. Assumes nothing.
+use Rattle.std.specs.Prelude.{if◌then◌else◌}
 use mathlib.Core.Path.{◌≡◌, refl}
 use mathlib.Core.Bool.{Bool}
 use mathlib.Core.List.{List}
 use Prim.Native.Nat.{ℕ}
 use lib.Dec.{eqb}
-use Rattle.columns.specs.Common.{if◌then◌else◌}
 use Rattle.machine.specs.declared.Lookup.{Lookup}
 use Rattle.machine.specs.declared.Lookup.TheVariants.{Live, Gone}
 use Rattle.machine.specs.declared.CpuLookup.{CpuLookup}

@@ -1,7 +1,6 @@
 -- Document 02, No. 8, of calls on images: the ticks that the accepted decisions of a CPU gave, the time that they took, and the remainder that
 -- each found. Assumes nothing.
-use Rattle.std.specs.Prelude.{◌≡◌, true, List, [], ◌∷◌, ℕ, ◌+◌, ◌*◌, eqb}
-use Rattle.columns.specs.Common.{if◌then◌else◌}
+use Rattle.std.specs.Prelude.{◌≡◌, true, List, [], ◌∷◌, ℕ, ◌+◌, ◌*◌, eqb, if◌then◌else◌}
 use Rattle.ticks.specs.declared.Spent.{Spent}
 use Rattle.ticks.specs.Ticks.{nanos_per_tick, scale}
 use Rattle.machine.specs.Machine.{Machine, cpu_at}

@@ -1,4 +1,5 @@
 -- From the reply of an accepted call to the machine that its image stands for. Assumes nothing.
+use Rattle.std.specs.Prelude.{if◌then◌else◌}
 use mathlib.Core.Path.{◌≡◌, refl, sym, ap, ◌∙◌, subst}
 use mathlib.Core.Bool.{Bool, true, false}
 use mathlib.Core.List.{List}
@@ -7,7 +8,6 @@ use native.Mathlib.Omega.{arith}
 use lib.Dec.{eqb}
 use borrow.Author.Tests.{eqb-false, ne_eqb}
 use Rattle.columns.proofs.Tests.{by_test}
-use Rattle.columns.specs.Common.{if◌then◌else◌}
 use Rattle.cpu_set.specs.Members.{members}
 use Rattle.context.specs.declared.Status.{Status}
 use Rattle.context.specs.declared.Status.TheVariants.{Blocked, Stopped}

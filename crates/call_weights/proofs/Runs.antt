@@ -1,4 +1,5 @@
 -- A decision on an image keeps the equality, and accepted calls on images keep it with all that it needs.
+use Rattle.std.specs.Prelude.{if◌then◌else◌}
 use mathlib.Core.Path.{◌≡◌, refl, sym, ap, ◌∙◌, subst}
 use mathlib.Core.Bool.{Bool, true, false}
 use mathlib.Core.List.{List, [], ◌∷◌}
@@ -6,7 +7,6 @@ use Prim.Native.Nat.{ℕ}
 use native.Mathlib.Omega.{arith}
 use lib.Dec.{eqb}
 use borrow.Author.Tests.{eqb-true, eqb-false}
-use Rattle.columns.specs.Common.{if◌then◌else◌}
 use Rattle.cpu_set.specs.Members.{members}
 use Rattle.context.specs.declared.Status.TheVariants.{Blocked, Stopped}
 use Rattle.answer.specs.declared.Answer.{Answer}

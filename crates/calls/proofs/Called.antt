@@ -1,4 +1,5 @@
 -- A call, from what the check and the operation said. Assumes nothing.
+use Rattle.std.specs.Prelude.{if◌then◌else◌}
 use mathlib.Core.Path.{◌≡◌, refl, sym, ap, ◌∙◌}
 use mathlib.Core.Bool.{Bool, true, false}
 use Prim.Native.Nat.{ℕ, ◌≤◌}
@@ -8,7 +9,6 @@ use native.Mathlib.Omega.{arith}
 use Rattle.columns.proofs.Tests.{by_test}
 use lib.Dec.{eqb}
 use borrow.Author.Tests.{eqb-true, eqb-false, ne_eqb}
-use Rattle.columns.specs.Common.{if◌then◌else◌}
 use Rattle.machine.specs.Machine.{Machine}
 use Rattle.machine.specs.Encode.{encode, decode}
 use Rattle.machine.specs.Shape.{Fits, Image}

@@ -1,6 +1,5 @@
 -- What each call answers and the image it leaves, of any words, CPU, time and context. Assumes nothing.
-use Rattle.std.specs.Prelude.{Bool, true, false, ℕ, List, eqb}
-use Rattle.columns.specs.Common.{if◌then◌else◌}
+use Rattle.std.specs.Prelude.{Bool, true, false, ℕ, List, eqb, if◌then◌else◌}
 use Rattle.machine.specs.Machine.{Machine}
 use Rattle.machine.specs.Encode.{decode}
 use Rattle.machine.specs.LookUp.{get_percpu_block}

@@ -1,6 +1,6 @@
 -- A CPU and a context that is on no CPU: neither queued nor in charge (document 02, No. 12). Assumes nothing.
-use Rattle.std.specs.Prelude.{Bool, true, false, not, ℕ, List, eqb, length, get_or}
-use Rattle.columns.specs.Common.{if◌then◌else◌, every}
+use Rattle.std.specs.Prelude.{Bool, true, false, not, ℕ, List, eqb, length, get_or, if◌then◌else◌}
+use Rattle.columns.specs.Common.{every}
 use Rattle.entries.specs.declared.Entry.{Entry}
 use Rattle.percpu.specs.Cpu.{Cpu}
 use Rattle.percpu.specs.Layout.{no_entry}

@@ -1,6 +1,5 @@
 -- What the holder pays for its turn. Assumes nothing.
-use Rattle.std.specs.Prelude.{Bool, false, ℕ, ◌+◌, ◌-◌, ◌*◌, ◌/◌, ◌<◌, ◌≤◌, max, ltb, eqb}
-use Rattle.columns.specs.Common.{if◌then◌else◌}
+use Rattle.std.specs.Prelude.{Bool, false, ℕ, ◌+◌, ◌-◌, ◌*◌, ◌/◌, ◌<◌, ◌≤◌, max, ltb, eqb, if◌then◌else◌}
 use Rattle.context.specs.declared.Context.{Context}
 use Rattle.context.specs.With.{with_vtime, with_vd, with_rem_slice, with_is_active}
 use Rattle.ticks.specs.declared.Spent.{Spent}

@@ -1,11 +1,5 @@
 -- Choosing by a test, marks, folds and tests over a list. Assumes nothing.
-use Rattle.std.specs.Prelude.{Bool, true, false, ◌&&◌, List, [], ◌∷◌, ◌⊎◌, ◌≡◌, refl, ℕ, zero, suc, eqb}
-
-module _ {ℓ} {A : Type ℓ} where
-  infixr 5 if◌then◌else◌
-  abbrev pub if◌then◌else◌ : Bool → A → A → A
-  if true then x else y = x
-  if false then x else y = y
+use Rattle.std.specs.Prelude.{Bool, true, false, ◌&&◌, List, [], ◌∷◌, ◌⊎◌, ◌≡◌, refl, ℕ, zero, suc, eqb, if◌then◌else◌}
 
 -- a mark's word
 abbrev pub mark : Bool → ℕ

@@ -1,6 +1,5 @@
 -- `block`, `hard_block` and `unblock_no_ipi`. Assumes nothing.
-use Rattle.std.specs.Prelude.{Bool, true, false}
-use Rattle.columns.specs.Common.{if◌then◌else◌}
+use Rattle.std.specs.Prelude.{Bool, true, false, if◌then◌else◌}
 use Rattle.context.specs.declared.Context.{Context}
 use Rattle.context.specs.declared.Changed.{Changed}
 use Rattle.context.specs.declared.Status.{Status}

@@ -1,4 +1,5 @@
 -- Operations 4 to 7, from what the code's calls and tests said. Assumes nothing.
+use Rattle.std.specs.Prelude.{if◌then◌else◌}
 use mathlib.Core.Path.{◌≡◌, refl, sym, ap, ◌∙◌, subst}
 use mathlib.Core.Bool.{Bool, true, false}
 use Prim.Native.Nat.{ℕ, zero, suc, ◌+◌, ◌-◌, ◌*◌, ◌<◌, ◌≤◌}
@@ -17,7 +18,7 @@ use Rattle.context_ops.specs.Named.{named}
 use Rattle.context_ops.proofs.Resolved.{found}
 use Rattle.context_ops.proofs.Waking.{local_counted, ipi_counted}
 use lib.Seq.{get_or-set_same, set-get_or}
-use Rattle.columns.specs.Common.{if◌then◌else◌, mark}
+use Rattle.columns.specs.Common.{mark}
 use Rattle.columns.proofs.Tests.{by_test}
 use Rattle.context.specs.declared.Context.{Context}
 use Rattle.context.specs.declared.Changed.{Changed}

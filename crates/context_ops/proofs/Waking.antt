@@ -1,4 +1,5 @@
 -- Names put on wake-up lists of the image. Assumes nothing.
+use Rattle.std.specs.Prelude.{if◌then◌else◌}
 use mathlib.Core.Path.{◌≡◌, refl, sym, ap, ◌∙◌}
 use mathlib.Core.Bool.{Bool, true, false}
 use Prim.Native.Nat.{ℕ, zero, suc, ◌+◌, ◌-◌, ◌*◌, ◌<◌, ◌≤◌}
@@ -8,7 +9,6 @@ use lib.Dec.{leb, ltb, eqb}
 use lib.ListN.{length, get_or, set, take, drop, length-append, get_or-append}
 use lib.Seq.{get_or-append-add}
 use borrow.Author.Tests.{le-leb, lt-leb, ltb-true, ltb-false, eq-eqb, ne_eqb}
-use Rattle.columns.specs.Common.{if◌then◌else◌}
 use Rattle.columns.specs.Blocks.{part, part_is}
 use Rattle.columns.proofs.Tests.{by_test}
 use Rattle.columns.proofs.Tabulate.{part_get}

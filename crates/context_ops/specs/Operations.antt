@@ -1,6 +1,6 @@
 -- Operations 4 to 7: what each makes of a machine, called on CPU k. Assumes nothing.
-use Rattle.std.specs.Prelude.{Bool, true, false, ℕ, List, [], ◌∷◌, ◌++◌, ltb, length}
-use Rattle.columns.specs.Common.{if◌then◌else◌, mark}
+use Rattle.std.specs.Prelude.{Bool, true, false, ℕ, List, [], ◌∷◌, ◌++◌, ltb, length, if◌then◌else◌}
+use Rattle.columns.specs.Common.{mark}
 use Rattle.context.specs.declared.Status.{Status}
 use Rattle.context.specs.declared.Status.TheVariants.{Blocked, Stopped}
 use Rattle.context.specs.Status.{is_runnable}

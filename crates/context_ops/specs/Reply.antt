@@ -1,6 +1,6 @@
 -- What a call answers, and the image it leaves. Assumes nothing.
-use Rattle.std.specs.Prelude.{Bool, true, false, ℕ, List}
-use Rattle.columns.specs.Common.{if◌then◌else◌, mark}
+use Rattle.std.specs.Prelude.{Bool, true, false, ℕ, List, if◌then◌else◌}
+use Rattle.columns.specs.Common.{mark}
 use Rattle.machine.specs.declared.CpuLookup.{CpuLookup}
 use Rattle.machine.specs.declared.CpuLookup.TheVariants.{Present, Absent}
 use Rattle.machine.specs.Machine.{Machine}

@@ -1,6 +1,5 @@
 -- `wakeup_context`: a context's name goes on the list of its last CPU, or of this one. Assumes nothing.
-use Rattle.std.specs.Prelude.{Bool, true, false, ℕ, ◌-◌, leb, eqb, length}
-use Rattle.columns.specs.Common.{if◌then◌else◌}
+use Rattle.std.specs.Prelude.{Bool, true, false, ℕ, ◌-◌, leb, eqb, length, if◌then◌else◌}
 use Rattle.percpu.specs.Lists.{cpu_push_local, cpu_push_ipi}
 use Rattle.machine.specs.declared.CpuLookup.{CpuLookup}
 use Rattle.machine.specs.declared.CpuLookup.TheVariants.{Present, Absent}

@@ -1,4 +1,5 @@
 -- Going through a set by its lowest bit gives its CPUs in rising order, each once. Assumes nothing.
+use Rattle.std.specs.Prelude.{if◌then◌else◌}
 use mathlib.Core.Path.{◌≡◌, refl, sym, ap, ◌∙◌}
 use mathlib.Core.Bool.{Bool}
 use mathlib.Core.List.{List, [], ◌∷◌}
@@ -11,7 +12,7 @@ use lib.ListN.{length}
 use lib.Pow.{pow_pos, shl_exact}
 use lib.Count.{count_trailing_zeros, ones, ones_in, ones_step}
 use borrow.Author.Tests.{eq-eqb, ne_eqb, eqb-true, eqb-false}
-use Rattle.columns.specs.Common.{if◌then◌else◌, keep, tabulate}
+use Rattle.columns.specs.Common.{keep, tabulate}
 use Rattle.columns.proofs.Tests.{by_test}
 use Rattle.cpu_set.specs.Set.{contains}
 use Rattle.cpu_set.specs.Members.{members, next_cpu, rest_cpus}

@@ -1,6 +1,5 @@
 -- Asking a board for its next cue at a time: the answer, every byte of the board and every word of the image after. Assumes nothing.
-use Rattle.std.specs.Prelude.{ℕ, ◌+◌, List, eqb}
-use Rattle.columns.specs.Common.{if◌then◌else◌}
+use Rattle.std.specs.Prelude.{ℕ, ◌+◌, List, eqb, if◌then◌else◌}
 use Rattle.context_ops.specs.Reply.{Reply}
 use Rattle.calls.specs.Call.{unblock_context_call}
 use Rattle.board.specs.Board.{Cue, put_number, cue_at}

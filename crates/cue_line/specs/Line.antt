@@ -1,6 +1,5 @@
 -- Refusals 1, 10 and 11 of a board: its sizes, its rows and its starts. Assumes nothing.
-use Rattle.std.specs.Prelude.{Bool, true, ◌&&◌, not, ℕ, List, [], ◌∷◌, ltb, leb}
-use Rattle.columns.specs.Common.{if◌then◌else◌}
+use Rattle.std.specs.Prelude.{Bool, true, ◌&&◌, not, ℕ, List, [], ◌∷◌, ltb, leb, if◌then◌else◌}
 use Rattle.board.specs.Board.{Cue, row_size, is_sized}
 
 unfoldable pub rows_fit : Cue → Bool

@@ -1,4 +1,5 @@
 -- Every call on a board of right sizes advances it. Assumes nothing.
+use Rattle.std.specs.Prelude.{if◌then◌else◌}
 use mathlib.Core.Path.{◌≡◌, refl}
 use mathlib.Core.Bool.{true}
 use mathlib.Core.Logic.{inr}
@@ -7,7 +8,6 @@ use native.Mathlib.Omega.{arith}
 use mathlib.Core.List.{List, [], ◌∷◌}
 use lib.Dec.{eqb}
 use borrow.Author.Tests.{eqb-true}
-use Rattle.columns.specs.Common.{if◌then◌else◌}
 use Rattle.columns.specs.Blocks.{part}
 use Rattle.columns.proofs.Tests.{by_test}
 use Rattle.numbers.specs.Limits.{word_range}

@@ -1,6 +1,6 @@
 -- Runs of calls on a board that nobody else writes. Assumes nothing.
-use Rattle.std.specs.Prelude.{◌≡◌, true, ℕ, ◌<◌, List, [], ◌∷◌, ◌++◌, eqb, length, take}
-use Rattle.columns.specs.Common.{if◌then◌else◌, All}
+use Rattle.std.specs.Prelude.{◌≡◌, true, ℕ, ◌<◌, List, [], ◌∷◌, ◌++◌, eqb, length, take, if◌then◌else◌}
+use Rattle.columns.specs.Common.{All}
 use Rattle.columns.specs.Blocks.{part}
 use Rattle.numbers.specs.Limits.{word_range}
 use Rattle.board.specs.Board.{Cue, capacity, stored, is_sized, row_place, row_size, offered}

@@ -1,4 +1,5 @@
 -- Refusals 10 and 11 with one more cue in line, which is offered. Assumes nothing.
+use Rattle.std.specs.Prelude.{if◌then◌else◌}
 use mathlib.Core.Path.{◌≡◌, sym, ap, ◌∙◌}
 use mathlib.Core.Bool.{Bool, true, false, ◌&&◌, ◌||◌, not}
 use Prim.Native.Nat.{ℕ, ◌-◌}
@@ -7,7 +8,7 @@ use mathlib.Core.List.{List, [], ◌∷◌, ◌++◌}
 use lib.Dec.{ltb, leb, eqb}
 use lib.ListN.{length}
 use borrow.Author.Tests.{eqb-false, not-false}
-use Rattle.columns.specs.Common.{if◌then◌else◌, tabulate}
+use Rattle.columns.specs.Common.{tabulate}
 use Rattle.columns.proofs.Tests.{by_test, and_no, past}
 use Rattle.columns.proofs.Tabulate.{length_tabulate}
 use Rattle.board.specs.Board.{Cue, row_size}

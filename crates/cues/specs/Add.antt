@@ -1,6 +1,5 @@
 -- Adding a cue: its refusal, and every byte of the board after. Assumes nothing.
-use Rattle.std.specs.Prelude.{ℕ, ◌+◌, List, [], ◌∷◌, ◌++◌, eqb}
-use Rattle.columns.specs.Common.{if◌then◌else◌}
+use Rattle.std.specs.Prelude.{ℕ, ◌+◌, List, [], ◌∷◌, ◌++◌, eqb, if◌then◌else◌}
 use Rattle.board.specs.Board.{Cue, capacity, stored, put_number, cues}
 use Rattle.slots.specs.Slots.{put_cue}
 use Rattle.cue_line.specs.Line.{board_refusal}

@@ -1,6 +1,5 @@
 -- Which cue is due. Assumes nothing.
-use Rattle.std.specs.Prelude.{Bool, ◌&&◌, ℕ, List, ltb, leb, eqb}
-use Rattle.columns.specs.Common.{if◌then◌else◌}
+use Rattle.std.specs.Prelude.{Bool, ◌&&◌, ℕ, List, ltb, leb, eqb, if◌then◌else◌}
 use Rattle.board.specs.Board.{Cue, capacity, stored, handed_out, cue_at, cues}
 use Rattle.cue_line.specs.Line.{board_refusal}
 use Rattle.cues.specs.declared.Due.{Due}

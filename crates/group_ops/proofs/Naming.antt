@@ -1,4 +1,5 @@
 -- The refusal of a set of names, from the loop over its mask. Assumes nothing.
+use Rattle.std.specs.Prelude.{if◌then◌else◌}
 use mathlib.Core.Path.{◌≡◌, refl, sym, ap, ◌∙◌}
 use mathlib.Core.List.{List, [], ◌∷◌}
 use Prim.Native.Nat.{ℕ, ◌<◌, ◌≤◌}
@@ -6,7 +7,7 @@ use native.Mathlib.Omega.{arith}
 use lib.Dec.{ltb, eqb}
 use lib.ListN.{length}
 use borrow.Author.Tests.{eq-eqb, ne_eqb, lt-ltb, le-ltb, eqb-true, eqb-false}
-use Rattle.columns.specs.Common.{if◌then◌else◌, fold, All}
+use Rattle.columns.specs.Common.{fold, All}
 use Rattle.columns.proofs.Tests.{by_test}
 use Rattle.cpu_set.specs.Members.{members, next_cpu, rest_cpus}
 use Rattle.cpu_set.proofs.Members.{members_step, members_none}

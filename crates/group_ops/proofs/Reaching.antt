@@ -1,4 +1,5 @@
 -- The loop over a set's names: what it has reached, and what that comes to. Assumes nothing.
+use Rattle.std.specs.Prelude.{if◌then◌else◌}
 use mathlib.Core.Path.{◌≡◌, refl, sym, ap, ◌∙◌}
 use mathlib.Core.Bool.{Bool, true, false, ◌||◌}
 use mathlib.Core.List.{List, [], ◌∷◌}
@@ -7,7 +8,7 @@ use native.Mathlib.Omega.{arith}
 use lib.Dec.{eqb}
 use lib.ListN.{length}
 use borrow.Author.Tests.{eq-eqb, ne_eqb}
-use Rattle.columns.specs.Common.{if◌then◌else◌, mark, fold, All}
+use Rattle.columns.specs.Common.{mark, fold, All}
 use Rattle.columns.proofs.Tests.{by_test, clash}
 use Rattle.cpu_set.specs.Members.{members, next_cpu, rest_cpus}
 use Rattle.cpu_set.proofs.Members.{members_step, members_none}

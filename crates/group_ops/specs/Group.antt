@@ -1,6 +1,6 @@
 -- `unblock_group`: operation 4 for every context of a set, or for none. Assumes nothing.
-use Rattle.std.specs.Prelude.{◌≡◌, Bool, true, false, ◌||◌, List, ℕ, ◌+◌, ltb, eqb}
-use Rattle.columns.specs.Common.{if◌then◌else◌, mark, fold}
+use Rattle.std.specs.Prelude.{◌≡◌, Bool, true, false, ◌||◌, List, ℕ, ◌+◌, ltb, eqb, if◌then◌else◌}
+use Rattle.columns.specs.Common.{mark, fold}
 use Rattle.cpu_set.specs.Members.{members}
 use Rattle.answer.specs.declared.Answer.{Answer}
 use Rattle.machine.specs.declared.CpuLookup.{CpuLookup}

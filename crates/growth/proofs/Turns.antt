@@ -1,4 +1,5 @@
 -- The bound of a turn, from the words that it is worked out by. Assumes nothing.
+use Rattle.std.specs.Prelude.{if◌then◌else◌}
 use mathlib.Core.Path.{◌≡◌, refl, ap, ◌∙◌}
 use mathlib.Core.Logic.{◌⊎◌, inl, inr}
 use mathlib.Core.Bool.{Bool, true, false, not, ◌&&◌}
@@ -7,7 +8,6 @@ use Prim.Native.Nat.{ℕ, ◌-◌, ◌%◌, ◌<◌, ◌≤◌}
 use native.Mathlib.Omega.{arith}
 use lib.Dec.{ltb, eqb}
 use borrow.Author.Tests.{ltb-false, eqb-false, ne_eqb}
-use Rattle.columns.specs.Common.{if◌then◌else◌}
 use Rattle.ticks.specs.Ticks.{ticks, max_remainder}
 use Rattle.machine.specs.Machine.{Machine, context_at, cpu_at}
 use Rattle.model.specs.State.{State, state_of, is_some}

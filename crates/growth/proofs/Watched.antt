@@ -1,10 +1,10 @@
 -- What a decision does not touch before the stealing: the words that a stealing turn goes by, and the weight that the CPU publishes up to the choice. Assumes nothing.
+use Rattle.std.specs.Prelude.{if◌then◌else◌}
 use mathlib.Core.Path.{◌≡◌}
 use mathlib.Core.Bool.{Bool, true, false}
 use mathlib.Core.Option.{Option, none, some}
 use Prim.Native.Nat.{ℕ, ◌+◌, ◌≤◌, max}
 use native.Mathlib.Omega.{arith}
-use Rattle.columns.specs.Common.{if◌then◌else◌}
 use Rattle.weights.specs.Weights.{weight}
 use Rattle.context.specs.Status.{is_runnable}
 use Rattle.ticks.specs.declared.Spent.{Spent}

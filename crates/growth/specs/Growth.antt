@@ -1,11 +1,10 @@
 -- Bounds of what grows in a machine, and what a call adds to them. Assumes nothing.
-use Rattle.std.specs.Prelude.{Bool, ◌&&◌, ◌≡◌, List, ℕ, ◌+◌, ◌-◌, ◌*◌, ◌%◌, ◌^◌, ◌<◌, ◌≤◌, ltb, leb, eqb}
+use Rattle.std.specs.Prelude.{Bool, ◌&&◌, ◌≡◌, List, ℕ, ◌+◌, ◌-◌, ◌*◌, ◌%◌, ◌^◌, ◌<◌, ◌≤◌, ltb, leb, eqb, if◌then◌else◌}
 use Rattle.percpu.specs.declared.PercpuBlock.{PercpuBlock}
 use Rattle.machine.specs.Machine.{Machine, cpu_at}
 use Rattle.machine.specs.Encode.{decode}
 use Rattle.image.specs.Refusal.{size_c, size_n, image_refusal}
 use Rattle.model.specs.Steal.{idle_steal_interval, steal_interval}
-use Rattle.columns.specs.Common.{if◌then◌else◌}
 use Rattle.stages.specs.Stage.{Below}
 use Rattle.stages.specs.Bounds.{slice_bound}
 use Rattle.numbers.specs.Limits.{max_number, max_elapsed}

@@ -1,4 +1,5 @@
 -- What the advance, the holder's way back and the hand-over add to what grows. Assumes nothing.
+use Rattle.std.specs.Prelude.{if◌then◌else◌}
 use mathlib.Core.Path.{◌≡◌, refl, sym, ap, ◌∙◌, subst}
 use mathlib.Core.Bool.{Bool, true, false, not, ◌&&◌, ◌||◌}
 use mathlib.Core.Option.{Option}
@@ -6,7 +7,6 @@ use Prim.Native.Nat.{ℕ, ◌+◌, ◌-◌, ◌*◌, ◌/◌, ◌<◌, ◌≤◌
 use native.Mathlib.Omega.{arith}
 use native.Mathlib.Nat.{div-le_self}
 use lib.Dec.{eqb}
-use Rattle.columns.specs.Common.{if◌then◌else◌}
 use Rattle.context.specs.declared.Context.{Context}
 use Rattle.weights.specs.Weights.{weight}
 use Rattle.percpu.specs.Cpu.{Cpu}

@@ -1,11 +1,11 @@
 -- Advance, way back and stealable word together, in the code's words. Assumes nothing.
+use Rattle.std.specs.Prelude.{if◌then◌else◌}
 use mathlib.Core.Path.{◌≡◌, refl, sym, ap, ◌∙◌, subst}
 use mathlib.Core.Bool.{Bool, true, false, not, ◌&&◌, ◌||◌}
 use mathlib.Core.List.{List}
 use mathlib.Core.Option.{Option, none}
 use Prim.Native.Nat.{ℕ, ◌+◌, ◌<◌, ◌≤◌}
 use native.Mathlib.Omega.{arith}
-use Rattle.columns.specs.Common.{if◌then◌else◌}
 use lib.Dec.{eqb}
 use Rattle.machine.specs.Shape.{CpuFits, Image}
 use Rattle.model.specs.State.{State, on_cpu, is_some}

@@ -1,6 +1,5 @@
 -- The end of a decision by the values that the code has read. Assumes nothing.
-use Rattle.std.specs.Prelude.{Bool, true, false, not, ◌&&◌, ◌||◌, ℕ, ◌+◌, ◌-◌, ◌/◌, eqb}
-use Rattle.columns.specs.Common.{if◌then◌else◌}
+use Rattle.std.specs.Prelude.{Bool, true, false, not, ◌&&◌, ◌||◌, ℕ, ◌+◌, ◌-◌, ◌/◌, eqb, if◌then◌else◌}
 use Rattle.context.specs.declared.Context.{Context}
 use Rattle.context.specs.With.{with_currently_scheduled, with_schedule_time, with_sched_cpu_time}
 use Rattle.weights.specs.Weights.{weight}

@@ -1,6 +1,5 @@
 -- The humblest priority that still gets the CPU (document 02, No. 12). Assumes nothing.
-use Rattle.std.specs.Prelude.{Bool, true, false, ℕ, zero, suc, List}
-use Rattle.columns.specs.Common.{if◌then◌else◌}
+use Rattle.std.specs.Prelude.{Bool, true, false, ℕ, zero, suc, List, if◌then◌else◌}
 use Rattle.machine.specs.Encode.{decode}
 use Rattle.context_ops.specs.declared.named.Named.{Named}
 use Rattle.context_ops.specs.declared.named.Named.TheVariants.{Refused, Found}

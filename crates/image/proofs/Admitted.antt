@@ -1,4 +1,5 @@
 -- An image that is not refused is the image of the machine found in it. Assumes nothing.
+use Rattle.std.specs.Prelude.{if◌then◌else◌}
 use mathlib.Core.Path.{◌≡◌, refl, sym, ap, ◌∙◌, subst}
 use mathlib.Core.Bool.{Bool, true, false, not, ◌&&◌}
 use Prim.Native.Nat.{ℕ, zero, suc, ◌+◌, ◌-◌, ◌*◌, ◌<◌, ◌≤◌}
@@ -7,7 +8,7 @@ use mathlib.Core.List.{List, []}
 use lib.Dec.{ltb, leb, eqb}
 use lib.ListN.{length, get_or}
 use borrow.Author.Tests.{eq-eqb, ne_eqb, leb-true, ltb-true, ltb-false, eqb-true, not-false}
-use Rattle.columns.specs.Common.{every, if◌then◌else◌, tabulate}
+use Rattle.columns.specs.Common.{every, tabulate}
 use Rattle.columns.specs.Blocks.{part, length_part}
 use native.Mathlib.Numerals.{add-one}
 use Rattle.entries.specs.Order.{before, sooner}

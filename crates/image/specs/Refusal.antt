@@ -1,6 +1,5 @@
 -- Refusals 1 to 4, in document 01's order; 0 for none. Assumes nothing.
-use Rattle.std.specs.Prelude.{Bool, true, false, ◌&&◌, not, ℕ, ◌+◌, ◌*◌, List, ltb, leb, eqb, length, get_or}
-use Rattle.columns.specs.Common.{if◌then◌else◌}
+use Rattle.std.specs.Prelude.{Bool, true, false, ◌&&◌, not, ℕ, ◌+◌, ◌*◌, List, ltb, leb, eqb, length, get_or, if◌then◌else◌}
 use Rattle.image_ranges.specs.Ranges.{contexts_in_range_to, blocks_in_range_to}
 use Rattle.image_structure.specs.Structure.{structure}
 use Rattle.machine.specs.Encode.{cpu_place}

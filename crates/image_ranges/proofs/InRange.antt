@@ -1,4 +1,5 @@
 -- What words in their ranges say of the record or the CPU found in them. Assumes nothing.
+use Rattle.std.specs.Prelude.{if◌then◌else◌}
 use mathlib.Core.Path.{◌≡◌, refl, sym, ap, ◌∙◌, subst}
 use mathlib.Core.Bool.{Bool, true, false, not, ◌&&◌}
 use Prim.Native.Nat.{ℕ, zero, suc, ◌+◌, ◌-◌, ◌*◌, ◌<◌, ◌≤◌}
@@ -8,7 +9,7 @@ use mathlib.Core.List.{List, []}
 use lib.Dec.{ltb, leb, eqb}
 use lib.ListN.{length, get_or}
 use borrow.Author.Tests.{le-leb, leb-true, ltb-true, ltb-false, eqb-true, eqb-false, not-false}
-use Rattle.columns.specs.Common.{every, if◌then◌else◌, tabulate}
+use Rattle.columns.specs.Common.{every, tabulate}
 use Rattle.columns.specs.Blocks.{part}
 use Rattle.columns.proofs.Tests.{by_test, every_at, and_both}
 use Rattle.columns.proofs.Tabulate.{part_get, length_tabulate, get_d_tabulate}

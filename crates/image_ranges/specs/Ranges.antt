@@ -1,6 +1,6 @@
 -- Document 01's ranges, word by word: refusal 3. Assumes nothing.
-use Rattle.std.specs.Prelude.{Bool, true, false, ◌&&◌, not, ℕ, ◌+◌, ◌-◌, ◌*◌, List, [], ◌∷◌, leb, eqb, get_or}
-use Rattle.columns.specs.Common.{if◌then◌else◌, every}
+use Rattle.std.specs.Prelude.{Bool, true, false, ◌&&◌, not, ℕ, ◌+◌, ◌-◌, ◌*◌, List, [], ◌∷◌, leb, eqb, get_or, if◌then◌else◌}
+use Rattle.columns.specs.Common.{every}
 use Rattle.columns.specs.Blocks.{part}
 use Rattle.percpu.specs.Layout.{counter}
 use Rattle.machine.specs.Encode.{context_place, cpu_place}

@@ -1,6 +1,5 @@
 -- A context and a CPU by their numbers, any number. Assumes nothing.
-use Rattle.std.specs.Prelude.{Bool, true, false, ◌&&◌, not, ℕ, leb, length}
-use Rattle.columns.specs.Common.{if◌then◌else◌}
+use Rattle.std.specs.Prelude.{Bool, true, false, ◌&&◌, not, ℕ, leb, length, if◌then◌else◌}
 use Rattle.machine.specs.declared.Lookup.{Lookup}
 use Rattle.machine.specs.declared.Lookup.TheVariants.{Live, Gone}
 use Rattle.machine.specs.declared.CpuLookup.{CpuLookup}

@@ -1,10 +1,10 @@
 -- Times and charging keep the invariant.
+use Rattle.std.specs.Prelude.{if◌then◌else◌}
 use mathlib.Core.Path.{◌≡◌, refl, ap, ◌∙◌}
 use mathlib.Core.Bool.{Bool, true, false}
 use Prim.Native.Nat.{ℕ, ◌+◌, ◌-◌, ◌/◌, ◌<◌, max}
 use lib.Dec.{eqb}
 use lib.ListN.{length}
-use Rattle.columns.specs.Common.{if◌then◌else◌}
 use Rattle.context.specs.declared.Context.{Context}
 use Rattle.context.specs.Status.{is_runnable}
 use Rattle.context.specs.With.{with_vtime, with_vd, with_rem_slice}

@@ -1,4 +1,5 @@
 -- Once an insertion found no room the mark stays to the end: a call may be refused as soon as it is set.
+use Rattle.std.specs.Prelude.{if◌then◌else◌}
 use mathlib.Core.Path.{◌≡◌}
 use mathlib.Core.Bool.{Bool, true, not, ◌&&◌, ◌||◌}
 use mathlib.Core.List.{List, [], ◌∷◌}
@@ -7,7 +8,6 @@ use Prim.Native.Nat.{ℕ}
 use lib.Dec.{eqb}
 use lib.ListN.{get_or, length}
 use Rattle.answer.specs.declared.Rule.{Rule}
-use Rattle.columns.specs.Common.{if◌then◌else◌}
 use Rattle.context.specs.Status.{is_runnable}
 use Rattle.ticks.specs.declared.Spent.{Spent}
 use Rattle.weights.specs.Weights.{weight}

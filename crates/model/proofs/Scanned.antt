@@ -1,4 +1,5 @@
 -- What the scan of the queue finds. Assumes nothing.
+use Rattle.std.specs.Prelude.{if◌then◌else◌}
 use mathlib.Core.Path.{◌≡◌, refl, sym, ◌∙◌}
 use mathlib.Core.Bool.{Bool, true, false, not, ◌&&◌}
 use mathlib.Core.List.{List, [], ◌∷◌}
@@ -10,7 +11,7 @@ use lib.Seq.{get_or-set_other}
 use borrow.Author.Tests.{ltb-true, le-ltb, ne_eqb}
 use Rattle.entries.specs.declared.Entry.{Entry}
 use Rattle.context.specs.declared.Context.{Context}
-use Rattle.columns.specs.Common.{if◌then◌else◌, fold}
+use Rattle.columns.specs.Common.{fold}
 use Rattle.model.specs.State.{is_some}
 use Rattle.percpu.specs.Cpu.{Cpu}
 use Rattle.machine.specs.Machine.{context_at, no_context}

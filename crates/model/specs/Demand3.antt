@@ -1,6 +1,6 @@
 -- Demand 3: what a decision on a tidy machine leaves, in document 01's words. Assumes nothing.
-use Rattle.std.specs.Prelude.{◌≡◌, ◌≢◌, ◌⊎◌, ◌↔◌, true, false, ◌||◌, ℕ, ◌+◌, ◌-◌, ◌/◌, ◌<◌, ◌≤◌, eqb}
-use Rattle.columns.specs.Common.{if◌then◌else◌, In}
+use Rattle.std.specs.Prelude.{◌≡◌, ◌≢◌, ◌⊎◌, ◌↔◌, true, false, ◌||◌, ℕ, ◌+◌, ◌-◌, ◌/◌, ◌<◌, ◌≤◌, eqb, if◌then◌else◌}
+use Rattle.columns.specs.Common.{In}
 use Rattle.context.specs.declared.Context.{Context}
 use Rattle.context.specs.Status.{is_runnable, is_soft_blocked}
 use Rattle.ticks.specs.Ticks.{ticks}

@@ -1,7 +1,6 @@
 -- After the choice and the stealing: V advances, a holder that lost goes back to the queue, the slice changes hands. Assumes nothing.
-use Rattle.std.specs.Prelude.{Bool, true, false, not, ◌&&◌, ◌||◌, ℕ, ◌+◌, ◌-◌, ◌/◌, eqb}
+use Rattle.std.specs.Prelude.{Bool, true, false, not, ◌&&◌, ◌||◌, ℕ, ◌+◌, ◌-◌, ◌/◌, eqb, if◌then◌else◌}
 use Rattle.std.proofs.Math.Option.{Option, none, some}
-use Rattle.columns.specs.Common.{if◌then◌else◌}
 use Rattle.context.specs.With.{with_currently_scheduled, with_schedule_time, with_sched_cpu_time}
 use Rattle.context.specs.Key.{queue_key, with_new_key, entry_of}
 use Rattle.weights.specs.Weights.{weight}

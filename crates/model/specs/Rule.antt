@@ -1,7 +1,6 @@
 -- Which rule left whom in charge (document 02, No. 3), by what the scan found and what was stolen. Assumes nothing.
-use Rattle.std.specs.Prelude.{Bool, not, ◌&&◌, ltb, leb}
+use Rattle.std.specs.Prelude.{Bool, not, ◌&&◌, ltb, leb, if◌then◌else◌}
 use Rattle.std.proofs.Math.Option.{Option, none, some}
-use Rattle.columns.specs.Common.{if◌then◌else◌}
 use Rattle.entries.specs.declared.Entry.{Entry}
 use Rattle.machine.specs.Machine.{context_at}
 use Rattle.answer.specs.declared.Rule.{Rule}

@@ -1,7 +1,6 @@
 -- `schedule` and the calls that decide: `tick`, `switch` and `direct_switch_to`. Assumes nothing.
-use Rattle.std.specs.Prelude.{Bool, false, List, ◌∷◌, ℕ, ◌+◌, ltb, eqb, set}
+use Rattle.std.specs.Prelude.{Bool, false, List, ◌∷◌, ℕ, ◌+◌, ltb, eqb, set, if◌then◌else◌}
 use Rattle.std.proofs.Math.Option.{Option, none, some}
-use Rattle.columns.specs.Common.{if◌then◌else◌}
 use Rattle.cpu_stats.specs.declared.CpuState.TheVariants.{Idle}
 use Rattle.cpu_stats.specs.With.{stats_state}
 use Rattle.ticks.specs.declared.Spent.{Spent}

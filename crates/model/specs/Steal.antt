@@ -1,7 +1,7 @@
 -- Work stealing from other CPUs. Assumes nothing.
-use Rattle.std.specs.Prelude.{Bool, true, false, not, ◌&&◌, ◌||◌, List, [], ◌∷◌, ◌++◌, map, ℕ, ◌+◌, ◌-◌, ◌/◌, ◌%◌, min, max, ltb, leb, eqb, length, get_or, set}
+use Rattle.std.specs.Prelude.{Bool, true, false, not, ◌&&◌, ◌||◌, List, [], ◌∷◌, ◌++◌, map, ℕ, ◌+◌, ◌-◌, ◌/◌, ◌%◌, min, max, ltb, leb, eqb, length, get_or, set, if◌then◌else◌}
 use Rattle.std.proofs.Math.Option.{Option, none, some}
-use Rattle.columns.specs.Common.{if◌then◌else◌, fold, is_empty, tabulate}
+use Rattle.columns.specs.Common.{fold, is_empty, tabulate}
 use Rattle.context.specs.declared.Context.{Context}
 use Rattle.context.specs.Status.{is_runnable}
 use Rattle.context.specs.With.{with_vtime, with_vd}

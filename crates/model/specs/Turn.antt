@@ -1,6 +1,6 @@
 -- Counting, times, and what the holder pays. Assumes nothing.
-use Rattle.std.specs.Prelude.{Bool, ℕ, ◌+◌, ◌-◌, ◌/◌}
-use Rattle.columns.specs.Common.{if◌then◌else◌, mark}
+use Rattle.std.specs.Prelude.{Bool, ℕ, ◌+◌, ◌-◌, ◌/◌, if◌then◌else◌}
+use Rattle.columns.specs.Common.{mark}
 use Rattle.context.specs.Status.{is_runnable}
 use Rattle.cpu_stats.specs.declared.CpuState.{CpuState}
 use Rattle.cpu_stats.specs.declared.CpuState.TheVariants.{Idle, Kernel, User}

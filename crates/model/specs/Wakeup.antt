@@ -1,7 +1,7 @@
 -- Wake-ups: due timers and the local list. Assumes nothing.
-use Rattle.std.specs.Prelude.{Bool, true, not, ◌&&◌, ◌||◌, List, [], ◌++◌, map, ℕ, ◌+◌, max, leb, eqb}
+use Rattle.std.specs.Prelude.{Bool, true, not, ◌&&◌, ◌||◌, List, [], ◌++◌, map, ℕ, ◌+◌, max, leb, eqb, if◌then◌else◌}
 use Rattle.std.proofs.Math.Option.{Option, none, some}
-use Rattle.columns.specs.Common.{if◌then◌else◌, fold, keep}
+use Rattle.columns.specs.Common.{fold, keep}
 use Rattle.context.specs.declared.Context.{Context}
 use Rattle.context.specs.Status.{is_runnable, is_soft_blocked}
 use Rattle.context.specs.Block.{woken}

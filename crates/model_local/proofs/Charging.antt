@@ -1,9 +1,9 @@
 -- Counting, times and the charge of the holder stay with the contexts that the CPU names. Assumes nothing.
+use Rattle.std.specs.Prelude.{if◌then◌else◌}
 use mathlib.Core.Path.{◌≡◌, refl, ap, ◌∙◌}
 use mathlib.Core.Bool.{Bool, not, ◌&&◌}
 use mathlib.Core.List.{List}
 use Prim.Native.Nat.{ℕ, ◌-◌}
-use Rattle.columns.specs.Common.{if◌then◌else◌}
 use Rattle.ticks.specs.declared.Spent.{Spent}
 use Rattle.context.specs.declared.Context.{Context}
 use Rattle.context.specs.Status.{is_runnable}

@@ -1,4 +1,5 @@
 -- States that differ outside a set of contexts: reading and writing in the set. Assumes nothing.
+use Rattle.std.specs.Prelude.{if◌then◌else◌}
 use mathlib.Core.Path.{◌≡◌, refl, sym, ap, ◌∙◌, subst}
 use mathlib.Core.Logic.{◌≢◌}
 use mathlib.Core.Bool.{Bool, true, false}
@@ -8,7 +9,7 @@ use lib.Dec.{ltb, eqb}
 use lib.ListN.{length, set, length-set}
 use lib.Seq.{get_or-set_same, get_or-set_other, ext_get_or}
 use borrow.Author.Tests.{ltb-true, ltb-false, eqb-true, eqb-false}
-use Rattle.columns.specs.Common.{if◌then◌else◌, fold, keep, All}
+use Rattle.columns.specs.Common.{fold, keep, All}
 use Rattle.columns.proofs.Tabulate.{get_d_tabulate, length_tabulate, get_d_past, tabulate_is}
 use Rattle.context.specs.declared.Context.{Context}
 use Rattle.machine.specs.Machine.{context_at, no_context}

@@ -1,11 +1,11 @@
 -- A switch that is not on a stealing turn, as a function of its CPU's state alone. Assumes nothing.
+use Rattle.std.specs.Prelude.{if◌then◌else◌}
 use mathlib.Core.Path.{◌≡◌, refl, ap, ◌∙◌}
 use mathlib.Core.Bool.{Bool, false, not}
 use mathlib.Core.List.{List, []}
 use mathlib.Core.Option.{Option, none, some}
 use Prim.Native.Nat.{ℕ}
 use lib.Dec.{eqb}
-use Rattle.columns.specs.Common.{if◌then◌else◌}
 use Rattle.cpu_stats.specs.declared.CpuState.TheVariants.{Idle}
 use Rattle.cpu_stats.specs.With.{stats_state}
 use Rattle.ticks.specs.declared.Spent.{Spent}

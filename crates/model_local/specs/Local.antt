@@ -1,6 +1,6 @@
 -- A CPU and a set of contexts: machines that differ elsewhere, and machines that differ there only. Assumes nothing.
-use Rattle.std.specs.Prelude.{◌≡◌, ◌≢◌, Bool, true, false, List, ℕ, length}
-use Rattle.columns.specs.Common.{if◌then◌else◌, All, tabulate}
+use Rattle.std.specs.Prelude.{◌≡◌, ◌≢◌, Bool, true, false, List, ℕ, length, if◌then◌else◌}
+use Rattle.columns.specs.Common.{All, tabulate}
 use Rattle.context.specs.declared.Context.{Context}
 use Rattle.entries.specs.declared.Entry.{Entry}
 use Rattle.entries.specs.declared.Timer.{Timer}

@@ -1,4 +1,5 @@
 -- Stealing always finds room: it takes no more entries than the victim has over this CPU's load. Assumes nothing.
+use Rattle.std.specs.Prelude.{if◌then◌else◌}
 use mathlib.Core.Path.{◌≡◌, refl, sym, subst}
 use mathlib.Core.Bool.{Bool, true, false, not, ◌&&◌, ◌||◌}
 use mathlib.Core.List.{List, [], ◌∷◌}
@@ -8,7 +9,7 @@ use native.Mathlib.Omega.{arith}
 use lib.Dec.{ltb, leb}
 use lib.ListN.{length, get_or, length-append}
 use borrow.Author.Tests.{ltb-true, leb-true}
-use Rattle.columns.specs.Common.{if◌then◌else◌, fold}
+use Rattle.columns.specs.Common.{fold}
 use Rattle.context.specs.declared.Context.{Context}
 use Rattle.entries.specs.declared.Entry.{Entry}
 use Rattle.percpu.specs.Cpu.{Cpu}

@@ -1,4 +1,5 @@
 -- On a tidy machine the scan finds the entry of the least key, or the first of the least vtime, and no other is such. Assumes nothing.
+use Rattle.std.specs.Prelude.{if◌then◌else◌}
 use mathlib.Core.Path.{◌≡◌, refl, sym, ap, ◌∙◌}
 use mathlib.Core.Bool.{Bool, true, false, not, ◌&&◌}
 use mathlib.Core.Logic.{◌⊎◌, inl, inr}
@@ -6,7 +7,7 @@ use mathlib.Core.Option.{Option, none, some}
 use Prim.Native.Nat.{ℕ, ◌<◌, ◌≤◌}
 use native.Mathlib.Omega.{arith}
 use borrow.Author.Tests.{ltb-true, ltb-false}
-use Rattle.columns.specs.Common.{if◌then◌else◌, In}
+use Rattle.columns.specs.Common.{In}
 use Rattle.entries.specs.declared.Entry.{Entry}
 use Rattle.entries.specs.Order.{before, entry_before}
 use Rattle.entries.proofs.Orders.{before_asym}

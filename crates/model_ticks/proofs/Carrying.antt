@@ -1,5 +1,6 @@
 -- From the charge on a decision neither looks at the remainder nor stores one: with another remainder it is the same in every other word.
 -- Assumes nothing.
+use Rattle.std.specs.Prelude.{if◌then◌else◌}
 use mathlib.Core.Path.{◌≡◌, refl, sym, ap, ◌∙◌}
 use mathlib.Core.Bool.{Bool, true, false, not, ◌&&◌, ◌||◌}
 use mathlib.Core.List.{List, [], ◌∷◌}
@@ -9,7 +10,7 @@ use lib.Dec.{eqb, ltb}
 use lib.ListN.{length, get_or, set}
 use lib.Seq.{get_or-set_same, set-set, set_out}
 use borrow.Author.Tests.{ltb-true, ltb-false}
-use Rattle.columns.specs.Common.{if◌then◌else◌, fold}
+use Rattle.columns.specs.Common.{fold}
 use Rattle.ticks.specs.declared.Spent.{Spent}
 use Rattle.answer.specs.declared.Rule.{Rule}
 use Rattle.context.specs.declared.Context.{Context}

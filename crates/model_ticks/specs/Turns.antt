@@ -1,6 +1,5 @@
 -- Document 02, No. 8, of a call on a machine: the turn that it ends, what that is charged by, and the remainders that it leaves. Assumes nothing.
-use Rattle.std.specs.Prelude.{◌≡◌, ◌≢◌, ◌&&◌, ℕ, eqb}
-use Rattle.columns.specs.Common.{if◌then◌else◌}
+use Rattle.std.specs.Prelude.{◌≡◌, ◌≢◌, ◌&&◌, ℕ, eqb, if◌then◌else◌}
 use Rattle.ticks.specs.declared.Spent.{Spent}
 use Rattle.ticks.specs.Ticks.{remainder}
 use Rattle.percpu.specs.With.{cpu_remainder}

@@ -1,5 +1,6 @@
 -- The calls that decide as the source has them: every due timer is taken out, one put in removes none, and what a tick conversion leaves
 -- over is lost. Assumes nothing.
+use Rattle.std.specs.Prelude.{if◌then◌else◌}
 use mathlib.Core.Bool.{not, false}
 use mathlib.Core.List.{List, []}
 use mathlib.Core.Option.{Option, none, some}
@@ -7,7 +8,7 @@ use Prim.Native.Nat.{ℕ, ◌/◌}
 use lib.Dec.{ltb, eqb}
 use Rattle.numbers.specs.Limits.{nanos_per_millisecond}
 use Rattle.cpu_stats.specs.Counted.{time_added}
-use Rattle.columns.specs.Common.{if◌then◌else◌, fold, keep}
+use Rattle.columns.specs.Common.{fold, keep}
 use Rattle.ticks.specs.declared.Spent.{Spent}
 use Rattle.ticks.specs.Ticks.{ticks, tick_interval}
 use Rattle.answer.specs.declared.SwitchResult.TheVariants.{Switched}

@@ -1,4 +1,5 @@
 -- Charging: a holder that is not runnable leaves the total with its weight.
+use Rattle.std.specs.Prelude.{if◌then◌else◌}
 use mathlib.Core.Path.{◌≡◌, refl, subst, sym, ap, ◌∙◌}
 use mathlib.Core.Bool.{Bool, true, false, not, ◌&&◌}
 use mathlib.Core.List.{List}
@@ -10,7 +11,6 @@ use lib.Dec.{eqb}
 use lib.ListN.{length, set}
 use lib.Seq.{get_or-set_same}
 use borrow.Author.Tests.{eqb-true, eqb-false}
-use Rattle.columns.specs.Common.{if◌then◌else◌}
 use Rattle.context.specs.declared.Context.{Context}
 use Rattle.context.specs.Status.{is_runnable}
 use Rattle.ticks.specs.declared.Spent.{Spent}

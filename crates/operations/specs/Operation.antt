@@ -1,6 +1,5 @@
 -- What any operation answers of the machine M of an image m, by its number. Assumes nothing.
-use Rattle.std.specs.Prelude.{ℕ, List, eqb}
-use Rattle.columns.specs.Common.{if◌then◌else◌}
+use Rattle.std.specs.Prelude.{ℕ, List, eqb, if◌then◌else◌}
 use Rattle.machine.specs.Machine.{Machine}
 use Rattle.machine.specs.LookUp.{get_percpu_block}
 use Rattle.model.specs.Accepted.{by_tick, by_switch}

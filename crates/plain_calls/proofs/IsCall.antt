@@ -1,4 +1,5 @@
 -- A plain call is the call: answer and every word, of any words, operation, CPU, time and context. Assumes nothing.
+use Rattle.std.specs.Prelude.{if◌then◌else◌}
 use mathlib.Core.Path.{◌≡◌, refl}
 use mathlib.Core.Bool.{Bool, true, false}
 use mathlib.Core.List.{List, [], ◌∷◌}
@@ -6,7 +7,7 @@ use Prim.Native.Nat.{ℕ, suc, ◌<◌}
 use native.Mathlib.Omega.{arith}
 use lib.Dec.{eqb}
 use lib.ListN.{length, get_or}
-use Rattle.columns.specs.Common.{if◌then◌else◌, All}
+use Rattle.columns.specs.Common.{All}
 use Rattle.percpu.specs.Cpu.{Cpu}
 use Rattle.machine.specs.declared.Lookup.{Lookup}
 use Rattle.machine.specs.declared.Lookup.TheVariants.{Live, Gone}

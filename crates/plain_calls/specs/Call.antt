@@ -1,6 +1,5 @@
 -- What a plain call answers and the image it leaves, of any words, operation, CPU, time and context. Assumes nothing.
-use Rattle.std.specs.Prelude.{ℕ, List, eqb}
-use Rattle.columns.specs.Common.{if◌then◌else◌}
+use Rattle.std.specs.Prelude.{ℕ, List, eqb, if◌then◌else◌}
 use Rattle.machine.specs.declared.Lookup.{Lookup}
 use Rattle.machine.specs.declared.Lookup.TheVariants.{Live, Gone}
 use Rattle.machine.specs.declared.CpuLookup.{CpuLookup}

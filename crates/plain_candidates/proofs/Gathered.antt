@@ -1,4 +1,5 @@
 -- The candidates gathered, entry by entry; and what a victim is judged by. Assumes nothing.
+use Rattle.std.specs.Prelude.{if◌then◌else◌}
 use mathlib.Core.Path.{◌≡◌, refl, sym, ap, ◌∙◌, subst}
 use mathlib.Core.Bool.{Bool, true, false, not, ◌&&◌}
 use mathlib.Core.List.{List, [], ◌∷◌, ◌++◌}
@@ -10,7 +11,7 @@ use lib.Dec.{leb, ltb}
 use lib.ListN.{length, get_or, take, length-append}
 use lib.Seq.{take-suc, take_all, get_or-take}
 use borrow.Author.Tests.{eq-eqb, ne_eqb, ltb-true}
-use Rattle.columns.specs.Common.{if◌then◌else◌, fold, All}
+use Rattle.columns.specs.Common.{fold, All}
 use Rattle.context.specs.declared.Context.{Context}
 use Rattle.entries.specs.declared.Entry.{Entry}
 use Rattle.entries.specs.Order.{entry_before}

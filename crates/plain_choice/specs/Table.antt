@@ -1,7 +1,6 @@
 -- The table of rules, of the holder as the choice sees it; `is_choice` in proofs/ says that it is the plain engine's. Assumes nothing.
-use Rattle.std.specs.Prelude.{◌&&◌, [], ◌∷◌, ltb, leb, eqb}
+use Rattle.std.specs.Prelude.{◌&&◌, [], ◌∷◌, ltb, leb, eqb, if◌then◌else◌}
 use Rattle.std.proofs.Math.Option.{Option, none, some}
-use Rattle.columns.specs.Common.{if◌then◌else◌}
 use Rattle.context.specs.declared.Context.{Context}
 use Rattle.entries.specs.declared.Entry.{Entry}
 use Rattle.answer.specs.declared.Rule.TheVariants.{FirstEligible, HolderDeadline, HolderSlice, HolderAlone, HolderVtime, HolderLateDeadline, EntryVtime, Idle}

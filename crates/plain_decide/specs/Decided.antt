@@ -1,6 +1,5 @@
 -- What the code's answer stands for, and what a call asks for. Assumes nothing.
-use Rattle.std.specs.Prelude.{◌≡◌, false, List, ℕ, ◌<◌, ◌≤◌, ltb, eqb}
-use Rattle.columns.specs.Common.{if◌then◌else◌}
+use Rattle.std.specs.Prelude.{◌≡◌, false, List, ℕ, ◌<◌, ◌≤◌, ltb, eqb, if◌then◌else◌}
 use Rattle.numbers.specs.Limits.{max_number, max_elapsed}
 use Rattle.ticks.specs.Ticks.{tick_interval}
 use Rattle.runnable.specs.Runnable.{update_runnable}

@@ -1,10 +1,11 @@
 -- What the end of a decision leaves in its ranges, and what it adds to what grows. Assumes nothing.
+use Rattle.std.specs.Prelude.{if◌then◌else◌}
 use mathlib.Core.Path.{◌≡◌, refl, subst}
 use mathlib.Core.Bool.{Bool, not, ◌&&◌, ◌||◌}
 use mathlib.Core.Option.{Option, none, some}
 use Prim.Native.Nat.{ℕ, ◌+◌, ◌/◌, ◌<◌, ◌≤◌}
 use lib.Dec.{eqb}
-use Rattle.columns.specs.Common.{if◌then◌else◌, is_empty}
+use Rattle.columns.specs.Common.{is_empty}
 use Rattle.columns.proofs.Tests.{by_test}
 use Rattle.context.specs.declared.Context.{Context}
 use Rattle.context.specs.Key.{queue_key, with_new_key, entry_of}

@@ -1,11 +1,12 @@
 -- The plain engine's outcome is the kernel's, where the keys of each queue and the timers differ. Assumes nothing.
+use Rattle.std.specs.Prelude.{if◌then◌else◌}
 use mathlib.Core.Path.{◌≡◌, refl, sym, ap, ◌∙◌}
 use mathlib.Core.Bool.{Bool, false}
 use mathlib.Core.List.{List, ◌∷◌}
 use mathlib.Core.Option.{Option, none, some}
 use Prim.Native.Nat.{ℕ}
 use lib.Dec.{ltb, eqb}
-use Rattle.columns.specs.Common.{if◌then◌else◌, All}
+use Rattle.columns.specs.Common.{All}
 use Rattle.cpu_stats.specs.declared.CpuState.TheVariants.{Idle}
 use Rattle.cpu_stats.specs.With.{stats_state}
 use Rattle.ticks.specs.declared.Spent.{Spent}

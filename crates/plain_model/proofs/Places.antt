@@ -1,9 +1,10 @@
 -- A state of the plain engine and the kernel's: the same but for the order of entries and timers. Assumes nothing.
+use Rattle.std.specs.Prelude.{if◌then◌else◌}
 use mathlib.Core.Path.{◌≡◌, refl, subst}
 use mathlib.Core.Bool.{Bool, true, false}
 use mathlib.Core.List.{List, [], ◌∷◌}
 use Prim.Native.Nat.{ℕ}
-use Rattle.columns.specs.Common.{if◌then◌else◌, fold}
+use Rattle.columns.specs.Common.{fold}
 use Rattle.context.specs.declared.Context.{Context}
 use Rattle.entries.specs.declared.Key.{Key}
 use Rattle.entries.specs.declared.Entry.{Entry}

@@ -1,4 +1,5 @@
 -- Stealing in turns is the kernel's. Assumes nothing.
+use Rattle.std.specs.Prelude.{if◌then◌else◌}
 use mathlib.Core.Path.{◌≡◌, refl, ap, ◌∙◌}
 use mathlib.Core.Bool.{Bool, true, false, not, ◌&&◌, ◌||◌}
 use mathlib.Core.List.{List, [], ◌∷◌, map}
@@ -6,7 +7,7 @@ use mathlib.Core.Option.{Option, some}
 use Prim.Native.Nat.{ℕ, zero, suc, ◌+◌}
 use lib.Dec.{eqb}
 use lib.ListN.{length, get_or, set}
-use Rattle.columns.specs.Common.{if◌then◌else◌, fold, All}
+use Rattle.columns.specs.Common.{fold, All}
 use Rattle.context.specs.declared.Context.{Context}
 use Rattle.context.specs.Key.{with_new_key, entry_of}
 use Rattle.entries.specs.declared.Entry.{Entry}

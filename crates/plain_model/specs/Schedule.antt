@@ -1,7 +1,6 @@
 -- The plain decision, and the calls that decide: `tick`, `switch` and `direct_switch_to`. Assumes nothing.
-use Rattle.std.specs.Prelude.{false, List, ◌∷◌, ℕ, ltb, eqb}
+use Rattle.std.specs.Prelude.{false, List, ◌∷◌, ℕ, ltb, eqb, if◌then◌else◌}
 use Rattle.std.proofs.Math.Option.{Option, none, some}
-use Rattle.columns.specs.Common.{if◌then◌else◌}
 use Rattle.ticks.specs.declared.Spent.{Spent}
 use Rattle.ticks.specs.Ticks.{tick_interval}
 use Rattle.runnable.specs.Runnable.{update_runnable}

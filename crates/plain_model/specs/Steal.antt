@@ -1,7 +1,7 @@
 -- Stealing: every other CPU is tried in its turn, and flags say when it is enough. Assumes nothing.
-use Rattle.std.specs.Prelude.{Bool, true, false, not, ◌&&◌, ◌||◌, List, [], ◌∷◌, ◌++◌, ℕ, ◌+◌, ◌-◌, ◌%◌, ltb, eqb, length, get_or, set}
+use Rattle.std.specs.Prelude.{Bool, true, false, not, ◌&&◌, ◌||◌, List, [], ◌∷◌, ◌++◌, ℕ, ◌+◌, ◌-◌, ◌%◌, ltb, eqb, length, get_or, set, if◌then◌else◌}
 use Rattle.std.proofs.Math.Option.{Option, some}
-use Rattle.columns.specs.Common.{if◌then◌else◌, fold, tabulate}
+use Rattle.columns.specs.Common.{fold, tabulate}
 use Rattle.context.specs.declared.Context.{Context}
 use Rattle.context.specs.Status.{is_runnable}
 use Rattle.context.specs.Key.{with_new_key, entry_of}

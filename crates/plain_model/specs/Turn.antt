@@ -1,6 +1,5 @@
 -- The turn that ends: what the holder pays, and its timer if it is blocked. Assumes nothing.
-use Rattle.std.specs.Prelude.{ℕ}
-use Rattle.columns.specs.Common.{if◌then◌else◌}
+use Rattle.std.specs.Prelude.{ℕ, if◌then◌else◌}
 use Rattle.context.specs.Status.{is_runnable}
 use Rattle.ticks.specs.declared.Spent.{Spent}
 use Rattle.charging.specs.Charge.{charged}

@@ -1,7 +1,7 @@
 -- Wake-ups: each timer in its turn, then the local list. Assumes nothing.
-use Rattle.std.specs.Prelude.{List, [], ◌++◌, map, ℕ}
+use Rattle.std.specs.Prelude.{List, [], ◌++◌, map, ℕ, if◌then◌else◌}
 use Rattle.std.proofs.Math.Option.{Option, none, some}
-use Rattle.columns.specs.Common.{if◌then◌else◌, fold, keep}
+use Rattle.columns.specs.Common.{fold, keep}
 use Rattle.context.specs.declared.Context.{Context}
 use Rattle.context.specs.Key.{queue_key, entry_of}
 use Rattle.weights.specs.Weights.{weight}

@@ -1,7 +1,6 @@
 -- What the code's moves stand for, and what no sum of them wraps by. Assumes nothing.
-use Rattle.std.specs.Prelude.{◌≡◌, Bool, false, ℕ, ◌+◌, ◌*◌, ◌<◌, ◌≤◌}
+use Rattle.std.specs.Prelude.{◌≡◌, Bool, false, ℕ, ◌+◌, ◌*◌, ◌<◌, ◌≤◌, if◌then◌else◌}
 use Rattle.std.proofs.Math.Option.{some}
-use Rattle.columns.specs.Common.{if◌then◌else◌}
 use Rattle.context.specs.declared.Context.{Context}
 use Rattle.context.specs.Key.{with_new_key, entry_of}
 use Rattle.entries.specs.declared.Entry.{Entry}

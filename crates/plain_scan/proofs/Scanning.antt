@@ -1,4 +1,5 @@
 -- The scan's records, and what leaves. Assumes nothing.
+use Rattle.std.specs.Prelude.{if◌then◌else◌}
 use mathlib.Core.Path.{◌≡◌, refl, sym, ap, ◌∙◌}
 use mathlib.Core.Bool.{Bool, true, false, not, ◌&&◌}
 use mathlib.Core.List.{List, [], ◌∷◌, ◌++◌, map}
@@ -9,7 +10,6 @@ use Rattle.context.specs.declared.Context.{Context}
 use Rattle.entries.specs.declared.Entry.{Entry}
 use Rattle.machine.specs.Machine.{no_context}
 use borrow.Author.Tests.{le-leb, lt-leb}
-use Rattle.columns.specs.Common.{if◌then◌else◌}
 use Rattle.plain_model.specs.Scan.{stored, given_up, taken, looked_at, scan_step}
 use Rattle.select_judge.specs.declared.Best.{Best}
 use Rattle.select_judge.specs.declared.Best.TheVariants.{Found}

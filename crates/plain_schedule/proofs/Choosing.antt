@@ -91,11 +91,11 @@ module _ (n c k time : ℕ) (s : State) (cpus : Cpus) (a : CanChoose n c k s cpu
   t_room = ap (λ (z : model.State). z.no_room) ht.is ∙ chosen_room _ _ (state_in n s) ∙ a.room
 
   pub steal_asks
-    : record {
-      sound : (Sound n t) × (StateFits n (state_in n t)) × (t.no_room ≡ false);
-      cpus_sound : (CpusSound c cpus) × (CpusFit n (cpus_in c cpus)) × (k < c);
-      state_below : StateBelow n t_timed b_charged (placed (state_in n t))
-    }
+      : record {
+        sound : (Sound n t) × (StateFits n (state_in n t)) × (t.no_room ≡ false);
+        cpus_sound : (CpusSound c cpus) × (CpusFit n (cpus_in c cpus)) × (k < c);
+        state_below : StateBelow n t_timed b_charged (placed (state_in n t));
+      }
   steal_asks = record { sound = (ht.sound, t_fits, t_room); cpus_sound = (a.all, a.others.fit, a.here); state_below = t_below }
 
   -- l: after the stealing

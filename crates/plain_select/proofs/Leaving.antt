@@ -1,8 +1,8 @@
 -- Entries leave the queue one after the other. Assumes nothing.
+use Rattle.std.specs.Prelude.{if◌then◌else◌}
 use mathlib.Core.Path.{◌≡◌, refl, sym, ap, ◌∙◌}
 use mathlib.Core.Bool.{Bool, true, false}
 use mathlib.Core.List.{List, [], ◌∷◌, ◌++◌, map}
-use Rattle.columns.specs.Common.{if◌then◌else◌}
 use Rattle.columns.proofs.Tests.{never}
 use Rattle.context.specs.declared.Context.{Context}
 use Rattle.context.specs.Key.{queue_key, without_key}

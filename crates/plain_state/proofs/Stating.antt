@@ -1,4 +1,5 @@
 -- The state after each of the code's steps. Assumes nothing.
+use Rattle.std.specs.Prelude.{if◌then◌else◌}
 use mathlib.Core.Path.{◌≡◌, refl, sym, ap, ◌∙◌, subst}
 use mathlib.Core.Bool.{Bool, true, false, ◌||◌}
 use mathlib.Core.List.{List, [], ◌∷◌, ◌++◌, map}
@@ -7,7 +8,7 @@ use lib.Dec.{ltb}
 use lib.Seq.{take-suc-set}
 use native.Mathlib.Numerals.{add-one}
 use borrow.Author.Tests.{le-ltb}
-use Rattle.columns.specs.Common.{if◌then◌else◌, keep, All}
+use Rattle.columns.specs.Common.{keep, All}
 use Rattle.columns.proofs.Keep.{all_keep}
 use Rattle.columns.proofs.Tests.{never}
 use Prim.Native.Nat.{ℕ, ◌+◌, ◌<◌, ◌≤◌}

@@ -1,6 +1,5 @@
 // The records that a switch changes.
-ghost use Rattle.std.specs.Prelude.{◌≡◌, ◌<◌, ◌≤◌};
-ghost use Rattle.columns.specs.Common.{if◌then◌else◌};
+ghost use Rattle.std.specs.Prelude.{◌≡◌, ◌<◌, ◌≤◌, if◌then◌else◌};
 ghost use Rattle.cpu_stats.specs.declared.CpuState.TheVariants.{Kernel, User};
 ghost use Rattle.numbers.specs.Limits.{max_number};
 ghost use Rattle.model.specs.SwitchTo.{comes};

@@ -1,9 +1,9 @@
 -- The turn put together, and what it leaves. Assumes nothing.
+use Rattle.std.specs.Prelude.{if◌then◌else◌}
 use mathlib.Core.Path.{◌≡◌, refl, sym, ap, ◌∙◌, subst}
 use mathlib.Core.Bool.{Bool, true, false}
 use Prim.Native.Nat.{ℕ, ◌-◌, ◌≤◌}
 use native.Mathlib.Omega.{arith}
-use Rattle.columns.specs.Common.{if◌then◌else◌}
 use Rattle.context.specs.Status.{is_runnable}
 use Rattle.cpu_stats.specs.State.{is_idle_state}
 use Rattle.ticks.specs.declared.Spent.{Spent}

@@ -1,10 +1,11 @@
 -- The whole stage put together, and what it adds. Assumes nothing.
+use Rattle.std.specs.Prelude.{if◌then◌else◌}
 use mathlib.Core.Path.{◌≡◌, refl, sym, ap, ◌∙◌, subst}
 use mathlib.Core.Bool.{Bool, true, false, ◌&&◌}
 use mathlib.Core.List.{List, [], ◌∷◌, ◌++◌, map}
 use Prim.Native.Nat.{ℕ, ◌+◌, ◌*◌, ◌<◌, ◌≤◌}
 use native.Mathlib.Omega.{arith}
-use Rattle.columns.specs.Common.{if◌then◌else◌, fold, keep}
+use Rattle.columns.specs.Common.{fold, keep}
 use Rattle.columns.proofs.Tests.{by_test}
 use Rattle.numbers.specs.Limits.{max_number}
 use Rattle.weights.specs.Weights.{max_weight}

@@ -1,7 +1,6 @@
 -- A wake-up by value, the steps of the two lists, and what they ask of a state. Assumes nothing.
-use Rattle.std.specs.Prelude.{◌≡◌, Bool, false, ◌&&◌, ℕ, ◌+◌, ◌*◌}
+use Rattle.std.specs.Prelude.{◌≡◌, Bool, false, ◌&&◌, ℕ, ◌+◌, ◌*◌, if◌then◌else◌}
 use Rattle.std.proofs.Math.Option.{Option, none, some}
-use Rattle.columns.specs.Common.{if◌then◌else◌}
 use Rattle.numbers.specs.Limits.{max_number}
 use Rattle.weights.specs.Weights.{weight, max_weight}
 use Rattle.context.specs.declared.Context.{Context}

@@ -1,11 +1,11 @@
 -- Some choice, the first one, every one: by their numbers 1, 2 and 3. Assumes nothing.
+use Rattle.std.specs.Prelude.{if◌then◌else◌}
 use mathlib.Core.Path.{◌≡◌, refl, sym, ap, ◌∙◌, subst}
 use mathlib.Core.Bool.{Bool, true, false, not, ◌&&◌, ◌||◌}
 use Prim.Native.Nat.{ℕ, zero, suc, ◌<◌, ◌≤◌}
 use native.Mathlib.Omega.{arith}
 use lib.Dec.{eqb}
 use borrow.Author.Tests.{eqb-true, eqb-false}
-use Rattle.columns.specs.Common.{if◌then◌else◌}
 use Rattle.columns.proofs.Tests.{by_test}
 use Rattle.rounds.specs.declared.Choice.{Choice}
 use Rattle.rounds.specs.declared.Choice.TheVariants.{GoOn, Yield, Block}

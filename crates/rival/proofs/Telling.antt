@@ -1,4 +1,5 @@
 -- What the code reads off an image, as the definitions say it. Assumes nothing.
+use Rattle.std.specs.Prelude.{if◌then◌else◌}
 use mathlib.Core.Path.{◌≡◌, refl, sym, ap, ◌∙◌, subst}
 use mathlib.Core.Bool.{Bool, true, false}
 use mathlib.Core.List.{List, ◌++◌}
@@ -9,7 +10,6 @@ use lib.Dec.{eqb}
 use lib.ListN.{length, get_or, take}
 use lib.Seq.{take_at}
 use borrow.Author.Tests.{ne_eqb, eq-eqb}
-use Rattle.columns.specs.Common.{if◌then◌else◌}
 use Rattle.columns.proofs.Tests.{clash}
 use Rattle.context.specs.Words.{record_size}
 use Rattle.percpu.specs.Places.{block_size}

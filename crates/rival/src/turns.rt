@@ -1,7 +1,6 @@
 // The writer's turn and the rival's turn, which call each other with one round less to come.
-ghost use Rattle.std.specs.Prelude.{◌≡◌, eqb, ◌+◌, ◌-◌, ◌≤◌, ◌<◌, length, take};
+ghost use Rattle.std.specs.Prelude.{◌≡◌, eqb, ◌+◌, ◌-◌, ◌≤◌, ◌<◌, length, take, if◌then◌else◌};
 ghost use Rattle.std.proofs.Math.Option.{some};
-ghost use Rattle.columns.specs.Common.{if◌then◌else◌};
 ghost use Rattle.machine.specs.Encode.{max_image_size};
 ghost use Rattle.numbers.specs.Limits.{half_range};
 ghost use Rattle.rounds.specs.Round.{nanos, played};

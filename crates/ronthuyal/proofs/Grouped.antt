@@ -1,11 +1,12 @@
 -- The call for a set: it is the single calls one by one; the empty set; what the call leaves. Assumes nothing.
+use Rattle.std.specs.Prelude.{if◌then◌else◌}
 use mathlib.Core.Path.{◌≡◌, refl, sym, ap, ◌∙◌, subst}
 use mathlib.Core.List.{List, [], ◌∷◌}
 use Prim.Native.Nat.{ℕ, ◌<◌, ◌≤◌}
 use native.Mathlib.Omega.{arith}
 use lib.Dec.{ltb, eqb}
 use borrow.Author.Tests.{ne_eqb}
-use Rattle.columns.specs.Common.{if◌then◌else◌, fold}
+use Rattle.columns.specs.Common.{fold}
 use Rattle.cpu_set.specs.Members.{members, next_cpu, rest_cpus}
 use Rattle.cpu_set.proofs.Members.{members_step, members_none}
 use Rattle.machine.specs.declared.CpuLookup.{CpuLookup}

@@ -1,4 +1,5 @@
 -- What an accepted call leaves: of the definitions, and as the calls promise it. Assumes nothing.
+use Rattle.std.specs.Prelude.{if◌then◌else◌}
 use mathlib.Core.Path.{◌≡◌, refl, sym, ◌∙◌, subst}
 use mathlib.Core.Bool.{Bool, true, false}
 use Prim.Native.Nat.{ℕ, ◌≤◌}
@@ -8,7 +9,6 @@ use lib.Dec.{eqb}
 use lib.ListN.{get_or}
 use mir.Syntax.{w64}
 use mir.Val.{Fits}
-use Rattle.columns.specs.Common.{if◌then◌else◌}
 use Rattle.context.specs.declared.Status.TheVariants.{Blocked, Stopped}
 use Rattle.machine.specs.Machine.{Machine}
 use Rattle.machine.specs.Encode.{decode}

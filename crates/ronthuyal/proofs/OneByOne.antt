@@ -1,4 +1,5 @@
 -- Operation 4 for a set, and the calls one by one, go through the names side by side. Assumes nothing.
+use Rattle.std.specs.Prelude.{if◌then◌else◌}
 use mathlib.Core.Path.{◌≡◌, refl, sym, ap, ◌∙◌, subst}
 use mathlib.Core.Bool.{Bool, true, false, ◌||◌}
 use mathlib.Core.List.{List, [], ◌∷◌}
@@ -6,7 +7,7 @@ use Prim.Native.Nat.{ℕ, ◌+◌, max}
 use native.Mathlib.Omega.{arith}
 use lib.Dec.{ltb, eqb}
 use borrow.Author.Tests.{ne_eqb, lt-ltb, le-ltb}
-use Rattle.columns.specs.Common.{if◌then◌else◌, mark, fold}
+use Rattle.columns.specs.Common.{mark, fold}
 use Rattle.model.proofs.Cases.{pick}
 use Rattle.machine.specs.declared.CpuLookup.TheVariants.{Present}
 use Rattle.machine.specs.Machine.{Machine}

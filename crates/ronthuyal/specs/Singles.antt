@@ -1,6 +1,6 @@
 -- Operation 4 for the contexts of a list, one call after the other, and what these calls come to. Assumes nothing.
-use Rattle.std.specs.Prelude.{◌≡◌, ◌⊎◌, List, [], ◌∷◌, ℕ, ◌+◌, ◌≤◌, max, eqb}
-use Rattle.columns.specs.Common.{if◌then◌else◌, fold, All, In}
+use Rattle.std.specs.Prelude.{◌≡◌, ◌⊎◌, List, [], ◌∷◌, ℕ, ◌+◌, ◌≤◌, max, eqb, if◌then◌else◌}
+use Rattle.columns.specs.Common.{fold, All, In}
 use Rattle.machine.specs.declared.CpuLookup.{CpuLookup}
 use Rattle.machine.specs.declared.CpuLookup.TheVariants.{Present, Absent}
 use Rattle.answer.specs.declared.Answer.{Answer}

@@ -1,7 +1,6 @@
 -- A round of writer against rival (document 02, No. 13): the image after it. Assumes nothing.
-use Rattle.std.specs.Prelude.{◌≡◌, Bool, true, false, List, ℕ, ◌+◌, eqb, set}
+use Rattle.std.specs.Prelude.{◌≡◌, Bool, true, false, List, ℕ, ◌+◌, eqb, set, if◌then◌else◌}
 use Rattle.std.proofs.Math.Option.{Option, none, some}
-use Rattle.columns.specs.Common.{if◌then◌else◌}
 use Rattle.machine.specs.Encode.{context_place}
 use Rattle.context_ops.specs.Reply.{Reply}
 use Rattle.model.specs.State.{is_some}

@@ -1,6 +1,6 @@
 -- A run of calls: each is on the image that the one before it left. Assumes nothing.
-use Rattle.std.specs.Prelude.{Bool, ◌&&◌, List, [], ◌∷◌, ◌++◌, ℕ, ◌+◌, ◌*◌, ◌/◌, ◌%◌, eqb, length, get_or, take, drop}
-use Rattle.columns.specs.Common.{if◌then◌else◌, fold, tabulate}
+use Rattle.std.specs.Prelude.{Bool, ◌&&◌, List, [], ◌∷◌, ◌++◌, ℕ, ◌+◌, ◌*◌, ◌/◌, ◌%◌, eqb, length, get_or, take, drop, if◌then◌else◌}
+use Rattle.columns.specs.Common.{fold, tabulate}
 use Rattle.answer.specs.declared.Answer.{Answer}
 use Rattle.context_ops.specs.Reply.{Reply}
 use Rattle.calls.specs.Call.{call}

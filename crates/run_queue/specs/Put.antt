@@ -1,6 +1,5 @@
 -- An entry put into a CPU's queue, or left out where there is no room. Assumes nothing.
-use Rattle.std.specs.Prelude.{Bool, ltb, length}
-use Rattle.columns.specs.Common.{if◌then◌else◌}
+use Rattle.std.specs.Prelude.{Bool, ltb, length, if◌then◌else◌}
 use Rattle.entries.specs.declared.Entry.{Entry}
 use Rattle.entries.specs.Queue.{queue_insert}
 use Rattle.percpu.specs.Cpu.{Cpu}

@@ -1,4 +1,5 @@
 -- Stealing does not look at the place of the CPU that steals, and names a context. Assumes nothing.
+use Rattle.std.specs.Prelude.{if◌then◌else◌}
 use mathlib.Core.Path.{◌≡◌, refl, sym, ap, ◌∙◌, subst}
 use mathlib.Core.Logic.{◌≢◌, ◌⊎◌, inl, inr}
 use mathlib.Core.Bool.{Bool, true, false, not, ◌||◌}
@@ -11,7 +12,7 @@ use borrow.Author.Tests.{ltb-true, ltb-false}
 use lib.ListN.{length, get_or, set, length-set}
 use lib.Seq.{get_or-set_other, set_comm}
 use Rattle.columns.proofs.Tabulate.{get_d_past}
-use Rattle.columns.specs.Common.{if◌then◌else◌, fold, All, In}
+use Rattle.columns.specs.Common.{fold, All, In}
 use Rattle.entries.specs.declared.Entry.{Entry}
 use Rattle.percpu.specs.Cpu.{Cpu}
 use Rattle.percpu.specs.Layout.{no_entry}

@@ -1,7 +1,6 @@
 -- The ends of `schedule` and `switch_inner` by who was picked: the state and the result. Assumes nothing.
-use Rattle.std.specs.Prelude.{Bool, ℕ, eqb}
+use Rattle.std.specs.Prelude.{Bool, ℕ, eqb, if◌then◌else◌}
 use Rattle.std.proofs.Math.Option.{Option, none, some}
-use Rattle.columns.specs.Common.{if◌then◌else◌}
 use Rattle.cpu_stats.specs.declared.CpuState.TheVariants.{Idle}
 use Rattle.cpu_stats.specs.With.{stats_state}
 use Rattle.percpu.specs.Cpu.{Cpu}

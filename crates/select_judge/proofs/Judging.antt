@@ -1,4 +1,5 @@
 -- An entry judged, from what the code's tests said. Assumes nothing.
+use Rattle.std.specs.Prelude.{if◌then◌else◌}
 use mathlib.Core.Path.{◌≡◌, sym, ap, ◌∙◌}
 use mathlib.Core.Bool.{Bool, true, false, not, ◌||◌}
 use Prim.Native.Nat.{ℕ}
@@ -9,7 +10,6 @@ use Rattle.runnable.specs.declared.UpdateResult.{UpdateResult}
 use Rattle.runnable.specs.declared.UpdateResult.TheVariants.{CanSwitch}
 use Rattle.runnable.specs.Runnable.{update_runnable}
 use Rattle.percpu.specs.Cpu.{Cpu}
-use Rattle.columns.specs.Common.{if◌then◌else◌}
 use Rattle.model.specs.Scan.{Visit, pass, gone, no_addr_space, ready, by_update, judge}
 
 -- the other arm of a choice

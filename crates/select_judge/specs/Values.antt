@@ -1,7 +1,6 @@
 -- What the code's values stand for in the definitions. Assumes nothing.
-use Rattle.std.specs.Prelude.{false, ℕ, ◌<◌}
+use Rattle.std.specs.Prelude.{false, ℕ, ◌<◌, if◌then◌else◌}
 use Rattle.std.proofs.Math.Option.{Option, none, some}
-use Rattle.columns.specs.Common.{if◌then◌else◌}
 use Rattle.context.specs.declared.Context.{Context}
 use Rattle.context.specs.With.{with_rem_slice, with_is_active}
 use Rattle.entries.specs.declared.Entry.{Entry}

@@ -1,7 +1,6 @@
 // The choice, by value.
-ghost use Rattle.std.specs.Prelude.{◌≡◌, false, ◌&&◌, ◌||◌, ℕ, ◌<◌, ltb, leb, eqb};
+ghost use Rattle.std.specs.Prelude.{◌≡◌, false, ◌&&◌, ◌||◌, ℕ, ◌<◌, ltb, leb, eqb, if◌then◌else◌};
 ghost use Rattle.std.proofs.Math.Option.{none, some};
-ghost use Rattle.columns.specs.Common.{if◌then◌else◌};
 ghost use Rattle.answer.specs.declared.Rule.TheVariants.{HolderDeadline, HolderSlice, HolderVtime, HolderLateDeadline};
 ghost use Rattle.machine.specs.Machine.{context_at};
 ghost use Rattle.model.specs.State.{State};

@@ -1,6 +1,5 @@
 // An entry judged, by value.
-ghost use Rattle.std.specs.Prelude.{◌≡◌, false, ◌&&◌, not, ◌<◌, ◌≤◌};
-ghost use Rattle.columns.specs.Common.{if◌then◌else◌};
+ghost use Rattle.std.specs.Prelude.{◌≡◌, false, ◌&&◌, not, ◌<◌, ◌≤◌, if◌then◌else◌};
 ghost use Rattle.model.specs.State.{is_some};
 ghost use Rattle.model.specs.Scan.{above, below, is_of, ineligible_min_vtime, is_eligible, judge};
 ghost use Rattle.select_judge.specs.Values.{vtime_of, best_of, visit_of, scanner_cpu, deactivated, picked};

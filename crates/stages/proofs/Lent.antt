@@ -1,4 +1,5 @@
 -- The block of CPU k lent, and back: what a change of the block is as a stage. Assumes nothing.
+use Rattle.std.specs.Prelude.{if◌then◌else◌}
 use mathlib.Core.Path.{◌≡◌, refl, sym, ap, ◌∙◌, subst}
 use mathlib.Core.Bool.{Bool, true, false, not, ◌&&◌, ◌||◌}
 use Prim.Native.Nat.{ℕ, zero, suc, ◌+◌, ◌-◌, ◌*◌, ◌<◌, ◌≤◌}
@@ -9,7 +10,6 @@ use lib.ListN.{length, get_or, set, take, drop, length-append}
 use borrow.Author.Tests.{leb-true, leb-false, lt-ltb, le-ltb}
 use borrow.Rule.Slice.PartMut.{put_mid}
 use lib.Seq.{set-get_or}
-use Rattle.columns.specs.Common.{if◌then◌else◌}
 use Rattle.columns.specs.Blocks.{part, part_is}
 use Rattle.columns.proofs.Tests.{by_test}
 use Rattle.columns.proofs.Tabulate.{part_get}

@@ -1,4 +1,5 @@
 -- The search's inner loop, over the entries that one CPU offers. Assumes nothing.
+use Rattle.std.specs.Prelude.{if◌then◌else◌}
 use mathlib.Core.Path.{◌≡◌, refl, sym, ap, ◌∙◌, subst}
 use mathlib.Core.Bool.{Bool, true, false}
 use mathlib.Core.List.{List, [], ◌∷◌, ◌++◌}
@@ -9,7 +10,7 @@ use lib.Dec.{ltb}
 use lib.ListN.{length, get_or, take, drop, take-append-drop}
 use lib.Seq.{take-suc, take_all}
 use borrow.Author.Tests.{le-ltb}
-use Rattle.columns.specs.Common.{if◌then◌else◌, fold, All}
+use Rattle.columns.specs.Common.{fold, All}
 use Rattle.columns.proofs.Tests.{by_test}
 use Rattle.entries.specs.declared.Entry.{Entry}
 use Rattle.percpu.specs.Layout.{no_entry}

@@ -1,4 +1,5 @@
 -- What the search reads and judges. Assumes nothing.
+use Rattle.std.specs.Prelude.{if◌then◌else◌}
 use mathlib.Core.Path.{◌≡◌, refl, sym, ap, ◌∙◌, subst}
 use mathlib.Core.Bool.{Bool, true, false, not, ◌&&◌}
 use mathlib.Core.List.{List, [], ◌∷◌, ◌++◌}
@@ -8,7 +9,7 @@ use native.Mathlib.Omega.{arith}
 use lib.Dec.{eqb}
 use lib.ListN.{length}
 use borrow.Author.Tests.{eq-eqb, ne_eqb, lt-ltb}
-use Rattle.columns.specs.Common.{if◌then◌else◌, All}
+use Rattle.columns.specs.Common.{All}
 use Rattle.context.specs.declared.Context.{Context}
 use Rattle.context.specs.Status.{is_runnable}
 use Rattle.cpu_set.specs.Set.{contains}

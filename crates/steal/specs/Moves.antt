@@ -1,9 +1,8 @@
 -- Entries moved from CPU t to CPU k of the machine. Assumes nothing.
-use Rattle.std.specs.Prelude.{◌≡◌, Bool, false, List, ℕ, ◌<◌, ◌≤◌, set}
+use Rattle.std.specs.Prelude.{◌≡◌, Bool, false, List, ℕ, ◌<◌, ◌≤◌, set, if◌then◌else◌}
 use Rattle.machine.specs.Machine.{Machine, cpu_at, context_at}
 use Rattle.machine.specs.Encode.{encode}
 use Rattle.machine.specs.Shape.{Fits, Image}
-use Rattle.columns.specs.Common.{if◌then◌else◌}
 use Rattle.context.specs.declared.Context.{Context}
 use Rattle.entries.specs.declared.Entry.{Entry}
 use Rattle.model.specs.State.{State, state_of, on_cpu, put_context, insert_entry}

@@ -1,7 +1,7 @@
 -- The search for a victim: what the code finds, in the definition's words. Assumes nothing.
-use Rattle.std.specs.Prelude.{◌≡◌, Bool, false, List, [], ◌≢◌, ℕ, ◌+◌, ◌%◌, ◌<◌, get_or}
+use Rattle.std.specs.Prelude.{◌≡◌, Bool, false, List, [], ◌≢◌, ℕ, ◌+◌, ◌%◌, ◌<◌, get_or, if◌then◌else◌}
 use Rattle.std.proofs.Math.Option.{Option}
-use Rattle.columns.specs.Common.{if◌then◌else◌, fold, All}
+use Rattle.columns.specs.Common.{fold, All}
 use Rattle.entries.specs.declared.Entry.{Entry}
 use Rattle.percpu.specs.Cpu.{Cpu}
 use Rattle.machine.specs.Machine.{Machine, cpu_at, no_cpu}

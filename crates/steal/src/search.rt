@@ -1,6 +1,6 @@
 // The search for a victim and for what it gives up. Reads only.
-ghost use Rattle.std.specs.Prelude.{◌≡◌, ◌+◌, ◌<◌, ◌≤◌, length, get_or};
-ghost use Rattle.columns.specs.Common.{if◌then◌else◌, All};
+ghost use Rattle.std.specs.Prelude.{◌≡◌, ◌+◌, ◌<◌, ◌≤◌, length, get_or, if◌then◌else◌};
+ghost use Rattle.columns.specs.Common.{All};
 ghost use Rattle.percpu.specs.Places.{queue_count};
 ghost use Rattle.machine.specs.Machine.{Machine, cpu_at};
 ghost use Rattle.machine.specs.Encode.{encode, cpu_place};

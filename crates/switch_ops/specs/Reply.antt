@@ -1,6 +1,5 @@
 -- Operations 1 to 3: what a call answers of the machine M of an image m, and the image it leaves. Assumes nothing.
-use Rattle.std.specs.Prelude.{◌≡◌, ℕ, ◌<◌, List, eqb}
-use Rattle.columns.specs.Common.{if◌then◌else◌}
+use Rattle.std.specs.Prelude.{◌≡◌, ℕ, ◌<◌, List, eqb, if◌then◌else◌}
 use Rattle.machine.specs.declared.Lookup.{Lookup}
 use Rattle.machine.specs.declared.Lookup.TheVariants.{Live, Gone}
 use Rattle.machine.specs.declared.CpuLookup.{CpuLookup}

@@ -1,6 +1,5 @@
 // The records that a switch changes, by value.
-ghost use Rattle.std.specs.Prelude.{◌≡◌, Bool, ℕ, ◌<◌, ◌≤◌};
-ghost use Rattle.columns.specs.Common.{if◌then◌else◌};
+ghost use Rattle.std.specs.Prelude.{◌≡◌, Bool, ℕ, ◌<◌, ◌≤◌, if◌then◌else◌};
 ghost use Rattle.cpu_stats.specs.declared.CpuState.TheVariants.{Kernel, User};
 ghost use Rattle.model.specs.SwitchTo.{comes};
 ghost use Rattle.switch_to.specs.Switched.{is_lost, left_by, current_by};

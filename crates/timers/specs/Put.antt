@@ -1,6 +1,5 @@
 -- A timer put into a CPU's set, or left out where there is no room. Assumes nothing.
-use Rattle.std.specs.Prelude.{Bool, ltb, length}
-use Rattle.columns.specs.Common.{if◌then◌else◌}
+use Rattle.std.specs.Prelude.{Bool, ltb, length, if◌then◌else◌}
 use Rattle.entries.specs.declared.Key.{Key}
 use Rattle.entries.specs.declared.Timer.{Timer}
 use Rattle.entries.specs.Queue.{timer_insert, without_superseded}

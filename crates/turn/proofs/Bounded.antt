@@ -1,11 +1,12 @@
 -- What counting, times and the holder's charge add to what grows. Assumes nothing.
+use Rattle.std.specs.Prelude.{if◌then◌else◌}
 use mathlib.Core.Path.{◌≡◌, refl, sym, ap, ◌∙◌, subst}
 use mathlib.Core.Bool.{Bool, true, false}
 use Prim.Native.Nat.{ℕ, ◌+◌, ◌-◌, ◌*◌, ◌/◌, ◌<◌, ◌≤◌, max, ◌^◌}
 use native.Mathlib.Omega.{arith}
 use native.Mathlib.Nat.{div-le_of_le-mul}
 use lib.Dec.{ltb, eqb}
-use Rattle.columns.specs.Common.{if◌then◌else◌, mark}
+use Rattle.columns.specs.Common.{mark}
 use Rattle.columns.proofs.Tests.{by_test}
 use Rattle.context.specs.declared.Context.{Context}
 use Rattle.context.specs.Status.{is_runnable}

@@ -1,10 +1,11 @@
 -- Counting and times, in the code's words. Assumes nothing.
+use Rattle.std.specs.Prelude.{if◌then◌else◌}
 use mathlib.Core.Path.{◌≡◌, refl, sym, ap, ◌∙◌}
 use mathlib.Core.Bool.{Bool, true, false}
 use Prim.Native.Nat.{ℕ, ◌+◌, ◌-◌, ◌/◌, ◌<◌, ◌≤◌}
 use native.Mathlib.Omega.{arith}
 use mathlib.Core.List.{List}
-use Rattle.columns.specs.Common.{if◌then◌else◌, mark}
+use Rattle.columns.specs.Common.{mark}
 use Rattle.cpu_stats.specs.declared.CpuState.{CpuState}
 use Rattle.cpu_stats.specs.declared.CpuState.TheVariants.{Idle, Kernel, User}
 use Rattle.cpu_stats.specs.declared.CpuStats.{CpuStats}

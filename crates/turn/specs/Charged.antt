@@ -1,6 +1,5 @@
 -- `charge_holder` by the values that the code has read: the block b, the holder's number x and its record q. Assumes nothing.
-use Rattle.std.specs.Prelude.{Bool, ℕ, ◌-◌}
-use Rattle.columns.specs.Common.{if◌then◌else◌}
+use Rattle.std.specs.Prelude.{Bool, ℕ, ◌-◌, if◌then◌else◌}
 use Rattle.context.specs.declared.Context.{Context}
 use Rattle.context.specs.Status.{is_runnable}
 use Rattle.ticks.specs.declared.Spent.{Spent}

@@ -1,10 +1,11 @@
 -- What one wake-up adds: u bounds virtual times and the total weight of the whole stage. Assumes nothing.
+use Rattle.std.specs.Prelude.{if◌then◌else◌}
 use mathlib.Core.Bool.{Bool, true, false}
 use mathlib.Core.List.{List}
 use mathlib.Core.Option.{Option, none, some}
 use Prim.Native.Nat.{ℕ, ◌+◌, ◌<◌, ◌≤◌}
 use native.Mathlib.Omega.{arith}
-use Rattle.columns.specs.Common.{if◌then◌else◌, All}
+use Rattle.columns.specs.Common.{All}
 use Rattle.columns.proofs.Tests.{by_test}
 use Rattle.context.specs.declared.Context.{Context}
 use Rattle.weights.specs.Weights.{weight, whole_slice, max_weight, max_whole_slice}

@@ -1,4 +1,5 @@
 -- How far the wake-ups move virtual times and the total weight. Assumes nothing.
+use Rattle.std.specs.Prelude.{if◌then◌else◌}
 use mathlib.Core.Path.{◌≡◌, refl}
 use mathlib.Core.Bool.{Bool, true, false}
 use mathlib.Core.Option.{Option, none, some}
@@ -8,7 +9,6 @@ use native.Mathlib.Nat.{div-zero}
 use lib.Dec.{ltb}
 use borrow.Author.Tests.{ltb-true, ltb-false}
 use Rattle.columns.proofs.Tabulate.{get_d_past}
-use Rattle.columns.specs.Common.{if◌then◌else◌}
 use Rattle.columns.proofs.Tests.{by_test}
 use Rattle.context.specs.declared.Context.{Context}
 use Rattle.weights.specs.Weights.{weights, weight, full_slice, whole_slice, max_weight, max_whole_slice}

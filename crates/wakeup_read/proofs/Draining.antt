@@ -1,4 +1,5 @@
 -- The due timers taken out from the last to the first, then the local list. Assumes nothing.
+use Rattle.std.specs.Prelude.{if◌then◌else◌}
 use mathlib.Core.Path.{◌≡◌, refl, sym, ap, ◌∙◌}
 use mathlib.Core.Bool.{Bool, true, false, not, ◌||◌}
 use mathlib.Core.List.{List, []}
@@ -6,7 +7,6 @@ use Prim.Native.Nat.{ℕ, suc, ◌+◌, ◌-◌, ◌<◌, ◌≤◌}
 use native.Mathlib.Omega.{arith}
 use lib.ListN.{length, get_or, take, drop}
 use borrow.Rule.Slice.PartMut.{put_mid}
-use Rattle.columns.specs.Common.{if◌then◌else◌}
 use Rattle.columns.specs.Columns.{remove_at}
 use Rattle.columns.proofs.Tests.{by_test}
 use Rattle.entries.specs.declared.Timer.{Timer}

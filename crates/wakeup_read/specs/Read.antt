@@ -1,7 +1,7 @@
 -- What is read into the scratch: three words a wake-up. Assumes nothing.
-use Rattle.std.specs.Prelude.{◌≡◌, List, [], ◌∷◌, ◌++◌, map, ℕ, zero, suc, ◌+◌, ◌*◌, ◌<◌, eqb, get_or}
+use Rattle.std.specs.Prelude.{◌≡◌, List, [], ◌∷◌, ◌++◌, map, ℕ, zero, suc, ◌+◌, ◌*◌, ◌<◌, eqb, get_or, if◌then◌else◌}
 use Rattle.columns.specs.Columns.{remove_at}
-use Rattle.columns.specs.Common.{if◌then◌else◌, keep}
+use Rattle.columns.specs.Common.{keep}
 use Rattle.context.specs.declared.Context.{Context}
 use Rattle.entries.specs.declared.Timer.{Timer}
 use Rattle.percpu.specs.Cpu.{Cpu}

@@ -1,6 +1,6 @@
 -- A window: the last decisions of one CPU, 256 at most, oldest first (document 02, No. 11). Assumes nothing.
-use Rattle.std.specs.Prelude.{Bool, not, ◌&&◌, ℕ, ◌+◌, ◌-◌, List, ◌∷◌, ◌++◌, ltb, leb, eqb, length, get_or, set, drop}
-use Rattle.columns.specs.Common.{if◌then◌else◌, tabulate, every}
+use Rattle.std.specs.Prelude.{Bool, not, ◌&&◌, ℕ, ◌+◌, ◌-◌, List, ◌∷◌, ◌++◌, ltb, leb, eqb, length, get_or, set, drop, if◌then◌else◌}
+use Rattle.columns.specs.Common.{tabulate, every}
 use Rattle.columns.specs.Columns.{column_remove}
 use Rattle.columns.specs.Blocks.{part}
 use Rattle.numbers.specs.Limits.{max_elapsed}

@@ -1,8 +1,5 @@
-use mathlib.Core.List.{[]}
 use mathlib.Core.Path.{◌≡◌, refl}
 use mathlib.Core.Bool.{Bool, true, false}
-use mathlib.Core.List.{◌∷◌}
-use types.Run.{miss}
 use Rattle.answer.specs.declared.Rule.{Rule}
 use Rattle.answer.specs.declared.Rule.TheVariants.{FirstEligible, HolderDeadline, HolderSlice, HolderAlone, HolderVtime, HolderLateDeadline, EntryVtime, Stolen, Idle}
 use Rattle.schedule.specs.Stolen.{stolen_rule}
@@ -36,4 +33,4 @@ pub returns-else-won : goal.returns-else-won
 returns-else-won c = idle_left c.in-Idle.is c.if-won.false
 
 pub returns-in_default : goal.returns-in_default
-returns-in_default c = let k = c.in_default.in_default-own.keys2 in other _ c.args.rule (λ e. miss (0 ∷ 1 ∷ 2 ∷ 3 ∷ 4 ∷ 5 ∷ 6 ∷ 7 ∷ []) 8 tt (rw e at k))
+returns-in_default c = other _ c.args.rule c.in_default.not-Idle
