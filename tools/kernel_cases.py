@@ -14,21 +14,18 @@ import sys
 from layout import length
 
 HEAD = '''-- Calls of the kernel's own run: words before, result, words after. Written by tools/kernel_cases.py. Assumes nothing.
-use mathlib.Core.Path.{_≡_, refl}
-use mathlib.Core.Bool.{Bool, true, false}
-use mathlib.Core.List.{List, [], _∷_}
-use Prim.Native.Nat.{ℕ}
-use Rattle·model.specs.Opened.{opened}
-use Rattle·model_cases·specs.specs.Replay.{KernelCase, called, every-passes, zeros, sparse, same-words, replay, passes}
+use Rattle.std.specs.Prelude.{◌≡◌, refl, Bool, true, false, List, [], ◌∷◌, ℕ}
+use Rattle.model.specs.Opened.{opened}
+use Rattle.model_cases.specs.Replay.{KernelCase, called, every_passes, zeros, sparse, same_words, replay, passes}
 
-unfoldable pub kernel-cases : List KernelCase
-kernel-cases =
+unfoldable pub kernel_cases : List KernelCase
+kernel_cases =
 '''
 TAIL = '''    []
 
-pub every-case-passes : every-passes kernel-cases ≡ true
-unfolding opened kernel-cases zeros sparse same-words replay passes every-passes
-every-case-passes = refl
+pub every_case_passes : every_passes kernel_cases ≡ true
+unfolding opened kernel_cases zeros sparse same_words replay passes every_passes
+every_case_passes = refl
 '''
 
 

@@ -7,16 +7,8 @@ Run it from the root of the repository after a list of tools/layout.py changes."
 from layout import ARRAYS, BLOCK, CONTEXT, COUNTS, LAST, LISTS, ROOM, STATS, WIDTH
 
 
-def name(f):
-    return "«%s»" % f if "_" in f else f
-
-
-def hyphen(f):
-    return f.replace("_", "-")
-
-
 def record(fields, value, indent="    "):
-    inner = "".join("%s  %s = %s;\n" % (indent, name(f), value(f, t)) for f, t in fields)
+    inner = "".join("%s  %s = %s;\n" % (indent, f, value(f, t)) for f, t in fields)
     return "record {\n%s%s}" % (inner, indent)
 
 
@@ -25,11 +17,11 @@ def antt_type(t, own):
 
 
 def to_word(f, t):
-    x = "c .%s" % name(f)
+    x = "c.%s" % f
     if t == "bool":
-        return "mark (%s)" % x
+        return "mark %s" % x
     if t.startswith("enum:"):
-        return "%s-number (%s)" % (t[5:], x)
+        return "%s_number %s" % (t[5:], x)
     return x
 
 
@@ -38,7 +30,7 @@ def words(fn, typ, fields):
     for f, t in fields:
         if t == "record":
             parts.append("(%s ∷ [])" % " ∷ ".join(run))
-            parts.append("stats-words (c .%s)" % f)
+            parts.append("stats_words c.%s" % f)
             run = []
         else:
             run.append(to_word(f, t))
@@ -57,12 +49,12 @@ def of(fn, typ, fields, at=0):
         i = place[0]
         place[0] += WIDTH.get(t, 1)
         if t == "record":
-            return "stats-of (part w %d %d)" % (i, WIDTH[t])
-        x = "getD w %d 0" % i
+            return "stats_of (part w %d %d)" % (i, WIDTH[t])
+        x = "get_or w %d 0" % i
         if t == "bool":
             return "eqb (%s) 1" % x
         if t.startswith("enum:"):
-            return "%s-of (%s)" % (t[5:], x)
+            return "%s_of (%s)" % (t[5:], x)
         return x
 
     return "unfoldable pub %s : List ℕ → %s\n%s w =\n    %s\n" % (fn, typ, fn, record(fields, value))
@@ -70,27 +62,27 @@ def of(fn, typ, fields, at=0):
 
 def back(fn, words_fn, typ, fields):
     def value(f, t):
-        x = "c .%s" % name(f)
+        x = "c.%s" % f
         if t == "bool":
-            return "mark-back (%s) j" % x
+            return "mark_back %s j" % x
         if t.startswith("enum:"):
-            return "%s-back (%s) j" % (t[5:], x)
+            return "%s_back %s j" % (t[5:], x)
         if t == "record":
-            return "stats-of-words (%s) j" % x
+            return "stats_of_words %s j" % x
         return x
 
-    return ("pub %s-words : (c : %s) → %s (%s c) ≡ c\nunfolding %s %s%s\n%s-words c = λ j.\n    %s\n"
-            % (fn, typ, fn, words_fn, words_fn, fn, " stats-words part" if any(t == "record" for _, t in fields) else "",
+    return ("pub %s_words : (c : %s) → %s (%s c) ≡ c\nunfolding %s %s%s\n%s_words c = λ j.\n    %s\n"
+            % (fn, typ, fn, words_fn, words_fn, fn, " stats_words part" if any(t == "record" for _, t in fields) else "",
                fn, record(fields, value)))
 
 
 def setters(prefix, typ, fields, own):
     out = []
     for f, t in fields:
-        fn = "%s-%s" % (prefix, hyphen(f))
+        fn = "%s_%s" % (prefix, f)
         out.append("abbrev pub %s : %s → %s → %s\n%s x c =\n    %s\n" % (
             fn, antt_type(t, own), typ, typ, fn,
-            record(fields, lambda g, _: "x" if g == f else "c .%s" % name(g))))
+            record(fields, lambda g, _: "x" if g == f else "c.%s" % g)))
     return out
 
 
@@ -98,19 +90,14 @@ def lifted(prefix, over, field, inner, typ, fields, own):
     """Setters of a record inside another: `typ` has `field`, whose setters begin with `inner`."""
     out = []
     for f, t in fields:
-        fn = "%s-%s" % (prefix, hyphen(f))
-        out.append("abbrev pub %s : %s → %s → %s\n%s x c = %s-%s (%s-%s x (c .%s)) c\n" % (
-            fn, antt_type(t, own), typ, typ, fn, over, field, inner, hyphen(f), field))
+        fn = "%s_%s" % (prefix, f)
+        out.append("abbrev pub %s : %s → %s → %s\n%s x c = %s_%s (%s_%s x c.%s) c\n" % (
+            fn, antt_type(t, own), typ, typ, fn, over, field, inner, f, field))
     return out
 
 
 HEAD = """-- %s Written by tools/records.py.
-use Prim.Native.Nat.{ℕ}
-use mathlib.Core.Bool.{Bool, true, false}
-use mathlib.Core.Path.{_≡_, refl}
-use mathlib.Core.List.{List, [], _∷_, _++_}
-use lib.Dec.{eqb}
-use lib.ListN.{length, getD}
+use Rattle.std.specs.Prelude.{ℕ, Bool, true, false, ◌≡◌, refl, List, [], ◌∷◌, ◌++◌, eqb, length, get_or}
 """
 
 
@@ -124,7 +111,7 @@ def size(name, n):
 
 
 def sized(words_fn, typ, n, extra=""):
-    return "pub length-%s : (c : %s) → length (%s c) ≡ %s\nunfolding %s%s\nlength-%s c = refl\n" % (
+    return "pub length_%s : (c : %s) → length (%s c) ≡ %s\nunfolding %s%s\nlength_%s c = refl\n" % (
         words_fn, typ, words_fn, n, words_fn, extra, words_fn)
 
 
@@ -148,22 +135,22 @@ def consts(path, what, pairs):
 def write_places():
     columns = [array.name for array in ARRAYS]
     ends = ["scalars_size", "front_size", "columns_end", "block_size"]
-    named = [(hyphen(f) + ("-column" if f in columns else "" if f in COUNTS + ends else "-place"), n) for f, n in places()]
+    named = [(f + ("_column" if f in columns else "" if f in COUNTS + ends else "_place"), n) for f, n in places()]
     consts("crates/percpu/src/places.rt", "Where the words of a block stand, and its size.", places())
     consts("crates/context/src/places.rt", "Where the words of a record stand, and its size.",
            [(f, i) for i, (f, _) in enumerate(CONTEXT)] + [("record_size", len(CONTEXT))])
     with open("crates/percpu/specs/Places.antt", "w") as out:
         out.write("-- Where the words of a block stand, and its size. Written by tools/records.py.\n"
-                  "use Prim.Native.Nat.{ℕ}\n\n"
+                  "use Rattle.std.specs.Prelude.{ℕ}\n\n"
                   + "\n".join("abbrev pub %s : ℕ\n%s = %d\n" % (f, f, i) for f, i in named))
 
 
 def pair(crate, typ, fields, fn, enum, setter, what, size_name, uses=()):
     """Both files of a record that has one enum: `enum` names its type and the prefix of its number and inverse."""
-    own = "Rattle·%s·specs.specs." % crate
-    words_fn, of_fn = fn + "-words", fn + "-of"
+    own = "Rattle.%s.specs." % crate
+    words_fn, of_fn = fn + "_words", fn + "_of"
     declared, (enum_typ, prefix) = own + "declared.%s.{%s}" % (typ, typ), enum
-    inverse = own + "%s.{%s-number, %s-of, %s-back}" % (prefix.capitalize(), prefix, prefix, prefix)
+    inverse = own + "%s.{%s_number, %s_of, %s_back}" % (prefix.capitalize(), prefix, prefix, prefix)
     write("crates/%s/specs/Words.antt" % crate, what[0], [declared, inverse, *uses],
           [size(size_name, len(fields)), words(words_fn, typ, fields), of(of_fn, typ, fields),
            back(of_fn, words_fn, typ, fields), sized(words_fn, typ, size_name)])
@@ -172,25 +159,25 @@ def pair(crate, typ, fields, fn, enum, setter, what, size_name, uses=()):
 
 
 def main():
-    marks = "Rattle·columns.specs.Common.{mark, mark-back}"
+    marks = "Rattle.columns.specs.Common.{mark, mark_back}"
     pair("context", "Context", CONTEXT, "context", ("Status", "status"), "with",
          ("The 26 words of a context's record, and the record of the words.",
-          "A context's record with one field changed."), "record-size", [marks])
+          "A context's record with one field changed."), "record_size", [marks])
     pair("cpu_stats", "CpuStats", STATS, "stats", ("CpuState", "state"), "stats",
          ("The six words of a CPU's statistics, and the statistics of the words.",
-          "A CPU's statistics with one field changed."), "stats-size")
-    percpu = "Rattle·percpu·specs.specs."
+          "A CPU's statistics with one field changed."), "stats_size")
+    percpu = "Rattle.percpu.specs."
     write("crates/percpu/specs/Words.antt", "The first 21 words of a CPU's block, and the scalars of the words.",
           [percpu + "declared.PercpuBlock.{PercpuBlock}", marks,
-           percpu + "Places.{scalars-size}", "Rattle·columns.specs.Blocks.{part}", "Rattle·cpu_stats.specs.declared.CpuStats.{CpuStats}",
-           "Rattle·cpu_stats.specs.Words.{stats-words, stats-of, stats-of-words}"],
-          [words("block-words", "PercpuBlock", BLOCK), of("block-of", "PercpuBlock", BLOCK),
-           back("block-of", "block-words", "PercpuBlock", BLOCK),
-           sized("block-words", "PercpuBlock", "scalars-size", " stats-words")])
+           percpu + "Places.{scalars_size}", "Rattle.columns.specs.Blocks.{part}", "Rattle.cpu_stats.specs.declared.CpuStats.{CpuStats}",
+           "Rattle.cpu_stats.specs.Words.{stats_words, stats_of, stats_of_words}"],
+          [words("block_words", "PercpuBlock", BLOCK), of("block_of", "PercpuBlock", BLOCK),
+           back("block_of", "block_words", "PercpuBlock", BLOCK),
+           sized("block_words", "PercpuBlock", "scalars_size", " stats_words")])
     write("crates/percpu/specs/With.antt", "A CPU with one field of its block, one list, or the last word changed.",
           [percpu + "declared.PercpuBlock.{PercpuBlock}", percpu + "Cpu.{Cpu}",
-           "Rattle·cpu_stats.specs.declared.CpuStats.{CpuStats}",
-           "Rattle·entries.specs.declared.Entry.{Entry}", "Rattle·entries.specs.declared.Timer.{Timer}"],
+           "Rattle.cpu_stats.specs.declared.CpuStats.{CpuStats}",
+           "Rattle.entries.specs.declared.Entry.{Entry}", "Rattle.entries.specs.declared.Timer.{Timer}"],
           setters("block", "PercpuBlock", BLOCK, "CpuState")
           + setters("cpu", "Cpu", [("block", "PercpuBlock")] + LISTS + [(word.name, word.kind) for word in LAST], "")
           + lifted("cpu", "cpu", "block", "block", "Cpu", BLOCK, "CpuState"))

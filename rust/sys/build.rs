@@ -17,7 +17,7 @@ fn main() {
     let Ok(bytes) = fs::read(&archive) else {
         stop(&format!(
             "there is no archive of the port at {}; `tools/archive` in the repository proves it and writes it \
-             (rt check ronthuyal && rt staticlib ronthuyal), or RONTHUYAL_PORT names another one",
+             (rt lib in crates/ronthuyal_c), or RONTHUYAL_PORT names another one",
             archive.display()
         ));
         return;

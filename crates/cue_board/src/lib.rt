@@ -74,22 +74,14 @@ fn hand_out(bytes: &mut [u8], image: &mut [u64], cpu: u64, time: u64, k: usize, 
 }
 
 // Adds a cue of two rows behind those that are stored. 0, or the refusal.
-#[unsafe(no_mangle)]
-pub extern "C" fn cue_board_add(
-    board: &mut [u8],
-    start: u64,
-    writer: u64,
-    first: &[u8],
-    second: &[u8],
-) -> u64
+pub fn cue_board_add(board: &mut [u8], start: u64, writer: u64, first: &[u8], second: &[u8]) -> u64
     ensures { added result board.new ≡ add board.old (offered start writer first.now second.now) }
 {
     cues::add(board, start, writer, first, second)
 }
 
 // Hands out the earliest cue that is not handed out, if its start is at most the time, and wakes its writer.
-#[unsafe(no_mangle)]
-pub extern "C" fn cue_board_next(board: &mut [u8], image: &mut [u64], cpu: u64, time: u64) -> Handed
+pub fn cue_board_next(board: &mut [u8], image: &mut [u64], cpu: u64, time: u64) -> Handed
     ensures { asked result board.new image.new ≡ next board.old image.old cpu time }
 {
     let found = cues::next_due(board, time);

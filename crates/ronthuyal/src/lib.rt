@@ -35,8 +35,7 @@ use rival::Game;
 use window::Whose;
 
 // Operation 1. The result is 0 if no switch is due, else as in operation 2.
-#[unsafe(no_mangle)]
-pub extern "C" fn ronthuyal_tick(image: &mut [u64], cpu: u64, time: u64) -> Answer
+pub fn ronthuyal_tick(image: &mut [u64], cpu: u64, time: u64) -> Answer
     ensures image_after { reply result image.new ≡ tick_call image.old cpu time }
     ensures demand_met { DemandMet image.old image.new 1 cpu time 0 result.refusal }
     ensures leaves { Leaves max_word image.old image.new result.refusal }
@@ -49,8 +48,7 @@ pub extern "C" fn ronthuyal_tick(image: &mut [u64], cpu: u64, time: u64) -> Answ
 }
 
 // Operation 2. The result is 1 for Switched, 2 for AllContextsIdle.
-#[unsafe(no_mangle)]
-pub extern "C" fn ronthuyal_switch(image: &mut [u64], cpu: u64, time: u64) -> Answer
+pub fn ronthuyal_switch(image: &mut [u64], cpu: u64, time: u64) -> Answer
     ensures image_after { reply result image.new ≡ switch_call image.old cpu time }
     ensures demand_met { DemandMet image.old image.new 2 cpu time 0 result.refusal }
     ensures leaves { Leaves max_word image.old image.new result.refusal }
@@ -63,13 +61,7 @@ pub extern "C" fn ronthuyal_switch(image: &mut [u64], cpu: u64, time: u64) -> An
 }
 
 // Operation 3. The result is as in operation 2.
-#[unsafe(no_mangle)]
-pub extern "C" fn ronthuyal_direct_switch_to(
-    image: &mut [u64],
-    cpu: u64,
-    time: u64,
-    context: u64,
-) -> Answer
+pub fn ronthuyal_direct_switch_to(image: &mut [u64], cpu: u64, time: u64, context: u64) -> Answer
     ensures image_after { reply result image.new ≡ direct_switch_to_call image.old cpu time context }
     ensures demand_met { DemandMet image.old image.new 3 cpu time context result.refusal }
     ensures leaves { Leaves max_word image.old image.new result.refusal }
@@ -82,13 +74,7 @@ pub extern "C" fn ronthuyal_direct_switch_to(
 }
 
 // Operation 4. The result is 1 if the context was soft-blocked.
-#[unsafe(no_mangle)]
-pub extern "C" fn ronthuyal_unblock_context(
-    image: &mut [u64],
-    cpu: u64,
-    time: u64,
-    context: u64,
-) -> Answer
+pub fn ronthuyal_unblock_context(image: &mut [u64], cpu: u64, time: u64, context: u64) -> Answer
     ensures image_after { reply result image.new ≡ unblock_context_call image.old cpu time context }
     ensures leaves { Leaves max_number image.old image.new result.refusal }
 {
@@ -100,12 +86,7 @@ pub extern "C" fn ronthuyal_unblock_context(
 }
 
 // Operation 5. The result is 0.
-#[unsafe(no_mangle)]
-pub extern "C" fn ronthuyal_drain_ipi_context_wakeups(
-    image: &mut [u64],
-    cpu: u64,
-    time: u64,
-) -> Answer
+pub fn ronthuyal_drain_ipi_context_wakeups(image: &mut [u64], cpu: u64, time: u64) -> Answer
     ensures image_after { reply result image.new ≡ drain_ipi_context_wakeups_call image.old cpu time }
     ensures leaves { Leaves max_number image.old image.new result.refusal }
 {
@@ -117,8 +98,7 @@ pub extern "C" fn ronthuyal_drain_ipi_context_wakeups(
 }
 
 // Operation 6. The result is 1 if the context was runnable.
-#[unsafe(no_mangle)]
-pub extern "C" fn ronthuyal_block(image: &mut [u64], cpu: u64, time: u64, context: u64) -> Answer
+pub fn ronthuyal_block(image: &mut [u64], cpu: u64, time: u64, context: u64) -> Answer
     ensures image_after { reply result image.new ≡ block_call image.old cpu time context }
     ensures leaves { Leaves max_number image.old image.new result.refusal }
 {
@@ -130,13 +110,7 @@ pub extern "C" fn ronthuyal_block(image: &mut [u64], cpu: u64, time: u64, contex
 }
 
 // Operation 7, as Stopped. The result is 1 if the context was runnable.
-#[unsafe(no_mangle)]
-pub extern "C" fn ronthuyal_hard_block(
-    image: &mut [u64],
-    cpu: u64,
-    time: u64,
-    context: u64,
-) -> Answer
+pub fn ronthuyal_hard_block(image: &mut [u64], cpu: u64, time: u64, context: u64) -> Answer
     ensures image_after { reply result image.new ≡ hard_block_call image.old cpu time context }
     ensures leaves { Leaves max_number image.old image.new result.refusal }
 {
@@ -148,8 +122,7 @@ pub extern "C" fn ronthuyal_hard_block(
 }
 
 // Any operation, by its number; operations 1, 2 and 5 leave the context aside.
-#[unsafe(no_mangle)]
-pub extern "C" fn ronthuyal_call(
+pub fn ronthuyal_call(
     image: &mut [u64],
     operation: u64,
     cpu: u64,
@@ -164,8 +137,7 @@ pub extern "C" fn ronthuyal_call(
 }
 
 // Any operation by the plain engine: the answer and every word are those of `ronthuyal_call`.
-#[unsafe(no_mangle)]
-pub extern "C" fn ronthuyal_plain_call(
+pub fn ronthuyal_plain_call(
     image: &mut [u64],
     operation: u64,
     cpu: u64,
@@ -180,13 +152,7 @@ pub extern "C" fn ronthuyal_plain_call(
 }
 
 // Operation 4 for every context of the mask, by rising number, or for none. The result is how many were soft-blocked.
-#[unsafe(no_mangle)]
-pub extern "C" fn ronthuyal_unblock_group(
-    image: &mut [u64],
-    cpu: u64,
-    time: u64,
-    mask: u64,
-) -> Answer
+pub fn ronthuyal_unblock_group(image: &mut [u64], cpu: u64, time: u64, mask: u64) -> Answer
     ensures image_after { reply result image.new ≡ unblock_group_call image.old cpu time mask }
     ensures leaves { Leaves max_number image.old image.new result.refusal }
 {
@@ -198,8 +164,7 @@ pub extern "C" fn ronthuyal_unblock_group(
 }
 
 // The weight of a CPU, added up from its contexts. The result is the sum.
-#[unsafe(no_mangle)]
-pub extern "C" fn ronthuyal_total_weight(image: &[u64], cpu: u64) -> Answer
+pub fn ronthuyal_total_weight(image: &[u64], cpu: u64) -> Answer
     ensures { reply result image.now ≡ total_weight_call image.now cpu }
 {
     let checked = calls::check(image, 0);
@@ -210,16 +175,14 @@ pub extern "C" fn ronthuyal_total_weight(image: &[u64], cpu: u64) -> Answer
 }
 
 // What a switch at that time would answer and leave on that CPU. The image is only read.
-#[unsafe(no_mangle)]
-pub extern "C" fn ronthuyal_ask(image: &[u64], cpu: u64, time: u64) -> Asked
+pub fn ronthuyal_ask(image: &[u64], cpu: u64, time: u64) -> Asked
     ensures { result ≡ ask image.now cpu time }
 {
     ask::ask(image, cpu, time)
 }
 
 // Operation 2, if what it would answer and leave on that CPU is what was given.
-#[unsafe(no_mangle)]
-pub extern "C" fn ronthuyal_commit(
+pub fn ronthuyal_commit(
     image: &mut [u64],
     cpu: u64,
     time: u64,
@@ -244,8 +207,7 @@ pub extern "C" fn ronthuyal_commit(
 }
 
 // Any operation, by its number, beside a window of that CPU's last decisions: an accepted decision adds the context in charge before it and its nanoseconds.
-#[unsafe(no_mangle)]
-pub extern "C" fn ronthuyal_call_in_window(
+pub fn ronthuyal_call_in_window(
     image: &mut [u64],
     window: &mut [u64],
     operation: u64,
@@ -261,32 +223,28 @@ pub extern "C" fn ronthuyal_call_in_window(
 }
 
 // The nanoseconds of one context in a window, which is checked for that many contexts. The result is the sum.
-#[unsafe(no_mangle)]
-pub extern "C" fn ronthuyal_share(window: &[u64], contexts: u64, context: u64) -> Answer
+pub fn ronthuyal_share(window: &[u64], contexts: u64, context: u64) -> Answer
     ensures { result ≡ share_answer contexts (Whose.Context context) window.now }
 {
     window::share(window, contexts, Whose::Context(context))
 }
 
 // The nanoseconds of all contexts in a window. The result is the sum.
-#[unsafe(no_mangle)]
-pub extern "C" fn ronthuyal_share_of_all(window: &[u64], contexts: u64) -> Answer
+pub fn ronthuyal_share_of_all(window: &[u64], contexts: u64) -> Answer
     ensures { result ≡ share_answer contexts Whose.All window.now }
 {
     window::share(window, contexts, Whose::All)
 }
 
 // The largest priority number with which the context, put last on the CPU's local list, would be in charge after a switch at that time. The image is only read.
-#[unsafe(no_mangle)]
-pub extern "C" fn ronthuyal_humblest(image: &[u64], cpu: u64, time: u64, context: u64) -> Humblest
+pub fn ronthuyal_humblest(image: &[u64], cpu: u64, time: u64, context: u64) -> Humblest
     ensures { result ≡ humblest image.now cpu time context }
 {
     humblest::find(image, cpu, time, context)
 }
 
 // Whether the writer can force itself into charge at the end of so many rounds, whatever the rival picks. The image is only read.
-#[unsafe(no_mangle)]
-pub extern "C" fn ronthuyal_rival(
+pub fn ronthuyal_rival(
     image: &[u64],
     cpu: u64,
     time: u64,
@@ -301,8 +259,7 @@ pub extern "C" fn ronthuyal_rival(
 
 // Whether the two CPUs name no context together, in any roles: their switches give the same in either order. The result is 1 if so. The image is
 // only read.
-#[unsafe(no_mangle)]
-pub extern "C" fn ronthuyal_apart(image: &[u64], one: u64, other: u64) -> Answer
+pub fn ronthuyal_apart(image: &[u64], one: u64, other: u64) -> Answer
     ensures { reply result image.now ≡ apart_call image.now one other }
 {
     let checked = calls::check(image, 0);
@@ -314,8 +271,7 @@ pub extern "C" fn ronthuyal_apart(image: &[u64], one: u64, other: u64) -> Answer
 
 // Calls of four words each (operation, CPU, time, context), one after the other, and four words of answer for each (refusal, result, interrupt, rule).
 // How many were made; where the lengths do not fit, 2^64 - 1, and nothing is written.
-#[unsafe(no_mangle)]
-pub extern "C" fn ronthuyal_run(image: &mut [u64], calls: &[u64], answers: &mut [u64]) -> u64
+pub fn ronthuyal_run(image: &mut [u64], calls: &[u64], answers: &mut [u64]) -> u64
     ensures { run_reply result image.new answers.new ≡ run image.old calls.now answers.old }
 {
     run::run(image, calls, answers)
