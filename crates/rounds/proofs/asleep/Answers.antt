@@ -10,7 +10,7 @@ bounds-m-at-2 c = simp length-set (omega (arith, c.context_place-at.ensures, c.r
 
 -- src/lib.rt:57:1
 pub shape_of-m : goal.shape_of-m
-shape_of-m c = c.block-a.auto.0 ∙ simp length-set
+shape_of-m c = c.block-a.auto.m ∙ simp length-set
 
 -- src/lib.rt:57:1
 pub returns : goal.returns
