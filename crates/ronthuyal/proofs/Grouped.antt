@@ -75,7 +75,7 @@ module _ (m : List ℕ) (cpu time x : ℕ) (xs : List ℕ) where
 
   by_check : (w : Checked) → w ≡ check m time → checked_by m (λ (M : Machine). group_on m M cpu (x ∷ xs) (get_percpu_block M cpu)) w ≡ one_by_one
   unfolding checked_by
-  by_check (Refused r) e = all_refused m cpu time r (is_refused m time r e) (λ y. sym (call_refused m time (Refused r) e r _ refl refl)) x xs
+  by_check (Refused r) e = all_refused m cpu time r (is_refused m time r e) (λ y. sym (call_refused m time (Refused r) e r (λ (M : Machine). reply_to m (λ (k j : ℕ). unblock_context k j M) (named M cpu y)) refl refl)) x xs
   by_check (Passed c n) e = by_cpu (call_none m time (Passed c n) e c n refl) (get_percpu_block (decode m) cpu) refl
 
   pub list_is_singles : group_of m cpu time (x ∷ xs) ≡ one_by_one
