@@ -1,0 +1,31 @@
+// Bytes of an input, read until a space is full of them.
+#![tactic(auto)]
+
+ghost use Rattle.std.specs.Prelude.{◌≤◌, length};
+
+use std::io::Read;
+
+// One read. Where it fails, the input has ended.
+fn read_some<R: Read>(reader: &mut R, space: &mut [u8]) -> usize
+    ensures { result ≤ length space.new }
+{
+    match reader.read(space) {
+        Ok(got) => got,
+        Err(_) => 0,
+    }
+}
+
+// Reads until the space is full, the input ends or a read fails: how many bytes stand at the space's start.
+pub fn read_full<R: Read>(reader: &mut R, space: &mut [u8]) -> usize
+    ensures { result ≤ length space.new }
+{
+    let mut have = 0;
+    while have < space.len() {
+        let got = read_some(reader, &mut space[have..]);
+        if got == 0 {
+            return have;
+        }
+        have += got;
+    }
+    have
+}
