@@ -1,6 +1,6 @@
 // The words of an input, 64 bits each, lowest byte first.
 ghost use Rattle.std.specs.Prelude.{◌≡◌, ◌+◌, ◌*◌, ◌≤◌, length};
-ghost use Rattle.decide.specs.Input.{half_at, word_at, head_of, image_words, max_byte, max_half};
+ghost use Rattle.decide.specs.Input.{half_at, word_at, head_of, image_words, max_byte, max_half, GivesOver};
 
 use std::io::Read;
 
@@ -69,7 +69,8 @@ pub fn load_image(s: &[u8], image: &mut [u64])
 
 // Reads on to the end: how many bytes there were, modulo 8.
 pub fn read_on<R: Read>(reader: &mut R, space: &mut [u8]) -> usize
-    ensures { result ≤ 7 }
+    ensures below { result ≤ 7 }
+    ensures bytes { GivesOver (R.remaining reader.old) (R.remaining reader.new) result }
 {
     let mut over = 0;
     for _ in 0..u64::MAX {

@@ -1,13 +1,15 @@
 // Bytes of an input, read until a space is full of them.
 #![tactic(auto)]
 
-ghost use Rattle.std.specs.Prelude.{◌≤◌, length};
+ghost use Rattle.std.specs.Prelude.{◌≤◌, length, take};
+ghost use Rattle.std.specs.Io.KnownBytes.{Consumes};
 
 use std::io::Read;
 
 // One read. Where it fails, the input has ended.
 fn read_some<R: Read>(reader: &mut R, space: &mut [u8]) -> usize
-    ensures { result ≤ length space.new }
+    ensures within { result ≤ length space.new }
+    ensures bytes { Consumes (R.remaining reader.old) (R.remaining reader.new) (take result space.new) }
 {
     match reader.read(space) {
         Ok(got) => got,
@@ -15,9 +17,10 @@ fn read_some<R: Read>(reader: &mut R, space: &mut [u8]) -> usize
     }
 }
 
-// Reads until the space is full, the input ends or a read fails: how many bytes stand at the space's start.
+// Reads until the space is full, the input ends or a read fails: how many bytes stand at the space's start, which are those that the reader has given.
 pub fn read_full<R: Read>(reader: &mut R, space: &mut [u8]) -> usize
-    ensures { result ≤ length space.new }
+    ensures within { result ≤ length space.new }
+    ensures bytes { Consumes (R.remaining reader.old) (R.remaining reader.new) (take result space.new) }
 {
     let mut have = 0;
     while have < space.len() {
