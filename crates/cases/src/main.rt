@@ -2,6 +2,8 @@
 // asking and committing, windows, the humblest priority, writer against rival, and CPUs that are apart.
 #![tactic(auto)]
 
-fn main() {
-    replay::run();
+use std::io;
+
+fn main(rt: HostRuntime) -> io::Result<()> {
+    replay::run(&rt)
 }

@@ -1,5 +1,6 @@
 -- The words of an input, 64 bits each, lowest byte first. Assumes nothing.
-use Rattle.std.specs.Prelude.{ℕ, ◌+◌, ◌-◌, ◌*◌, ◌/◌, ◌^◌, min, List, length, get_or}
+use Rattle.std.specs.Prelude.{◌≡◌, ℕ, ◌+◌, ◌-◌, ◌*◌, ◌/◌, ◌%◌, ◌^◌, min, List, length, get_or, Option}
+use Rattle.std.specs.Io.KnownBytes.{Consumes}
 use Rattle.columns.specs.Common.{tabulate}
 use Rattle.decide.specs.declared.input.Head.{Head}
 use Rattle.machine.specs.Encode.{max_image_size}
@@ -28,3 +29,7 @@ image_words s n = tabulate n (λ (i : ℕ). word_at s (i + 4))
 -- how many of them are kept: one more than the longest image has
 abbrev pub kept : List ℕ → ℕ
 kept s = min (length s / 8 - 4) (max_image_size + 1)
+
+-- between old and new the reader gave bytes, and over is how many, modulo 8
+abbrev pub GivesOver : Option (List ℕ) → Option (List ℕ) → ℕ → Type 0
+GivesOver old new over = (bs : List ℕ) × Consumes old new bs × (over ≡ length bs % 8)

@@ -1,8 +1,8 @@
 // The words of an input, 64 bits each, lowest byte first.
 ghost use Rattle.std.specs.Prelude.{◌≡◌, ◌+◌, ◌*◌, ◌≤◌, length};
-ghost use Rattle.decide.specs.Input.{half_at, word_at, head_of, image_words, max_byte, max_half};
+ghost use Rattle.decide.specs.Input.{half_at, word_at, head_of, image_words, max_byte, max_half, GivesOver};
 
-use libc::STDIN_FILENO;
+use std::io::Read;
 
 #[derive(Clone, Copy)]
 pub struct Head {
@@ -68,18 +68,17 @@ pub fn load_image(s: &[u8], image: &mut [u64])
 }
 
 // Reads on to the end: how many bytes there were, modulo 8.
-pub fn read_on(space: &mut [u8]) -> usize
-    ensures { result ≤ 7 }
+pub fn read_on<R: Read>(reader: &mut R, space: &mut [u8]) -> usize
+    ensures below { result ≤ 7 }
+    ensures bytes { GivesOver (R.remaining reader.old) (R.remaining reader.new) result }
 {
     let mut over = 0;
-    let mut turns = u64::MAX;
-    while 0 < turns {
-        let got = io::read_full(STDIN_FILENO, space);
+    for _ in 0..u64::MAX {
+        let got = reading::read_full(reader, space);
         if got == 0 {
             return over;
         }
         over = (over + got % 8) % 8;
-        turns -= 1;
     }
     over
 }

@@ -9,34 +9,36 @@ ghost use Rattle.std.specs.Prelude.{◌+◌, ◌≤◌, length};
 ghost use Rattle.machine.specs.Encode.{max_image_size};
 
 use asked::Asked;
-use libc::{STDIN_FILENO, STDOUT_FILENO};
+use std::io;
 
-fn show(n: u64) {
-    io::write_all(STDOUT_FILENO, b" ");
-    io::print_decimal(STDOUT_FILENO, n);
+// How much of the input is kept: at least as many bytes as the longest image takes, with the words before it.
+const SPACE: usize = 65536;
+
+fn print(rt: &impl Print, line: Asked) -> io::Result<()> {
+    println!(rt;
+        "{} {} {} {} {}",
+        line.refusal, line.result, line.in_charge, line.current, line.v
+    )
 }
 
-fn print(line: Asked) {
-    io::print_decimal(STDOUT_FILENO, line.refusal);
-    show(line.result);
-    show(line.in_charge);
-    show(line.current);
-    show(line.v);
-    io::write_all(STDOUT_FILENO, b"\n");
-}
-
-fn run(bytes: &mut [u8], space: &mut [u8], image: &mut [u64])
+fn run(
+    rt: &(impl Input + Print),
+    bytes: &mut [u8],
+    space: &mut [u8],
+    image: &mut [u64],
+) -> io::Result<()>
     requires { max_image_size + 1 ≤ length image.old }
 {
-    let have = io::read_full(STDIN_FILENO, bytes);
-    let over = input::read_on(space);
+    let mut reader = rt.reader();
+    let have = reading::read_full(&mut reader, bytes);
+    let over = input::read_on(&mut reader, space);
     let line = output::of_input(&bytes[..have], over, image);
-    print(line);
+    print(rt, line)
 }
 
-fn main() {
-    let mut bytes = io::large_buffer();
-    let mut space = io::large_buffer();
+fn main(rt: HostRuntime) -> io::Result<()> {
+    let mut bytes = [0u8; SPACE];
+    let mut space = [0u8; SPACE];
     let mut image = [0u64; machine::MAX_IMAGE_SIZE + 1];
-    run(&mut bytes, &mut space, &mut image);
+    run(&rt, &mut bytes, &mut space, &mut image)
 }

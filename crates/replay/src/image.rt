@@ -3,8 +3,8 @@ use crate::text;
 use answer::Answer;
 use asked::Asked;
 use humblest::Humblest;
-use libc::STDOUT_FILENO;
 use rival::Game;
+use std::io;
 
 // As long as the longest image, and one word more: such an image is refused by its length.
 pub const LONGEST: usize = machine::MAX_IMAGE_SIZE + 1;
@@ -43,28 +43,25 @@ fn differ(m: &[u64], old: &[u64]) -> u64 {
     count
 }
 
-fn show(n: u64) {
-    io::write_all(STDOUT_FILENO, b" ");
-    io::print_decimal(STDOUT_FILENO, n);
+fn show(rt: &impl Print, n: u64) -> io::Result<()> {
+    print!(rt; " {n}")
 }
 
-fn show_changed(m: &[u64], old: &[u64]) {
+fn show_changed(rt: &impl Print, m: &[u64], old: &[u64]) -> io::Result<()> {
     let mut i = 0;
     while i < LONGEST {
         let value = get(m, i);
         if value != get(old, i) {
-            show(numbers::word(i));
-            show(value);
+            show(rt, numbers::word(i))?;
+            show(rt, value)?;
         }
         i += 1;
     }
+    Ok(())
 }
 
-fn show_answer(a: Answer) {
-    io::print_decimal(STDOUT_FILENO, a.refusal);
-    show(a.result);
-    show(a.interrupt);
-    show(a.rule);
+fn show_answer(rt: &impl Print, a: Answer) -> io::Result<()> {
+    print!(rt; "{} {} {} {}", a.refusal, a.result, a.interrupt, a.rule)
 }
 
 // The pairs of place and value, and where the text goes on.
@@ -82,44 +79,43 @@ pub fn words(s: &[u8], from: usize, k: u64, m: &mut [u64], old: &mut [u64]) -> u
     at
 }
 
-fn answer_and_words(a: Answer, m: &[u64], old: &[u64]) {
-    show_answer(a);
-    show(differ(m, old));
-    show_changed(m, old);
+fn answer_and_words(rt: &impl Print, a: Answer, m: &[u64], old: &[u64]) -> io::Result<()> {
+    show_answer(rt, a)?;
+    show(rt, differ(m, old))?;
+    show_changed(rt, m, old)
 }
 
-pub fn answer(a: Answer, m: &[u64], old: &[u64]) {
-    answer_and_words(a, m, old);
-    io::write_all(STDOUT_FILENO, b"\n");
+pub fn answer(rt: &impl Print, a: Answer, m: &[u64], old: &[u64]) -> io::Result<()> {
+    answer_and_words(rt, a, m, old)?;
+    println!(rt)
 }
 
 // The same, and what became of the window.
-pub fn answer_beside(a: Answer, m: &[u64], old: &[u64], w: &[u64], was: &[u64]) {
-    answer_and_words(a, m, old);
-    show(differ(w, was));
-    show_changed(w, was);
-    io::write_all(STDOUT_FILENO, b"\n");
+pub fn answer_beside(
+    rt: &impl Print,
+    a: Answer,
+    m: &[u64],
+    old: &[u64],
+    w: &[u64],
+    was: &[u64],
+) -> io::Result<()> {
+    answer_and_words(rt, a, m, old)?;
+    show(rt, differ(w, was))?;
+    show_changed(rt, w, was)?;
+    println!(rt)
 }
 
-pub fn asked(r: Asked) {
-    io::print_decimal(STDOUT_FILENO, r.refusal);
-    show(r.result);
-    show(r.in_charge);
-    show(r.current);
-    show(r.v);
-    io::write_all(STDOUT_FILENO, b"\n");
+pub fn asked(rt: &impl Print, r: Asked) -> io::Result<()> {
+    println!(rt;
+        "{} {} {} {} {}",
+        r.refusal, r.result, r.in_charge, r.current, r.v
+    )
 }
 
-pub fn found(r: Humblest) {
-    io::print_decimal(STDOUT_FILENO, r.refusal);
-    show(r.found);
-    show(r.priority);
-    io::write_all(STDOUT_FILENO, b"\n");
+pub fn found(rt: &impl Print, r: Humblest) -> io::Result<()> {
+    println!(rt; "{} {} {}", r.refusal, r.found, r.priority)
 }
 
-pub fn game(r: Game) {
-    io::print_decimal(STDOUT_FILENO, r.refusal);
-    show(r.forced);
-    show(r.choice);
-    io::write_all(STDOUT_FILENO, b"\n");
+pub fn game(rt: &impl Print, r: Game) -> io::Result<()> {
+    println!(rt; "{} {} {}", r.refusal, r.forced, r.choice)
 }

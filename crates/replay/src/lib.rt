@@ -19,7 +19,11 @@ mod listed;
 mod text;
 mod windows;
 
-use libc::STDIN_FILENO;
+use std::io;
+use std::io::Read;
+
+// As long a line and its end may be.
+const SPACE: usize = 65536;
 
 // How much of the text is at hand, and whether more may come.
 #[derive(Clone, Copy)]
@@ -46,46 +50,58 @@ fn shift(text: &mut [u8], from: usize, end: usize) {
 }
 
 // Reads on behind what is at hand, and replays the whole lines of it.
-fn take_turn(text: &mut [u8], have: usize, m: &mut [u64], old: &mut [u64]) -> Turn {
+fn take_turn<R: Read>(
+    rt: &impl Print,
+    reader: &mut R,
+    text: &mut [u8],
+    have: usize,
+    m: &mut [u64],
+    old: &mut [u64],
+) -> io::Result<Turn> {
     let len = text.len();
     if len < have {
-        return Turn { have, more: false };
+        return Ok(Turn { have, more: false });
     }
-    let got = io::read_full(STDIN_FILENO, &mut text[have..len]);
+    let got = reading::read_full(reader, &mut text[have..len]);
     let room = len - have;
     if room < got {
-        return Turn { have, more: false };
+        return Ok(Turn { have, more: false });
     }
     let total = have + got;
     let end = text::last_line(text, total);
     if end <= total {
-        listed::replay(&text[0..end], m, old);
+        listed::replay(rt, &text[0..end], m, old)?;
         shift(text, end, total);
-        return Turn {
+        return Ok(Turn {
             have: total - end,
             more: 0 < got,
-        };
+        });
     }
-    Turn { have, more: false }
+    Ok(Turn { have, more: false })
 }
 
-fn run_in(text: &mut [u8], m: &mut [u64], old: &mut [u64]) {
+fn run_in(
+    rt: &(impl Input + Print),
+    text: &mut [u8],
+    m: &mut [u64],
+    old: &mut [u64],
+) -> io::Result<()> {
+    let mut reader = rt.reader();
     let mut have = 0;
-    let mut turns = u64::MAX;
-    while 0 < turns {
-        let t = take_turn(text, have, m, old);
+    for _ in 0..u64::MAX {
+        let t = take_turn(rt, &mut reader, text, have, m, old)?;
         if !t.more {
-            return;
+            return Ok(());
         }
         have = t.have;
-        turns -= 1;
     }
+    Ok(())
 }
 
 // Replays the cases that standard input lists, each on a line of its own of at most 65,535 bytes.
-pub fn run() {
-    let mut text = io::large_buffer();
+pub fn run(rt: &(impl Input + Print)) -> io::Result<()> {
+    let mut text = [0u8; SPACE];
     let mut m = [0u64; image::LONGEST];
     let mut old = [0u64; image::LONGEST];
-    run_in(&mut text, &mut m, &mut old);
+    run_in(rt, &mut text, &mut m, &mut old)
 }

@@ -3,8 +3,8 @@ use crate::{image, text, windows};
 use answer::Answer;
 use asked::Asked;
 use humblest::Humblest;
-use libc::STDOUT_FILENO;
 use rival::Game;
+use std::io;
 
 #[derive(Clone, Copy)]
 struct Head {
@@ -175,170 +175,237 @@ fn compare_names(m: &[u64], h: Head) -> Answer {
 }
 
 // One case, and where the text goes on.
-fn case(s: &[u8], from: usize, m: &mut [u64], old: &mut [u64]) -> usize {
+fn case(
+    rt: &impl Print,
+    s: &[u8],
+    from: usize,
+    m: &mut [u64],
+    old: &mut [u64],
+) -> io::Result<usize> {
     let operation = text::next(s, from);
     let h = read_head(s, operation.end);
     let end = prepare(s, h, m, old);
     let a = play(m, operation.value, h);
-    image::answer(a, m, old);
-    end
+    image::answer(rt, a, m, old)?;
+    Ok(end)
 }
 
 // The same by the plain engine.
-fn plain_case(s: &[u8], from: usize, m: &mut [u64], old: &mut [u64]) -> usize {
+fn plain_case(
+    rt: &impl Print,
+    s: &[u8],
+    from: usize,
+    m: &mut [u64],
+    old: &mut [u64],
+) -> io::Result<usize> {
     let operation = text::next(s, from);
     let h = read_head(s, operation.end);
     let end = prepare(s, h, m, old);
     let a = play_plainly(m, operation.value, h);
-    image::answer(a, m, old);
-    end
+    image::answer(rt, a, m, old)?;
+    Ok(end)
 }
 
 // A case that wakes a group, from behind its g, and where the text goes on.
-fn group(s: &[u8], from: usize, m: &mut [u64], old: &mut [u64]) -> usize {
+fn group(
+    rt: &impl Print,
+    s: &[u8],
+    from: usize,
+    m: &mut [u64],
+    old: &mut [u64],
+) -> io::Result<usize> {
     let h = read_head(s, from);
     let end = prepare(s, h, m, old);
     let a = play_group(m, h);
-    image::answer(a, m, old);
-    end
+    image::answer(rt, a, m, old)?;
+    Ok(end)
 }
 
 // A case that adds up the weight of a CPU, from behind its w, and where the text goes on.
-fn total_weight(s: &[u8], from: usize, m: &mut [u64], old: &mut [u64]) -> usize {
+fn total_weight(
+    rt: &impl Print,
+    s: &[u8],
+    from: usize,
+    m: &mut [u64],
+    old: &mut [u64],
+) -> io::Result<usize> {
     let cpu = text::next(s, from);
     let h = read_sizes(s, cpu.end, cpu.value, 0, 0);
     let end = prepare(s, h, m, old);
     let a = add_up(m, h);
-    image::answer(a, m, old);
-    end
+    image::answer(rt, a, m, old)?;
+    Ok(end)
 }
 
 // A case that asks, from behind its a, and where the text goes on.
-fn question(s: &[u8], from: usize, m: &mut [u64], old: &mut [u64]) -> usize {
+fn question(
+    rt: &impl Print,
+    s: &[u8],
+    from: usize,
+    m: &mut [u64],
+    old: &mut [u64],
+) -> io::Result<usize> {
     let cpu = text::next(s, from);
     let time = text::next(s, cpu.end);
     let h = read_sizes(s, time.end, cpu.value, time.value, 0);
     let end = prepare(s, h, m, old);
-    image::asked(put_question(m, h));
-    end
+    image::asked(rt, put_question(m, h))?;
+    Ok(end)
 }
 
 // A case that commits, from behind its c, and where the text goes on.
-fn commit(s: &[u8], from: usize, m: &mut [u64], old: &mut [u64]) -> usize {
+fn commit(
+    rt: &impl Print,
+    s: &[u8],
+    from: usize,
+    m: &mut [u64],
+    old: &mut [u64],
+) -> io::Result<usize> {
     let cpu = text::next(s, from);
     let time = text::next(s, cpu.end);
     let given = read_reply(s, time.end);
     let h = read_sizes(s, given.end, cpu.value, time.value, 0);
     let end = prepare(s, h, m, old);
     let a = play_commit(m, h, given.reply);
-    image::answer(a, m, old);
-    end
+    image::answer(rt, a, m, old)?;
+    Ok(end)
 }
 
 // A case that looks for the humblest priority, from behind its h, and where the text goes on.
-fn priority(s: &[u8], from: usize, m: &mut [u64], old: &mut [u64]) -> usize {
+fn priority(
+    rt: &impl Print,
+    s: &[u8],
+    from: usize,
+    m: &mut [u64],
+    old: &mut [u64],
+) -> io::Result<usize> {
     let h = read_head(s, from);
     let end = prepare(s, h, m, old);
-    image::found(search(m, h));
-    end
+    image::found(rt, search(m, h))?;
+    Ok(end)
 }
 
 // A case of writer against rival, from behind its r, and where the text goes on.
-fn game(s: &[u8], from: usize, m: &mut [u64], old: &mut [u64]) -> usize {
+fn game(
+    rt: &impl Print,
+    s: &[u8],
+    from: usize,
+    m: &mut [u64],
+    old: &mut [u64],
+) -> io::Result<usize> {
     let cpu = text::next(s, from);
     let time = text::next(s, cpu.end);
     let g = read_match(s, time.end);
     let h = read_sizes(s, g.end, cpu.value, time.value, 0);
     let end = prepare(s, h, m, old);
-    image::game(play_game(m, h, g));
-    end
+    image::game(rt, play_game(m, h, g))?;
+    Ok(end)
 }
 
 // A case of two CPUs, from behind its o, and where the text goes on.
-fn apart(s: &[u8], from: usize, m: &mut [u64], old: &mut [u64]) -> usize {
+fn apart(
+    rt: &impl Print,
+    s: &[u8],
+    from: usize,
+    m: &mut [u64],
+    old: &mut [u64],
+) -> io::Result<usize> {
     let one = text::next(s, from);
     let other = text::next(s, one.end);
     let h = read_sizes(s, other.end, one.value, 0, other.value);
     let end = prepare(s, h, m, old);
     let a = compare_names(m, h);
-    image::answer(a, m, old);
-    end
+    image::answer(rt, a, m, old)?;
+    Ok(end)
 }
 
 // A line that is printed as it is, and where the text goes on.
-fn comment(s: &[u8], from: usize) -> usize {
+fn comment(rt: &impl Print, s: &[u8], from: usize) -> io::Result<usize> {
     let end = text::line_end(s, from);
     if from <= end {
         if end <= s.len() {
-            io::write_all(STDOUT_FILENO, &s[from..end]);
+            rt.write_all(&s[from..end])?;
         }
     }
-    io::write_all(STDOUT_FILENO, b"\n");
-    end
+    println!(rt)?;
+    Ok(end)
 }
 
-fn item_with_window(s: &[u8], from: usize, m: &mut [u64], old: &mut [u64]) -> usize {
+fn item_with_window(
+    rt: &impl Print,
+    s: &[u8],
+    from: usize,
+    m: &mut [u64],
+    old: &mut [u64],
+) -> io::Result<usize> {
     let called = text::after(s, from, b'd');
     if from < called {
-        return windows::call(s, called, m, old);
+        return windows::call(rt, s, called, m, old);
     }
     let shared = text::after(s, from, b's');
     if from < shared {
-        return windows::of_context(s, shared);
+        return windows::of_context(rt, s, shared);
     }
     let total = text::after(s, from, b't');
     if from < total {
-        return windows::of_all(s, total);
+        return windows::of_all(rt, s, total);
     }
-    case(s, from, m, old)
+    case(rt, s, from, m, old)
 }
 
-fn item(s: &[u8], from: usize, m: &mut [u64], old: &mut [u64]) -> usize {
+fn item(
+    rt: &impl Print,
+    s: &[u8],
+    from: usize,
+    m: &mut [u64],
+    old: &mut [u64],
+) -> io::Result<usize> {
     if text::is_comment(s, from) {
-        return comment(s, from);
+        return comment(rt, s, from);
     }
     let behind = text::after(s, from, b'g');
     if from < behind {
-        return group(s, behind, m, old);
+        return group(rt, s, behind, m, old);
     }
     let plain = text::after(s, from, b'p');
     if from < plain {
-        return plain_case(s, plain, m, old);
+        return plain_case(rt, s, plain, m, old);
     }
     let weighed = text::after(s, from, b'w');
     if from < weighed {
-        return total_weight(s, weighed, m, old);
+        return total_weight(rt, s, weighed, m, old);
     }
     let asked = text::after(s, from, b'a');
     if from < asked {
-        return question(s, asked, m, old);
+        return question(rt, s, asked, m, old);
     }
     let committed = text::after(s, from, b'c');
     if from < committed {
-        return commit(s, committed, m, old);
+        return commit(rt, s, committed, m, old);
     }
     let paired = text::after(s, from, b'o');
     if from < paired {
-        return apart(s, paired, m, old);
+        return apart(rt, s, paired, m, old);
     }
     let opposed = text::after(s, from, b'r');
     if from < opposed {
-        return game(s, opposed, m, old);
+        return game(rt, s, opposed, m, old);
     }
     let sought = text::after(s, from, b'h');
     if from < sought {
-        return priority(s, sought, m, old);
+        return priority(rt, s, sought, m, old);
     }
-    item_with_window(s, from, m, old)
+    item_with_window(rt, s, from, m, old)
 }
 
-pub fn replay(s: &[u8], m: &mut [u64], old: &mut [u64]) {
+pub fn replay(rt: &impl Print, s: &[u8], m: &mut [u64], old: &mut [u64]) -> io::Result<()> {
     let mut at = text::skip(s, 0);
     while at < s.len() {
-        let next = text::skip(s, item(s, at, m, old));
+        let next = text::skip(s, item(rt, s, at, m, old)?);
         if next <= at {
-            return;
+            return Ok(());
         }
         at = next;
     }
+    Ok(())
 }

@@ -1,6 +1,7 @@
 // The cases with a window: a call in it, and what is asked of it. Behind a call's numbers stands the window as an image does, then the image.
 use crate::{image, text};
 use answer::Answer;
+use std::io;
 use window::Whose;
 
 // One word more than a window: such a one is refused by its length.
@@ -67,26 +68,33 @@ fn play_on(m: &mut [u64], n: usize, w: &mut [u64], length: usize, h: Head) -> An
 }
 
 fn call_beside(
+    rt: &impl Print,
     s: &[u8],
     from: usize,
     m: &mut [u64],
     old: &mut [u64],
     w: &mut [u64],
     was: &mut [u64],
-) -> usize {
+) -> io::Result<usize> {
     let h = read_head(s, from);
     let window = read_words(s, h.end, w, was);
     let listed = read_words(s, window.end, m, old);
     let a = play_on(m, listed.length, w, window.length, h);
-    image::answer_beside(a, m, old, w, was);
-    listed.end
+    image::answer_beside(rt, a, m, old, w, was)?;
+    Ok(listed.end)
 }
 
 // A call in a window, from behind its d, and where the text goes on.
-pub fn call(s: &[u8], from: usize, m: &mut [u64], old: &mut [u64]) -> usize {
+pub fn call(
+    rt: &impl Print,
+    s: &[u8],
+    from: usize,
+    m: &mut [u64],
+    old: &mut [u64],
+) -> io::Result<usize> {
     let mut w = [0u64; LONGEST];
     let mut was = [0u64; LONGEST];
-    call_beside(s, from, m, old, &mut w, &mut was)
+    call_beside(rt, s, from, m, old, &mut w, &mut was)
 }
 
 fn share(w: &[u64], contexts: u64, whose: Whose) -> Answer {
@@ -104,29 +112,31 @@ fn share_of(w: &[u64], length: usize, contexts: u64, whose: Whose) -> Answer {
 }
 
 fn ask_beside(
+    rt: &impl Print,
     s: &[u8],
     from: usize,
     contexts: u64,
     whose: Whose,
     w: &mut [u64],
     was: &mut [u64],
-) -> usize {
+) -> io::Result<usize> {
     let window = read_words(s, from, w, was);
-    image::answer(share_of(w, window.length, contexts, whose), w, was);
-    window.end
+    image::answer(rt, share_of(w, window.length, contexts, whose), w, was)?;
+    Ok(window.end)
 }
 
-fn ask(s: &[u8], from: usize, contexts: u64, whose: Whose) -> usize {
+fn ask(rt: &impl Print, s: &[u8], from: usize, contexts: u64, whose: Whose) -> io::Result<usize> {
     let mut w = [0u64; LONGEST];
     let mut was = [0u64; LONGEST];
-    ask_beside(s, from, contexts, whose, &mut w, &mut was)
+    ask_beside(rt, s, from, contexts, whose, &mut w, &mut was)
 }
 
 // The time of a context, from behind its s, and where the text goes on.
-pub fn of_context(s: &[u8], from: usize) -> usize {
+pub fn of_context(rt: &impl Print, s: &[u8], from: usize) -> io::Result<usize> {
     let contexts = text::next(s, from);
     let context = text::next(s, contexts.end);
     ask(
+        rt,
         s,
         context.end,
         contexts.value,
@@ -135,7 +145,7 @@ pub fn of_context(s: &[u8], from: usize) -> usize {
 }
 
 // The time of all, from behind its t, and where the text goes on.
-pub fn of_all(s: &[u8], from: usize) -> usize {
+pub fn of_all(rt: &impl Print, s: &[u8], from: usize) -> io::Result<usize> {
     let contexts = text::next(s, from);
-    ask(s, contexts.end, contexts.value, Whose::All)
+    ask(rt, s, contexts.end, contexts.value, Whose::All)
 }
