@@ -40,10 +40,10 @@ rival_turn-returns-then-not-wins t c =
     let joined : c.match-n.wins ≡ forces_after c.args.p c.args.rounds c.args.time c.args.m.now c.args.p.rival (choice_of c.loop-i.i) =
     after_told c.args.p c.args.rounds c.args.time _ c.loop-i.i _ c.args.m.now c.choice_of-choice.result _ c.choice_of-choice.ensures c.nanos.ensures
     (elim c.match-n.branch [
-      rival_turn-in-Lost w ↦ lost c.args.p (c.args.rounds - 1) (c.args.time + c.nanos.result) _ _ _ c.round-n.ensures w.in-Lost.is ∙ sym w.wins-is
-    | rival_turn-in-Won w ↦ wins c.args.p (c.args.rounds - 1) (c.args.time + c.nanos.result) _ _ _ c.round-n.ensures w.in-Won.is ∙ sym w.wins-is
-    | rival_turn-in-WriterTurn w ↦ writer_told c.args.p (c.args.rounds - 1) (c.args.time + c.nanos.result) _ _ _ c.round-n.ensures w.in-WriterTurn.is _ _ (from_first (length c.args.m.now) c.round-n.new.copy) w.writer_turn.ensures ∙ sym w.wins-is
-    | rival_turn-in-RivalTurn w ↦ rival_told c.args.p (c.args.rounds - 1) (c.args.time + c.nanos.result) _ _ _ c.round-n.ensures w.in-RivalTurn.is _ _ (from_first (length c.args.m.now) c.round-n.new.copy) w.rival_turn-wins.ensures ∙ sym w.wins-is
+      | rival_turn-in-Lost w ↦ lost c.args.p (c.args.rounds - 1) (c.args.time + c.nanos.result) _ _ _ c.round-n.ensures w.in-Lost.is ∙ sym w.wins-is
+      | rival_turn-in-Won w ↦ wins c.args.p (c.args.rounds - 1) (c.args.time + c.nanos.result) _ _ _ c.round-n.ensures w.in-Won.is ∙ sym w.wins-is
+      | rival_turn-in-WriterTurn w ↦ writer_told c.args.p (c.args.rounds - 1) (c.args.time + c.nanos.result) _ _ _ c.round-n.ensures w.in-WriterTurn.is _ _ (from_first (length c.args.m.now) c.round-n.new.copy) w.writer_turn.ensures ∙ sym w.wins-is
+      | rival_turn-in-RivalTurn w ↦ rival_told c.args.p (c.args.rounds - 1) (c.args.time + c.nanos.result) _ _ _ c.round-n.ensures w.in-RivalTurn.is _ _ (from_first (length c.args.m.now) c.round-n.new.copy) w.rival_turn-wins.ensures ∙ sym w.wins-is
     ]) in
     not_of (forces_after c.args.p c.args.rounds c.args.time c.args.m.now c.args.p.rival) (eqb (in_charge c.args.p c.args.m.now) c.args.p.rival) _ _ c.choices-choices.ensures c.loop-i.invariant.0 c.loop-i-test.true (sym joined ∙ c.if-not-wins.true)
 
@@ -55,10 +55,10 @@ rival_turn-loop-i-preserved t c =
     let joined : c.match-n.wins ≡ forces_after c.args.p c.args.rounds c.args.time c.args.m.now c.args.p.rival (choice_of c.loop-i.i) =
     after_told c.args.p c.args.rounds c.args.time _ c.loop-i.i _ c.args.m.now c.choice_of-choice.result _ c.choice_of-choice.ensures c.nanos.ensures
     (elim c.match-n.branch [
-      rival_turn-in-Lost w ↦ lost c.args.p (c.args.rounds - 1) (c.args.time + c.nanos.result) _ _ _ c.round-n.ensures w.in-Lost.is ∙ sym w.wins-is
-    | rival_turn-in-Won w ↦ wins c.args.p (c.args.rounds - 1) (c.args.time + c.nanos.result) _ _ _ c.round-n.ensures w.in-Won.is ∙ sym w.wins-is
-    | rival_turn-in-WriterTurn w ↦ writer_told c.args.p (c.args.rounds - 1) (c.args.time + c.nanos.result) _ _ _ c.round-n.ensures w.in-WriterTurn.is _ _ (from_first (length c.args.m.now) c.round-n.new.copy) w.writer_turn.ensures ∙ sym w.wins-is
-    | rival_turn-in-RivalTurn w ↦ rival_told c.args.p (c.args.rounds - 1) (c.args.time + c.nanos.result) _ _ _ c.round-n.ensures w.in-RivalTurn.is _ _ (from_first (length c.args.m.now) c.round-n.new.copy) w.rival_turn-wins.ensures ∙ sym w.wins-is
+      | rival_turn-in-Lost w ↦ lost c.args.p (c.args.rounds - 1) (c.args.time + c.nanos.result) _ _ _ c.round-n.ensures w.in-Lost.is ∙ sym w.wins-is
+      | rival_turn-in-Won w ↦ wins c.args.p (c.args.rounds - 1) (c.args.time + c.nanos.result) _ _ _ c.round-n.ensures w.in-Won.is ∙ sym w.wins-is
+      | rival_turn-in-WriterTurn w ↦ writer_told c.args.p (c.args.rounds - 1) (c.args.time + c.nanos.result) _ _ _ c.round-n.ensures w.in-WriterTurn.is _ _ (from_first (length c.args.m.now) c.round-n.new.copy) w.writer_turn.ensures ∙ sym w.wins-is
+      | rival_turn-in-RivalTurn w ↦ rival_told c.args.p (c.args.rounds - 1) (c.args.time + c.nanos.result) _ _ _ c.round-n.ensures w.in-RivalTurn.is _ _ (from_first (length c.args.m.now) c.round-n.new.copy) w.rival_turn-wins.ensures ∙ sym w.wins-is
     ]) in
     (omega arith, search rules, omega arith, before_next (forces_after c.args.p c.args.rounds c.args.time c.args.m.now c.args.p.rival) _ _ _ c.loop-i.invariant.3 (sym joined ∙ c.if-not-wins.false) (omega arith))
 
@@ -70,10 +70,10 @@ writer_turn-returns-then-wins t c =
     let joined : c.match-n.wins ≡ forces_after c.args.p c.args.rounds c.args.time c.args.m.now c.args.p.writer (choice_of c.loop-i.i) =
     after_told c.args.p c.args.rounds c.args.time _ c.loop-i.i _ c.args.m.now c.choice_of-choice.result _ c.choice_of-choice.ensures c.nanos.ensures
     (elim c.match-n.branch [
-      writer_turn-in-Lost w ↦ lost c.args.p (c.args.rounds - 1) (c.args.time + c.nanos.result) _ _ _ c.round-n.ensures w.in-Lost.is ∙ sym w.wins-is
-    | writer_turn-in-Won w ↦ wins c.args.p (c.args.rounds - 1) (c.args.time + c.nanos.result) _ _ _ c.round-n.ensures w.in-Won.is ∙ sym w.wins-is
-    | writer_turn-in-WriterTurn w ↦ writer_told c.args.p (c.args.rounds - 1) (c.args.time + c.nanos.result) _ _ _ c.round-n.ensures w.in-WriterTurn.is _ _ (from_first (length c.args.m.now) c.round-n.new.copy) w.writer_turn.ensures ∙ sym w.wins-is
-    | writer_turn-in-RivalTurn w ↦ rival_told c.args.p (c.args.rounds - 1) (c.args.time + c.nanos.result) _ _ _ c.round-n.ensures w.in-RivalTurn.is _ _ (from_first (length c.args.m.now) c.round-n.new.copy) w.rival_turn-wins.ensures ∙ sym w.wins-is
+      | writer_turn-in-Lost w ↦ lost c.args.p (c.args.rounds - 1) (c.args.time + c.nanos.result) _ _ _ c.round-n.ensures w.in-Lost.is ∙ sym w.wins-is
+      | writer_turn-in-Won w ↦ wins c.args.p (c.args.rounds - 1) (c.args.time + c.nanos.result) _ _ _ c.round-n.ensures w.in-Won.is ∙ sym w.wins-is
+      | writer_turn-in-WriterTurn w ↦ writer_told c.args.p (c.args.rounds - 1) (c.args.time + c.nanos.result) _ _ _ c.round-n.ensures w.in-WriterTurn.is _ _ (from_first (length c.args.m.now) c.round-n.new.copy) w.writer_turn.ensures ∙ sym w.wins-is
+      | writer_turn-in-RivalTurn w ↦ rival_told c.args.p (c.args.rounds - 1) (c.args.time + c.nanos.result) _ _ _ c.round-n.ensures w.in-RivalTurn.is _ _ (from_first (length c.args.m.now) c.round-n.new.copy) w.rival_turn-wins.ensures ∙ sym w.wins-is
     ]) in
     sym (first_is (forces_after c.args.p c.args.rounds c.args.time c.args.m.now c.args.p.writer) _ c.loop-i.invariant.0 c.loop-i-test.true c.loop-i.invariant.3 (sym joined ∙ c.if-wins.true))
 
@@ -82,10 +82,10 @@ writer_turn-loop-i-preserved t c =
     let joined : c.match-n.wins ≡ forces_after c.args.p c.args.rounds c.args.time c.args.m.now c.args.p.writer (choice_of c.loop-i.i) =
     after_told c.args.p c.args.rounds c.args.time _ c.loop-i.i _ c.args.m.now c.choice_of-choice.result _ c.choice_of-choice.ensures c.nanos.ensures
     (elim c.match-n.branch [
-      writer_turn-in-Lost w ↦ lost c.args.p (c.args.rounds - 1) (c.args.time + c.nanos.result) _ _ _ c.round-n.ensures w.in-Lost.is ∙ sym w.wins-is
-    | writer_turn-in-Won w ↦ wins c.args.p (c.args.rounds - 1) (c.args.time + c.nanos.result) _ _ _ c.round-n.ensures w.in-Won.is ∙ sym w.wins-is
-    | writer_turn-in-WriterTurn w ↦ writer_told c.args.p (c.args.rounds - 1) (c.args.time + c.nanos.result) _ _ _ c.round-n.ensures w.in-WriterTurn.is _ _ (from_first (length c.args.m.now) c.round-n.new.copy) w.writer_turn.ensures ∙ sym w.wins-is
-    | writer_turn-in-RivalTurn w ↦ rival_told c.args.p (c.args.rounds - 1) (c.args.time + c.nanos.result) _ _ _ c.round-n.ensures w.in-RivalTurn.is _ _ (from_first (length c.args.m.now) c.round-n.new.copy) w.rival_turn-wins.ensures ∙ sym w.wins-is
+      | writer_turn-in-Lost w ↦ lost c.args.p (c.args.rounds - 1) (c.args.time + c.nanos.result) _ _ _ c.round-n.ensures w.in-Lost.is ∙ sym w.wins-is
+      | writer_turn-in-Won w ↦ wins c.args.p (c.args.rounds - 1) (c.args.time + c.nanos.result) _ _ _ c.round-n.ensures w.in-Won.is ∙ sym w.wins-is
+      | writer_turn-in-WriterTurn w ↦ writer_told c.args.p (c.args.rounds - 1) (c.args.time + c.nanos.result) _ _ _ c.round-n.ensures w.in-WriterTurn.is _ _ (from_first (length c.args.m.now) c.round-n.new.copy) w.writer_turn.ensures ∙ sym w.wins-is
+      | writer_turn-in-RivalTurn w ↦ rival_told c.args.p (c.args.rounds - 1) (c.args.time + c.nanos.result) _ _ _ c.round-n.ensures w.in-RivalTurn.is _ _ (from_first (length c.args.m.now) c.round-n.new.copy) w.rival_turn-wins.ensures ∙ sym w.wins-is
     ]) in
     (omega arith, search rules, omega arith, before_next (forces_after c.args.p c.args.rounds c.args.time c.args.m.now c.args.p.writer) _ _ _ c.loop-i.invariant.3 (sym joined ∙ c.if-wins.false) (omega arith))
 
