@@ -19,6 +19,8 @@ mod listed;
 mod text;
 mod windows;
 
+ghost use Rattle.std.specs.Prelude.{◌+◌, ◌≤◌, length};
+
 use std::io;
 use std::io::Read;
 
@@ -49,6 +51,39 @@ fn shift(text: &mut [u8], from: usize, end: usize) {
     }
 }
 
+// Replays the whole lines of what is at hand, and moves what is behind them to the front.
+fn take_lines(
+    rt: &impl Print,
+    text: &mut [u8],
+    have: usize,
+    more: bool,
+    m: &mut [u64],
+    old: &mut [u64],
+) -> io::Result<Turn> {
+    let end = text::last_line(text, have);
+    if end <= have {
+        if have <= text.len() {
+            listed::replay(rt, &text[..end], m, old)?;
+            shift(text, end, have);
+            return Ok(Turn {
+                have: have - end,
+                more,
+            });
+        }
+    }
+    Ok(Turn { have, more: false })
+}
+
+// Reads on behind what is at hand: how many bytes were read.
+fn read_behind<R: Read>(reader: &mut R, text: &mut [u8], have: usize) -> usize
+    ensures { have ≤ length text.old → have + result ≤ length text.old }
+{
+    if text.len() < have {
+        return 0;
+    }
+    reading::read_full(reader, &mut text[have..])
+}
+
 // Reads on behind what is at hand, and replays the whole lines of it.
 fn take_turn<R: Read>(
     rt: &impl Print,
@@ -58,26 +93,11 @@ fn take_turn<R: Read>(
     m: &mut [u64],
     old: &mut [u64],
 ) -> io::Result<Turn> {
-    let len = text.len();
-    if len < have {
+    if text.len() < have {
         return Ok(Turn { have, more: false });
     }
-    let got = reading::read_full(reader, &mut text[have..len]);
-    let room = len - have;
-    if room < got {
-        return Ok(Turn { have, more: false });
-    }
-    let total = have + got;
-    let end = text::last_line(text, total);
-    if end <= total {
-        listed::replay(rt, &text[0..end], m, old)?;
-        shift(text, end, total);
-        return Ok(Turn {
-            have: total - end,
-            more: 0 < got,
-        });
-    }
-    Ok(Turn { have, more: false })
+    let got = read_behind(reader, text, have);
+    take_lines(rt, text, have + got, 0 < got, m, old)
 }
 
 fn run_in(
