@@ -1,6 +1,5 @@
 -- What the program prints. Assumes nothing.
-use Rattle.std.specs.Prelude.{not, ℕ, ◌+◌, ◌%◌, List, ltb, eqb, length}
-use Rattle.columns.specs.Common.{if◌then◌else◌}
+use Rattle.std.specs.Prelude.{not, ℕ, ◌+◌, ◌%◌, List, ltb, eqb, length, if◌then◌else◌}
 use Rattle.image.specs.Refusal.{size_n}
 use Rattle.calls.specs.Call.{call}
 use Rattle.asked.specs.declared.Asked.{Asked}

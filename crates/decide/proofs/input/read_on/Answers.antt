@@ -1,5 +1,5 @@
 use Rattle.std.proofs.Common.{rules}
-use Rattle.decide.proofs.Given.{none_yet, some_more, nothing_more}
+use Rattle.decide.proofs.Given.{none_yet, some_more}
 use Rattle.decide.proofs.input.read_on.Goals as goal
 
 pub loop-init : goal.loop-init
