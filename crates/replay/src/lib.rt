@@ -14,7 +14,7 @@
 // as it is.
 #![tactic(auto)]
 
-mod image;
+mod images;
 mod listed;
 mod text;
 mod windows;
@@ -121,7 +121,7 @@ fn run_in(
 // Replays the cases that standard input lists, each on a line of its own of at most 65,535 bytes.
 pub fn run(rt: &(impl Input + Print)) -> io::Result<()> {
     let mut text = [0u8; SPACE];
-    let mut m = [0u64; image::LONGEST];
-    let mut old = [0u64; image::LONGEST];
+    let mut m = [0u64; images::LONGEST];
+    let mut old = [0u64; images::LONGEST];
     run_in(rt, &mut text, &mut m, &mut old)
 }

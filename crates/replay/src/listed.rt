@@ -1,5 +1,5 @@
 // The cases of a text, one after the other.
-use crate::{image, text, windows};
+use crate::{images, text, windows};
 use answer::Answer;
 use asked::Asked;
 use humblest::Humblest;
@@ -84,9 +84,9 @@ fn read_match(s: &[u8], from: usize) -> Match {
 }
 
 fn prepare(s: &[u8], h: Head, m: &mut [u64], old: &mut [u64]) -> usize {
-    image::clear(m);
-    image::clear(old);
-    image::words(s, h.end, h.words, m, old)
+    images::clear(m);
+    images::clear(old);
+    images::words(s, h.end, h.words, m, old)
 }
 
 fn play(m: &mut [u64], operation: u64, h: Head) -> Answer {
@@ -186,7 +186,7 @@ fn case(
     let h = read_head(s, operation.end);
     let end = prepare(s, h, m, old);
     let a = play(m, operation.value, h);
-    image::answer(rt, a, m, old)?;
+    images::answer(rt, a, m, old)?;
     Ok(end)
 }
 
@@ -202,7 +202,7 @@ fn plain_case(
     let h = read_head(s, operation.end);
     let end = prepare(s, h, m, old);
     let a = play_plainly(m, operation.value, h);
-    image::answer(rt, a, m, old)?;
+    images::answer(rt, a, m, old)?;
     Ok(end)
 }
 
@@ -217,7 +217,7 @@ fn group(
     let h = read_head(s, from);
     let end = prepare(s, h, m, old);
     let a = play_group(m, h);
-    image::answer(rt, a, m, old)?;
+    images::answer(rt, a, m, old)?;
     Ok(end)
 }
 
@@ -233,7 +233,7 @@ fn total_weight(
     let h = read_sizes(s, cpu.end, cpu.value, 0, 0);
     let end = prepare(s, h, m, old);
     let a = add_up(m, h);
-    image::answer(rt, a, m, old)?;
+    images::answer(rt, a, m, old)?;
     Ok(end)
 }
 
@@ -249,7 +249,7 @@ fn question(
     let time = text::next(s, cpu.end);
     let h = read_sizes(s, time.end, cpu.value, time.value, 0);
     let end = prepare(s, h, m, old);
-    image::asked(rt, put_question(m, h))?;
+    images::asked(rt, put_question(m, h))?;
     Ok(end)
 }
 
@@ -267,7 +267,7 @@ fn commit(
     let h = read_sizes(s, given.end, cpu.value, time.value, 0);
     let end = prepare(s, h, m, old);
     let a = play_commit(m, h, given.reply);
-    image::answer(rt, a, m, old)?;
+    images::answer(rt, a, m, old)?;
     Ok(end)
 }
 
@@ -281,7 +281,7 @@ fn priority(
 ) -> io::Result<usize> {
     let h = read_head(s, from);
     let end = prepare(s, h, m, old);
-    image::found(rt, search(m, h))?;
+    images::found(rt, search(m, h))?;
     Ok(end)
 }
 
@@ -298,7 +298,7 @@ fn game(
     let g = read_match(s, time.end);
     let h = read_sizes(s, g.end, cpu.value, time.value, 0);
     let end = prepare(s, h, m, old);
-    image::game(rt, play_game(m, h, g))?;
+    images::game(rt, play_game(m, h, g))?;
     Ok(end)
 }
 
@@ -315,7 +315,7 @@ fn apart(
     let h = read_sizes(s, other.end, one.value, 0, other.value);
     let end = prepare(s, h, m, old);
     let a = compare_names(m, h);
-    image::answer(rt, a, m, old)?;
+    images::answer(rt, a, m, old)?;
     Ok(end)
 }
 

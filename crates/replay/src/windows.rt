@@ -1,5 +1,5 @@
 // The cases with a window: a call in it, and what is asked of it. Behind a call's numbers stands the window as an image does, then the image.
-use crate::{image, text};
+use crate::{images, text};
 use answer::Answer;
 use std::io;
 use window::Whose;
@@ -41,11 +41,11 @@ struct Listed {
 fn read_words(s: &[u8], from: usize, m: &mut [u64], old: &mut [u64]) -> Listed {
     let length = text::next(s, from);
     let words = text::next(s, length.end);
-    image::clear(m);
-    image::clear(old);
+    images::clear(m);
+    images::clear(old);
     Listed {
         length: numbers::index(length.value),
-        end: image::words(s, words.end, words.value, m, old),
+        end: images::words(s, words.end, words.value, m, old),
     }
 }
 
@@ -80,7 +80,7 @@ fn call_beside(
     let window = read_words(s, h.end, w, was);
     let listed = read_words(s, window.end, m, old);
     let a = play_on(m, listed.length, w, window.length, h);
-    image::answer_beside(rt, a, m, old, w, was)?;
+    images::answer_beside(rt, a, m, old, w, was)?;
     Ok(listed.end)
 }
 
@@ -121,7 +121,7 @@ fn ask_beside(
     was: &mut [u64],
 ) -> io::Result<usize> {
     let window = read_words(s, from, w, was);
-    image::answer(rt, share_of(w, window.length, contexts, whose), w, was)?;
+    images::answer(rt, share_of(w, window.length, contexts, whose), w, was)?;
     Ok(window.end)
 }
 

@@ -1,7 +1,7 @@
 use lib.ListN.{length}
 use mathlib.Core.Path.{◌≡◌}
 use Prim.Native.Nat.{◌-◌, ◌≤◌}
-use Rattle.replay.proofs.image.clear.Given as goal
+use Rattle.replay.proofs.images.clear.Given as goal
 
 abbrev pub invariant-loop-i : goal.invariant-loop-i
 invariant-loop-i l = (l.i ≤ length l.initial.m) × (length l.m ≡ length l.initial.m)
