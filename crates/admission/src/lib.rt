@@ -7,9 +7,11 @@ ghost use Rattle.machine.specs.Encode.{encode};
 ghost use Rattle.machine.specs.Shape.{Image, Fits};
 ghost use Rattle.admission.specs.Refusals.{is_locked, is_late, decision_locked, decision_refusal, direct_refusal};
 ghost use Rattle.numbers.specs.Limits.{max_elapsed};
+ghost use Rattle.refusal.specs.Number.{refusal_of};
 
 use context::Context;
 use percpu::PercpuBlock;
+use refusal::Refusal;
 
 fn is_locked(p: PercpuBlock, current: Context, sched: Context, idle: Context) -> bool
     ensures { result ≡ is_locked p current sched idle }
@@ -63,42 +65,49 @@ fn decision_locked(m: &[u64], c: usize, n: usize, k: usize) -> bool
     is_locked(p, current, sched, idle)
 }
 
-pub fn decision_refusal(m: &[u64], c: usize, n: usize, k: usize, time: u64) -> u64
+pub fn check_decision(m: &[u64], c: usize, n: usize, k: usize, time: u64) -> Result<(), Refusal>
     requires image { Image c n m.now }
     requires k_lt_c { k < c }
-    ensures { (M : Machine) → m.now ≡ encode M → Fits c n M → result ≡ decision_refusal M k time }
+    ensures { (M : Machine) → m.now ≡ encode M → Fits c n M → refusal_of result ≡ decision_refusal M k time }
 {
     if decision_locked(m, c, n, k) {
-        return 6;
+        return Err(Refusal::Lock);
     }
     let p = stages::load_block(m, c, n, k);
     if is_late(time, p.schedule_time) {
-        return 8;
+        return Err(Refusal::Late);
     }
-    0
+    Ok(())
 }
 
-pub fn direct_refusal(m: &[u64], c: usize, n: usize, k: usize, time: u64, x: usize) -> u64
+pub fn check_direct(
+    m: &[u64],
+    c: usize,
+    n: usize,
+    k: usize,
+    time: u64,
+    x: usize,
+) -> Result<(), Refusal>
     requires image { Image c n m.now }
     requires k_lt_c { (k < c) × (x < n) }
-    ensures { (M : Machine) → m.now ≡ encode M → Fits c n M → result ≡ direct_refusal M k time x }
+    ensures { (M : Machine) → m.now ≡ encode M → Fits c n M → refusal_of result ≡ direct_refusal M k time x }
 {
     if decision_locked(m, c, n, k) {
-        return 6;
+        return Err(Refusal::Lock);
     }
     let q = machine::load(m, c, n, x);
     if q.lock != 0 {
-        return 6;
+        return Err(Refusal::Lock);
     }
     if q.addr_space == 2 {
-        return 6;
+        return Err(Refusal::Lock);
     }
     let p = stages::load_block(m, c, n, k);
     if leaves_idle(p, numbers::word(x)) {
-        return 7;
+        return Err(Refusal::Idle);
     }
     if is_late(time, p.schedule_time) {
-        return 8;
+        return Err(Refusal::Late);
     }
-    0
+    Ok(())
 }

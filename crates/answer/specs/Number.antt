@@ -1,4 +1,4 @@
--- The number of each result of a switch (document 01), and of each rule (document 02, No. 3). Assumes nothing.
+-- The number of each result of a switch, and of each rule. Assumes nothing.
 use Rattle.std.specs.Prelude.{ℕ}
 use Rattle.answer.specs.declared.SwitchResult.{SwitchResult}
 use Rattle.answer.specs.declared.SwitchResult.TheVariants.{Switched, AllContextsIdle}

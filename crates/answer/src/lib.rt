@@ -26,52 +26,43 @@ pub fn refused(number: u64) -> Answer
 }
 
 // what a switch comes to (context/switch.rs)
-#[derive(Clone, Copy)]
+#[derive(Clone, Copy, PartialEq, Eq)]
 pub enum SwitchResult {
-    Switched,
-    AllContextsIdle,
+    Switched = 1,
+    AllContextsIdle = 2,
 }
 
-pub fn result_number(r: SwitchResult) -> u64
-    ensures { result ≡ result_number r }
-{
-    match r {
-        SwitchResult::Switched => 1,
-        SwitchResult::AllContextsIdle => 2,
+impl From<SwitchResult> for u64 {
+    ghost from_gives = { λ r number. number ≡ result_number r };
+
+    fn from(r: SwitchResult) -> u64 {
+        r as u64
     }
 }
 
-// Who is left in charge by a decision, and why.
-#[derive(Clone, Copy)]
+// Who is left in charge by a decision, and why, with the rule's number.
+#[derive(Clone, Copy, PartialEq, Eq)]
 pub enum Rule {
     // the first eligible entry
-    FirstEligible,
+    FirstEligible = 1,
     // the holder, eligible: an earlier deadline than that entry's, or the same with more slice left
-    HolderDeadline,
-    HolderSlice,
+    HolderDeadline = 2,
+    HolderSlice = 3,
     // the holder, alone eligible
-    HolderAlone,
+    HolderAlone = 4,
     // nobody is eligible: the holder by its virtual time, the holder by its deadline, the entry of least virtual time
-    HolderVtime,
-    HolderLateDeadline,
-    EntryVtime,
+    HolderVtime = 5,
+    HolderLateDeadline = 6,
+    EntryVtime = 7,
     // nobody waits here
-    Stolen,
-    Idle,
+    Stolen = 8,
+    Idle = 9,
 }
 
-pub fn rule_number(r: Rule) -> u64
-    ensures { result ≡ rule_number r }
-{
-    match r {
-        Rule::FirstEligible => 1,
-        Rule::HolderDeadline => 2,
-        Rule::HolderSlice => 3,
-        Rule::HolderAlone => 4,
-        Rule::HolderVtime => 5,
-        Rule::HolderLateDeadline => 6,
-        Rule::EntryVtime => 7,
-        Rule::Stolen => 8,
-        Rule::Idle => 9,
+impl From<Rule> for u64 {
+    ghost from_gives = { λ rule number. number ≡ rule_number rule };
+
+    fn from(rule: Rule) -> u64 {
+        rule as u64
     }
 }

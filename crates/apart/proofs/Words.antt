@@ -1,11 +1,14 @@
 -- The words of a CPU's block name what the CPU names. Assumes nothing.
-use Rattle.std.specs.Prelude.{if◌then◌else◌}
+use Rattle.std.specs.Prelude.{if◌then◌else◌, None, Option, Some}
 use mathlib.Core.Path.{◌≡◌, refl, sym, ap, ◌∙◌, subst}
 use mathlib.Core.Bool.{Bool, true, false, not, ◌&&◌, ◌||◌}
 use mathlib.Core.List.{List, [], ◌∷◌, ◌++◌}
-use Prim.Native.Nat.{ℕ, zero, suc, ◌+◌, ◌-◌, ◌<◌}
+use Prim.Native.Nat.{ℕ, zero, suc, ◌+◌, ◌-◌, ◌<◌, ◌≤◌}
 use native.Mathlib.Omega.{arith}
+use Rattle.std.specs.List.{list_any}
 use lib.Dec.{eqb}
+use borrow.Author.Tests.{eq-eqb, ne_eqb, eqb-true, eqb-false}
+use Rattle.columns.proofs.Among.{none_among}
 use lib.ListN.{length, get_or, take, drop, length-map}
 use Rattle.columns.specs.Common.{every, mark}
 use Rattle.columns.proofs.Tests.{by_test}
@@ -19,8 +22,6 @@ use Rattle.percpu.specs.Layout.{counts, cpu_words, entry_at, timer_at, no_entry,
 use Rattle.percpu.specs.Places.{queue_count, timers_count, local_count, ipi_count, entry_context_ref_column, timer_context_ref_column, local_wakeup_list_column, ipi_context_wakeup_list_column, block_size}
 use Rattle.percpu.proofs.Read.{entry_is, timer_is, local_is, ipi_is}
 use Rattle.answer.specs.declared.Answer.{Answer}
-use Rattle.machine.specs.declared.CpuLookup.{CpuLookup}
-use Rattle.machine.specs.declared.CpuLookup.TheVariants.{Present, Absent}
 use Rattle.machine.specs.LookUp.{get_percpu_block}
 use Rattle.machine.specs.Machine.{Machine, cpu_at}
 use Rattle.machine.specs.Encode.{encode, cpu_place}
@@ -32,6 +33,13 @@ use Rattle.model_local.specs.Apart.{are_apart}
 use Rattle.apart.specs.Words.{has_seat, is_listed, is_named_in, Counted}
 use Rattle.apart.specs.Answer.{apart_answer}
 
+not_not : (b : Bool) → not (not b) ≡ b
+not_not true = refl
+not_not false = refl
+
+eqb_swap : (a b : ℕ) → eqb a b ≡ eqb b a
+eqb_swap a b = by_test (eqb a b) (λ t. let e = eqb-true a b t in t ∙ sym (eq-eqb b a (sym e))) (λ t. t ∙ sym (ne_eqb b a (λ e. eqb-false a b t (sym e))))
+
 -- x, as the loop has it, is named by both, or is not
 module _ (one other : List ℕ) (x w : ℕ) (e : w ≡ x) (b : Bool) (f : b ≡ (is_named_in one w && is_named_in other w)) where
   pub found : b ≡ true → not (is_named_in one x && is_named_in other x) ≡ false
@@ -39,6 +47,14 @@ module _ (one other : List ℕ) (x w : ℕ) (e : w ≡ x) (b : Bool) (f : b ≡ 
 
   pub not_found : b ≡ false → not (is_named_in one x && is_named_in other x) ≡ true
   not_found t = subst (λ (y : ℕ). not (is_named_in one y && is_named_in other y) ≡ true) e (ap not (sym f ∙ t))
+
+-- among n words of the block, as `contains` answers
+module _ (b : List ℕ) (start : ℕ) {n : ℕ} (count x : ℕ) where
+  pub listed_among : start + n ≤ length b → n ≡ count → {r : Bool} → r ≡ list_any (λ (y : ℕ). eqb y x) (take (start + n - start) (drop start b))
+      → r ≡ not (every (λ (i : ℕ). not (eqb x (get_or b (start + i) 0))) count)
+  listed_among h e {r} f =
+      f ∙ sym (not_not _)
+      ∙ ap not (none_among (λ (y : ℕ). eqb y x) b start n h ∙ (λ j. every (λ (i : ℕ). not (eqb_swap (get_or b (start + i) 0) x j)) (e j)))
 
 -- the words of a list
 abbrev absent : ℕ → (ℕ → ℕ) → ℕ → Bool
@@ -144,17 +160,17 @@ module _ {c n : ℕ} {m : List ℕ} where
       && (ap (λ (l : List ℕ). is_named_in l x) (lent_is m b w g M e o) ∙ named_is n (cpu_at M b) (o.cpu b g) x) j)) (sym o.contexts j))
 
 -- the answer, by the look-ups of the CPUs
-module _ (M : Machine) (one other : ℕ) (p : CpuLookup) (f : p ≡ get_percpu_block M one) where
-  pub absent_answer : (a : Answer) → p ≡ Absent → a ≡ record { refusal = 5; result = 0; interrupt = 0; rule = 0 } → a ≡ apart_answer M (get_percpu_block M one) (get_percpu_block M other)
+module _ (M : Machine) (one other : ℕ) (p : Option ℕ) (f : p ≡ get_percpu_block M one) where
+  pub absent_answer : (a : Answer) → p ≡ None → a ≡ record { refusal = 5; result = 0; interrupt = 0; rule = 0 } → a ≡ apart_answer M (get_percpu_block M one) (get_percpu_block M other)
   unfolding apart_answer
   absent_answer a e g = rw (sym f ∙ e) g
 
-  module _ (q : CpuLookup) (g : q ≡ get_percpu_block M other) (k : ℕ) (e : p ≡ Present k) where
-    pub other_absent : (a : Answer) → q ≡ Absent → a ≡ record { refusal = 5; result = 0; interrupt = 0; rule = 0 } → a ≡ apart_answer M (get_percpu_block M one) (get_percpu_block M other)
+  module _ (q : Option ℕ) (g : q ≡ get_percpu_block M other) (k : ℕ) (e : p ≡ Some k) where
+    pub other_absent : (a : Answer) → q ≡ None → a ≡ record { refusal = 5; result = 0; interrupt = 0; rule = 0 } → a ≡ apart_answer M (get_percpu_block M one) (get_percpu_block M other)
     unfolding apart_answer
     other_absent a d h = rw (sym f ∙ e, sym g ∙ d) h
 
-    pub both_present : (l : ℕ) (r : Bool) → q ≡ Present l → r ≡ are_apart M k l
+    pub both_present : (l : ℕ) (r : Bool) → q ≡ Some l → r ≡ are_apart M k l
         → record { refusal = 0; result = mark r; interrupt = 0; rule = 0 } ≡ apart_answer M (get_percpu_block M one) (get_percpu_block M other)
     unfolding apart_answer
     both_present l r d h = rw (sym f ∙ e, sym g ∙ d) (λ j. record { refusal = 0; result = mark (h j); interrupt = 0; rule = 0 })

@@ -2,7 +2,7 @@
 // A block is lent as its words; m is the image of a machine of c CPUs and n contexts.
 #![tactic(auto)]
 
-ghost use Rattle.std.specs.Prelude.{◌≡◌, not, ◌&&◌, ℕ, ◌<◌, ◌≤◌, length};
+ghost use Rattle.std.specs.Prelude.{◌≡◌, not, ◌&&◌, ℕ, ◌<◌, length};
 ghost use Rattle.columns.specs.Common.{every};
 ghost use Rattle.percpu.specs.Places.{block_size};
 ghost use Rattle.machine.specs.Machine.{Machine};
@@ -13,22 +13,17 @@ ghost use Rattle.model_local.specs.Apart.{are_apart};
 ghost use Rattle.apart.specs.Words.{has_seat, is_listed, is_named_in, Column, Counted};
 ghost use Rattle.apart.specs.Answer.{apart_answer};
 
-use answer::{Answer, refused};
-use machine::CpuLookup;
+use answer::Answer;
 use percpu::places;
+use refusal::{Refusal, refused};
 
 // Current, in charge or idle.
+#[tactic(auto, unfolding(crate::specs::Words::has_seat))]
 fn has_seat(b: &[u64], x: u64) -> bool
     requires { length b.now ≡ block_size }
     ensures { result ≡ has_seat b.now x }
 {
-    if x == b[places::CURRENT_CTXT] {
-        return true;
-    }
-    if x == b[places::SCHED_CTXT] {
-        return true;
-    }
-    x == b[places::IDLE_CTXT]
+    x == b[places::CURRENT_CTXT] || x == b[places::SCHED_CTXT] || x == b[places::IDLE_CTXT]
 }
 
 // Among the words from `start` on, of which there are as many as the word `counter` says.
@@ -37,34 +32,20 @@ fn is_listed(b: &[u64], counter: usize, start: usize, x: u64) -> bool
     ensures { result ≡ is_listed b.now counter start x }
 {
     let count = numbers::index(b[counter]);
-    let mut i = 0;
-    while i < count {
-        if x == b[start + i] {
-            return true;
-        }
-        i += 1;
-    }
-    false
+    b[start..start + count].contains(&x)
 }
 
 // In any role.
+#[tactic(auto, unfolding(crate::specs::Words::is_named_in))]
 fn is_named(b: &[u64], x: u64) -> bool
     requires { Counted b.now }
     ensures { result ≡ is_named_in b.now x }
 {
-    if has_seat(b, x) {
-        return true;
-    }
-    if is_listed(b, places::QUEUE_COUNT, places::ENTRY_CONTEXT_REF, x) {
-        return true;
-    }
-    if is_listed(b, places::TIMERS_COUNT, places::TIMER_CONTEXT_REF, x) {
-        return true;
-    }
-    if is_listed(b, places::LOCAL_COUNT, places::LOCAL_WAKEUP_LIST, x) {
-        return true;
-    }
-    is_listed(b, places::IPI_COUNT, places::IPI_CONTEXT_WAKEUP_LIST, x)
+    has_seat(b, x)
+        || is_listed(b, places::QUEUE_COUNT, places::ENTRY_CONTEXT_REF, x)
+        || is_listed(b, places::TIMERS_COUNT, places::TIMER_CONTEXT_REF, x)
+        || is_listed(b, places::LOCAL_COUNT, places::LOCAL_WAKEUP_LIST, x)
+        || is_listed(b, places::IPI_COUNT, places::IPI_CONTEXT_WAKEUP_LIST, x)
 }
 
 fn both_name(one: &[u64], other: &[u64], x: u64) -> bool
@@ -72,10 +53,7 @@ fn both_name(one: &[u64], other: &[u64], x: u64) -> bool
     requires counted_2 { Counted other.now }
     ensures { result ≡ (is_named_in one.now x && is_named_in other.now x) }
 {
-    if is_named(one, x) {
-        return is_named(other, x);
-    }
-    false
+    is_named(one, x) && is_named(other, x)
 }
 
 // Of two blocks, and the contexts below n.
@@ -84,12 +62,10 @@ fn blocks_apart(one: &[u64], other: &[u64], n: usize) -> bool
     requires counted_2 { Counted other.now }
     ensures { result ≡ every (λ (x : ℕ). not (is_named_in one.now x && is_named_in other.now x)) n }
 {
-    let mut x = 0;
-    while x < n {
+    for x in 0..n {
         if both_name(one, other, numbers::word(x)) {
             return false;
         }
-        x += 1;
     }
     true
 }
@@ -114,12 +90,12 @@ pub fn answer(m: &[u64], c: usize, n: usize, one: u64, other: u64) -> Answer
     ensures { (M : Machine) → m.now ≡ encode M → Fits c n M → result ≡ apart_answer M (get_percpu_block M one) (get_percpu_block M other) }
 {
     let p = machine::get_percpu_block(m, c, n, one);
-    let CpuLookup::Present(a) = p else {
-        return refused(5);
+    let Some(a) = p else {
+        return refused(Refusal::Name);
     };
     let q = machine::get_percpu_block(m, c, n, other);
-    let CpuLookup::Present(b) = q else {
-        return refused(5);
+    let Some(b) = q else {
+        return refused(Refusal::Name);
     };
     let apart = are_apart(m, c, n, a, b);
     Answer {

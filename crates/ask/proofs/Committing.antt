@@ -1,4 +1,5 @@
 -- A commit, from what the switch gave. Assumes nothing.
+use Rattle.std.specs.Prelude.{Err, Ok, Result}
 use mathlib.Core.Path.{◌≡◌, sym, ap, ◌∙◌}
 use Prim.Native.Nat.{ℕ}
 use mathlib.Core.List.{List}
@@ -13,8 +14,6 @@ use Rattle.model.specs.Accepted.{by_switch}
 use Rattle.answer.specs.declared.Answer.{Answer}
 use Rattle.context_ops.specs.Reply.{Reply, reply, refuse}
 use Rattle.switch_ops.specs.Reply.{decide, Attempts}
-use Rattle.calls.specs.declared.Checked.{Checked}
-use Rattle.calls.specs.declared.Checked.TheVariants.{Refused, Passed}
 use Rattle.calls.specs.Call.{check, checked_by, switch_call}
 use Rattle.calls.proofs.Called.{is_passed, is_refused, call_refused, call_machine}
 use Rattle.asked.specs.declared.Asked.{Asked}
@@ -55,8 +54,8 @@ module _ {a : Answer} {m' : List ℕ} {y : Reply} {M' : Machine} (m : List ℕ) 
       in rw (← number_is, z) (t.replies w).replies
 
 -- w: what the code's check gave
-module _ (m : List ℕ) (time : ℕ) (w : Checked) (e : w ≡ check m time) (cpu : ℕ) (given : Asked) where
-  pub commit_refused : {a : Answer} (r : ℕ) → w ≡ Refused r → a ≡ record { refusal = r; result = 0; interrupt = 0; rule = 0 } → reply a m ≡ commit m cpu time given
+module _ (m : List ℕ) (time : ℕ) (w : Result (ℕ × ℕ) ℕ) (e : w ≡ check m time) (cpu : ℕ) (given : Asked) where
+  pub commit_refused : {a : Answer} (r : ℕ) → w ≡ Err r → a ≡ record { refusal = r; result = 0; interrupt = 0; rule = 0 } → reply a m ≡ commit m cpu time given
   commit_refused {a} r g h =
       let s : reply a m ≡ switch_call m cpu time = call_refused m time w e r (λ (M : Machine). decide m M cpu time by_switch) g h
       in let f : a.refusal ≡ 0 → ⊥ = λ z. is_refused m time r (sym g ∙ e) (sym (ap (λ (b : Answer). b.refusal) h) ∙ z)
@@ -64,7 +63,7 @@ module _ (m : List ℕ) (time : ℕ) (w : Checked) (e : w ≡ check m time) (cpu
       ∙ sym (commit_own m (size_n m) cpu given (reply a m) f)
       ∙ ap (commit_by m (size_n m) cpu given) s
 
-  pub commit_passed : {a : Answer} {m' : List ℕ} (c n : ℕ) → w ≡ Passed c n
+  pub commit_passed : {a : Answer} {m' : List ℕ} (c n : ℕ) → w ≡ Ok (c, n)
       → ((M : Machine) → m ≡ encode M → Fits c n M → reply a m' ≡ commit_by m n cpu given (decide m M cpu time by_switch)) → reply a m' ≡ commit m cpu time given
   unfolding checked_by
   commit_passed {a} {m'} c n g h =

@@ -1,5 +1,5 @@
 -- A switch of any words that is refused: it keeps every word, and its number is at most 9. Assumes nothing.
-use Rattle.std.specs.Prelude.{if◌then◌else◌}
+use Rattle.std.specs.Prelude.{if◌then◌else◌, None, Option, Some, Err, Ok, Result}
 use mathlib.Core.Path.{◌≡◌, refl, sym}
 use mathlib.Core.Bool.{Bool, true, false, not}
 use Prim.Native.Nat.{ℕ, ◌≤◌}
@@ -8,8 +8,6 @@ use mathlib.Core.List.{List}
 use lib.Dec.{ltb, eqb}
 use lib.ListN.{length}
 use Rattle.columns.proofs.Tests.{by_test}
-use Rattle.machine.specs.declared.CpuLookup.{CpuLookup}
-use Rattle.machine.specs.declared.CpuLookup.TheVariants.{Present, Absent}
 use Rattle.machine.specs.Machine.{Machine, cpu_at}
 use Rattle.machine.specs.Encode.{decode, cpu_place}
 use Rattle.machine.specs.LookUp.{get_percpu_block}
@@ -20,8 +18,6 @@ use Rattle.model.specs.Accepted.{by_switch, outcome}
 use Rattle.admission.specs.Refusals.{decision_locked, is_late, decision_refusal}
 use Rattle.context_ops.specs.Reply.{Reply, refuse, replied}
 use Rattle.switch_ops.specs.Reply.{refusal, decide_on, decide_by, decide}
-use Rattle.calls.specs.declared.Checked.{Checked}
-use Rattle.calls.specs.declared.Checked.TheVariants.{Refused, Passed}
 use Rattle.calls.specs.Call.{check, checked_by, switch_call}
 
 -- y keeps every word of m, and all else in its answer is 0, if it is refused
@@ -37,15 +33,15 @@ unfolding decide_on
 on_keeps m M k time =
     by_test (eqb (refusal by_switch M k time) 0) (λ t. rw t (replied_keeps m (outcome by_switch k time M))) (λ t. rw t (λ n. refl))
 
-by_keeps : (m : List ℕ) (M : Machine) (time : ℕ) (p : CpuLookup) → Keeps m (decide_by m M time by_switch p)
+by_keeps : (m : List ℕ) (M : Machine) (time : ℕ) (p : Option ℕ) → Keeps m (decide_by m M time by_switch p)
 unfolding decide_by
-by_keeps m M time Absent = λ n. refl
-by_keeps m M time (Present k) = on_keeps m M k time
+by_keeps m M time None = λ n. refl
+by_keeps m M time (Some k) = on_keeps m M k time
 
-checked_keeps : (m : List ℕ) (cpu time : ℕ) (w : Checked) → Keeps m (checked_by m (λ (M : Machine). decide m M cpu time by_switch) w)
+checked_keeps : (m : List ℕ) (cpu time : ℕ) (w : Result (ℕ × ℕ) ℕ) → Keeps m (checked_by m (λ (M : Machine). decide m M cpu time by_switch) w)
 unfolding checked_by
-checked_keeps m cpu time (Refused r) = λ n. refl
-checked_keeps m cpu time (Passed c n) = by_keeps m (decode m) time (get_percpu_block (decode m) cpu)
+checked_keeps m cpu time (Err r) = λ n. refl
+checked_keeps m cpu time (Ok (c, n)) = by_keeps m (decode m) time (get_percpu_block (decode m) cpu)
 
 pub switch_keeps : (m : List ℕ) (cpu time : ℕ) → Keeps m (switch_call m cpu time)
 switch_keeps m cpu time = checked_keeps m cpu time (check m time)
@@ -82,25 +78,25 @@ unfolding decide_on
 on_most m M k time =
     by_test (eqb (refusal by_switch M k time) 0) (λ t. rw t (replied_most m (outcome by_switch k time M))) (λ t. rw t (decision_most M k time))
 
-by_most : (m : List ℕ) (M : Machine) (time : ℕ) (p : CpuLookup) → Most (decide_by m M time by_switch p)
+by_most : (m : List ℕ) (M : Machine) (time : ℕ) (p : Option ℕ) → Most (decide_by m M time by_switch p)
 unfolding decide_by
-by_most m M time Absent = omega arith
-by_most m M time (Present k) = on_most m M k time
+by_most m M time None = omega arith
+by_most m M time (Some k) = on_most m M k time
 
-refused_is : (m : List ℕ) (time r : ℕ) → Refused r ≡ check m time → r ≡ image_refusal time m
+refused_is : (m : List ℕ) (time r : ℕ) → Err r ≡ check m time → r ≡ image_refusal time m
 unfolding check
 refused_is m time r e = by_test (eqb (image_refusal time m) 0) (λ t. passed (rw t at e)) (λ t. told (rw t at e))
   where
-    passed : Refused r ≡ Passed (size_c m) (size_n m) → r ≡ image_refusal time m
+    passed : ◌≡◌ {A = Result (ℕ × ℕ) ℕ} (Err r) (Ok (size_c m, size_n m)) → r ≡ image_refusal time m
     passed q = let w : ◌≡◌ {A = ℕ} 0 1 = cc in absurd (omega arith)
 
-    told : Refused r ≡ Refused (image_refusal time m) → r ≡ image_refusal time m
+    told : ◌≡◌ {A = Result (ℕ × ℕ) ℕ} (Err r) (Err (image_refusal time m)) → r ≡ image_refusal time m
     told q = cc
 
-checked_most : (m : List ℕ) (cpu time : ℕ) (w : Checked) → w ≡ check m time → Most (checked_by m (λ (M : Machine). decide m M cpu time by_switch) w)
+checked_most : (m : List ℕ) (cpu time : ℕ) (w : Result (ℕ × ℕ) ℕ) → w ≡ check m time → Most (checked_by m (λ (M : Machine). decide m M cpu time by_switch) w)
 unfolding checked_by
-checked_most m cpu time (Refused r) e = omega (arith, image_most m time, refused_is m time r e)
-checked_most m cpu time (Passed c n) e = by_most m (decode m) time (get_percpu_block (decode m) cpu)
+checked_most m cpu time (Err r) e = omega (arith, image_most m time, refused_is m time r e)
+checked_most m cpu time (Ok (c, n)) e = by_most m (decode m) time (get_percpu_block (decode m) cpu)
 
 pub switch_most : (m : List ℕ) (cpu time : ℕ) → (switch_call m cpu time).answer.refusal ≤ 9
 switch_most m cpu time = checked_most m cpu time (check m time) refl

@@ -14,7 +14,7 @@ ghost use Rattle.ask.specs.Ask.{ask, commit_by, commit};
 
 use answer::Answer;
 use asked::Asked;
-use calls::Checked;
+use refusal::refused;
 
 // What a switch at that time would give.
 pub fn ask(image: &[u64], cpu: u64, time: u64) -> Asked
@@ -50,7 +50,7 @@ pub fn commit(image: &mut [u64], cpu: u64, time: u64, given: Asked) -> Answer
 {
     let checked = calls::check(image, time);
     match checked {
-        Checked::Refused(number) => answer::refused(number),
-        Checked::Passed(c, n) => commit_on(image, c, n, cpu, time, given),
+        Err(refusal) => refused(refusal),
+        Ok((c, n)) => commit_on(image, c, n, cpu, time, given),
     }
 }

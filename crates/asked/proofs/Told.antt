@@ -1,5 +1,5 @@
 -- The five numbers of a reply, from what the code read; and two of them compared. Assumes nothing.
-use mathlib.Core.Path.{◌≡◌, refl, sym, ◌∙◌}
+use mathlib.Core.Path.{◌≡◌, refl, sym}
 use mathlib.Core.Bool.{true, false}
 use Prim.Native.Nat.{ℕ, ◌+◌}
 use native.Mathlib.Omega.{arith}
@@ -35,32 +35,6 @@ told_refusal n cpu y =
 
 -- two replies, number by number
 module _ (a b : Asked) where
-  pub refusal_differs : (a.refusal ≡ b.refusal → ⊥) → false ≡ same a b
-  unfolding same
-  refusal_differs n = rw (ne_eqb a.refusal b.refusal n)
-
-  module _ (e : a.refusal ≡ b.refusal) where
-    pub result_differs : (a.result ≡ b.result → ⊥) → false ≡ same a b
-    unfolding same
-    result_differs n = rw (eq-eqb a.refusal b.refusal e, ne_eqb a.result b.result n)
-
-    module _ (f : a.result ≡ b.result) where
-      pub in_charge_differs : (a.in_charge ≡ b.in_charge → ⊥) → false ≡ same a b
-      unfolding same
-      in_charge_differs n =
-          rw (eq-eqb a.refusal b.refusal e, eq-eqb a.result b.result f, ne_eqb a.in_charge b.in_charge n)
-
-      module _ (g : a.in_charge ≡ b.in_charge) where
-        pub current_differs : (a.current ≡ b.current → ⊥) → false ≡ same a b
-        unfolding same
-        current_differs n =
-            rw (eq-eqb a.refusal b.refusal e, eq-eqb a.result b.result f, eq-eqb a.in_charge b.in_charge g, ne_eqb a.current b.current n)
-
-        pub v_differs : a.current ≡ b.current → eqb a.v b.v ≡ same a b
-        unfolding same
-        v_differs h =
-            rw (eq-eqb a.refusal b.refusal e, eq-eqb a.result b.result f, eq-eqb a.in_charge b.in_charge g, eq-eqb a.current b.current h)
-
   pub same_is : same a b ≡ true → a ≡ b
   unfolding same
   same_is e =
@@ -76,7 +50,9 @@ module _ (a b : Asked) where
       in λ i. record { refusal = r i; result = u i; in_charge = w i; current = x i; v = y i }
 
 pub same_self : (a : Asked) → same a a ≡ true
-same_self a = sym (v_differs a a refl refl refl refl) ∙ eq-eqb a.v a.v refl
+unfolding same
+same_self a =
+    rw (eq-eqb a.refusal a.refusal refl, eq-eqb a.result a.result refl, eq-eqb a.in_charge a.in_charge refl, eq-eqb a.current a.current refl, eq-eqb a.v a.v refl)
 
 -- now: what the switch gives
 module _ (given now : Asked) where

@@ -10,7 +10,7 @@ use percpu::places;
 
 // 0 or the number of its refusal, the result, and the CPU's context in charge, current context and V
 #[repr(C)]
-#[derive(Clone, Copy)]
+#[derive(Clone, Copy, PartialEq)]
 pub struct Asked {
     pub refusal: u64,
     pub result: u64,
@@ -68,22 +68,11 @@ pub fn contexts(image: &[u64]) -> usize
 }
 
 // Whether two replies are the same in all five numbers.
+#[tactic(auto, unfolding(crate::specs::OfReply::same))]
 fn same(a: Asked, b: Asked) -> bool
     ensures { result ≡ same a b }
 {
-    if a.refusal != b.refusal {
-        return false;
-    }
-    if a.result != b.result {
-        return false;
-    }
-    if a.in_charge != b.in_charge {
-        return false;
-    }
-    if a.current != b.current {
-        return false;
-    }
-    a.v == b.v
+    a == b
 }
 
 // The switch's own refusal comes first; 13 is checked last.

@@ -1,5 +1,5 @@
 -- The sizes of a board, test by test. Assumes nothing.
-use mathlib.Core.Path.{◌≡◌, refl, sym, ◌∙◌}
+use mathlib.Core.Path.{◌≡◌, refl}
 use mathlib.Core.Bool.{true, false}
 use Prim.Native.Nat.{ℕ, ◌<◌, ◌≤◌}
 use native.Mathlib.Omega.{arith}
@@ -8,41 +8,43 @@ use lib.ListN.{length}
 use lib.Dec.{leb, ltb, eqb}
 use Rattle.columns.proofs.Tests.{by_test, and_both}
 use borrow.Author.Tests.{leb-true, ltb-true, eqb-true, lt-ltb, le-ltb, le-leb, lt-leb, eq-eqb, ne_eqb}
+use Rattle.std.specs.Prelude.{Result, Ok, Err}
 use Rattle.board.specs.declared.Sizes.{Sizes}
-use Rattle.board.specs.declared.Sizes.TheVariants.{Right, Wrong}
-use Rattle.board.specs.Board.{Board, header_size, max_capacity, capacity, stored, handed_out, board_size, is_sized, sizes_of}
+use Rattle.board.specs.declared.Refusal.{Refusal}
+use Rattle.board.specs.declared.Refusal.TheVariants.{WrongSizes, LongRow, EarlyStart, FullBoard}
+use Rattle.board.specs.Board.{Board, header_size, max_capacity, capacity, stored, handed_out, board_size, is_sized, sizes_of, refusal_number}
 
 module _ (b : List ℕ) where
-  pub too_short : length b < header_size → Wrong ≡ sizes_of b
+  pub too_short : length b < header_size → Err WrongSizes ≡ sizes_of b
   unfolding sizes_of is_sized
   too_short h = rw (lt-leb header_size (length b) h)
 
   module _ (k : ℕ) (e : k ≡ capacity b) (h : header_size ≤ length b) where
-    pub none_held : k < 1 → Wrong ≡ sizes_of b
+    pub none_held : k < 1 → Err WrongSizes ≡ sizes_of b
     unfolding sizes_of is_sized
     none_held z = rw (le-leb header_size (length b) h, ← e, le-ltb 0 k (omega arith))
 
     module _ (z : 1 ≤ k) where
-      pub too_many : max_capacity < k → Wrong ≡ sizes_of b
+      pub too_many : max_capacity < k → Err WrongSizes ≡ sizes_of b
       unfolding sizes_of is_sized
       too_many g = rw (le-leb header_size (length b) h, ← e, lt-ltb 0 k (omega arith), lt-leb k max_capacity g)
 
       module _ (g : k ≤ max_capacity) where
-        pub other_length : (s : ℕ) → s ≡ board_size k → (length b ≡ s → ⊥) → Wrong ≡ sizes_of b
+        pub other_length : (s : ℕ) → s ≡ board_size k → (length b ≡ s → ⊥) → Err WrongSizes ≡ sizes_of b
         unfolding sizes_of is_sized
         other_length s q n = rw (le-leb header_size (length b) h, ← e, lt-ltb 0 k (omega arith), le-leb k max_capacity g, ← q, ne_eqb (length b) s n)
 
         module _ (n s : ℕ) (f : n ≡ stored b) (q : s ≡ board_size k) (l : length b ≡ s) where
-          pub over_full : k < n → Wrong ≡ sizes_of b
+          pub over_full : k < n → Err WrongSizes ≡ sizes_of b
           unfolding sizes_of is_sized
           over_full o = rw (le-leb header_size (length b) h, ← e, lt-ltb 0 k (omega arith), le-leb k max_capacity g, ← q, eq-eqb (length b) s l, ← f, lt-leb n k o)
 
           module _ (o : n ≤ k) (y : ℕ) (d : y ≡ handed_out b) where
-            pub over_handed : n < y → Wrong ≡ sizes_of b
+            pub over_handed : n < y → Err WrongSizes ≡ sizes_of b
             unfolding sizes_of is_sized
             over_handed u = rw (le-leb header_size (length b) h, ← e, lt-ltb 0 k (omega arith), le-leb k max_capacity g, ← q, eq-eqb (length b) s l, ← f, le-leb n k o, ← d, lt-leb y n u)
 
-            pub all_right : y ≤ n → Right k n y ≡ sizes_of b
+            pub all_right : y ≤ n → Ok (record { capacity = k; stored = n; handed_out = y }) ≡ sizes_of b
             unfolding sizes_of is_sized
             all_right u = rw (le-leb header_size (length b) h, ← e, lt-ltb 0 k (omega arith), le-leb k max_capacity g, ← q, eq-eqb (length b) s l, ← f, le-leb n k o, ← d, le-leb y n u)
 
@@ -76,23 +78,33 @@ sized_is b e =
       handed = leb-true (handed_out b) (stored b) p.1;
     }
 
-module _ (b : List ℕ) (s : Sizes) (e : s ≡ sizes_of b) where
-  pub wrong_is : s ≡ Wrong → is_sized b ≡ false
+-- what the code found the sizes to be
+module _ (b : List ℕ) where
+  abbrev found : Sizes
+  found = record { capacity = capacity b; stored = stored b; handed_out = handed_out b }
+
+  pub wrong_is : (r : Refusal) → Err r ≡ sizes_of b → (is_sized b ≡ false) × (r ≡ WrongSizes)
   unfolding sizes_of
-  wrong_is g = by_test (is_sized b) (λ t. absurd (no (rw t at (sym g ∙ e)))) (λ t. t)
+  wrong_is r e = by_test (is_sized b) (λ t. absurd (no (rw t at e))) (λ t. (t, yes (rw t at e)))
     where
-      no : Wrong ≡ Right (capacity b) (stored b) (handed_out b) → ⊥
+      no : ◌≡◌ {A = Result Sizes Refusal} (Err r) (Ok found) → ⊥
       no q = let w : ◌≡◌ {A = ℕ} 0 1 = cc in omega arith
 
-  pub right_is : (k n h : ℕ) → s ≡ Right k n h → IsRight b k n h
+      yes : ◌≡◌ {A = Result Sizes Refusal} (Err r) (Err WrongSizes) → r ≡ WrongSizes
+      yes q = cc
+
+  pub right_is : (s : Sizes) → Ok s ≡ sizes_of b → IsRight b s.capacity s.stored s.handed_out
   unfolding sizes_of
-  right_is k n h g = by_test (is_sized b) (λ t. yes t (rw t at (sym g ∙ e))) (λ t. absurd (no (rw t at (sym g ∙ e))))
+  right_is s e = by_test (is_sized b) (λ t. yes t (rw t at e)) (λ t. absurd (no (rw t at e)))
     where
-      no : Right k n h ≡ Wrong → ⊥
+      no : ◌≡◌ {A = Result Sizes Refusal} (Ok s) (Err WrongSizes) → ⊥
       no q = let w : ◌≡◌ {A = ℕ} 0 1 = cc in omega arith
 
-      yes : is_sized b ≡ true → Right k n h ≡ Right (capacity b) (stored b) (handed_out b) → IsRight b k n h
-      yes t q =
-          let u : k ≡ capacity b = cc in
-          let v : n ≡ stored b = cc in
-          let w : h ≡ handed_out b = cc in rw (u, v, w) (sized_is b t)
+      yes : is_sized b ≡ true → ◌≡◌ {A = Result Sizes Refusal} (Ok s) (Ok found) → IsRight b s.capacity s.stored s.handed_out
+      yes t q = let w : s ≡ found = cc in rw w (sized_is b t)
+
+pub refused_number : (r : Refusal) → refusal_number r ≡ 0 → ⊥
+refused_number WrongSizes e = omega (arith, e)
+refused_number LongRow e = omega (arith, e)
+refused_number EarlyStart e = omega (arith, e)
+refused_number FullBoard e = omega (arith, e)

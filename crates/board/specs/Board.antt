@@ -1,10 +1,11 @@
 -- A cue board: its bytes, its sizes and its cues. Assumes nothing.
-use Rattle.std.specs.Prelude.{Bool, ◌&&◌, ◌≡◌, ℕ, ◌+◌, ◌-◌, ◌*◌, ◌≤◌, List, ◌++◌, ltb, leb, eqb, length, get_or, replicate, if◌then◌else◌}
+use Rattle.std.specs.Prelude.{Result, Ok, Err, Bool, ◌&&◌, ◌≡◌, ℕ, ◌+◌, ◌-◌, ◌*◌, ◌≤◌, List, ◌++◌, ltb, leb, eqb, length, get_or, replicate, if◌then◌else◌}
 use Rattle.columns.specs.Common.{tabulate}
 use Rattle.columns.specs.Blocks.{part, splice}
 use Rattle.le_bytes.specs.LeBytes.{from_le_bytes, to_le_bytes}
 use Rattle.board.specs.declared.Sizes.{Sizes}
-use Rattle.board.specs.declared.Sizes.TheVariants.{Right, Wrong}
+use Rattle.board.specs.declared.Refusal.{Refusal}
+use Rattle.board.specs.declared.Refusal.TheVariants.{WrongSizes, LongRow, EarlyStart, FullBoard}
 
 abbrev pub max_capacity : ℕ
 max_capacity = 512
@@ -55,8 +56,26 @@ is_sized b =
     leb header_size (length b) && ltb 0 (capacity b) && leb (capacity b) max_capacity && eqb (length b) (board_size (capacity b))
     && leb (stored b) (capacity b) && leb (handed_out b) (stored b)
 
-unfoldable pub sizes_of : List ℕ → Sizes
-sizes_of b = if is_sized b then Right (capacity b) (stored b) (handed_out b) else Wrong
+unfoldable pub sizes_of : List ℕ → Result Sizes Refusal
+sizes_of b =
+    if is_sized b then Ok (record { capacity = capacity b; stored = stored b; handed_out = handed_out b }) else Err WrongSizes
+
+-- the number that a caller is told
+abbrev pub refusal_number : Refusal → ℕ
+refusal_number WrongSizes = 1
+refusal_number LongRow = 10
+refusal_number EarlyStart = 11
+refusal_number FullBoard = 12
+
+-- 0, or the number
+abbrev pub refusal_of : {A : Type 0} → Result A Refusal → ℕ
+refusal_of (Ok x) = 0
+refusal_of (Err r) = refusal_number r
+
+-- what was found, or the number
+abbrev pub numbered : {A : Type 0} → Result A Refusal → Result A ℕ
+numbered (Ok x) = Ok x
+numbered (Err r) = Err (refusal_number r)
 
 -- the bytes of a board of k cues
 pub record Board (k : ℕ) (b : List ℕ) : Type 0 where

@@ -1,16 +1,41 @@
 // A cue board of lent bytes: its sizes and the numbers of its cues.
-#![tactic(auto)]
+#![tactic(auto, unfolding(crate::specs::Board::cue_at))]
 
 pub mod places;
 
 ghost use Rattle.std.specs.Prelude.{◌≡◌, ◌+◌, ◌<◌, ◌≤◌, length};
-ghost use Rattle.board.specs.Board.{Board, number_at, put_number, sizes_of, cue_at};
+ghost use Rattle.std.specs.Prelude.{get_or};
+ghost use Rattle.board.specs.Board.{Board, number_at, put_number, length_place, refusal_number, sizes_of, cue_at};
 
-// The capacity, how many cues are stored, and how many of these are handed out.
+// How many cues the board holds, how many are stored, and how many of these are handed out.
 #[derive(Clone, Copy)]
-pub enum Sizes {
-    Wrong,
-    Right(usize, usize, usize),
+pub struct Sizes {
+    pub capacity: usize,
+    pub stored: usize,
+    pub handed_out: usize,
+}
+
+// Why a board, or a cue that is offered to it, is refused.
+#[derive(Clone, Copy)]
+pub enum Refusal {
+    WrongSizes,
+    LongRow,
+    EarlyStart,
+    FullBoard,
+}
+
+// The number that the C interface gives it.
+impl From<Refusal> for u64 {
+    ghost from_gives = { λ r n. n ≡ refusal_number r };
+
+    fn from(r: Refusal) -> u64 {
+        match r {
+            Refusal::WrongSizes => 1,
+            Refusal::LongRow => 10,
+            Refusal::EarlyStart => 11,
+            Refusal::FullBoard => 12,
+        }
+    }
 }
 
 pub fn number(b: &[u8], at: usize) -> u64
@@ -30,37 +55,45 @@ pub fn put_number(b: &mut [u8], at: usize, x: u64)
 }
 
 // The capacity is tested before the length that it gives is worked out.
-pub fn sizes_of(b: &[u8]) -> Sizes
+pub fn sizes_of(b: &[u8]) -> Result<Sizes, Refusal>
     ensures { result ≡ sizes_of b.now }
 {
     if b.len() < places::HEADER_SIZE {
-        return Sizes::Wrong;
+        return Err(Refusal::WrongSizes);
     }
     let k = numbers::index(number(b, places::CAPACITY));
     if k < 1 {
-        return Sizes::Wrong;
+        return Err(Refusal::WrongSizes);
     }
     if places::MAX_CAPACITY < k {
-        return Sizes::Wrong;
+        return Err(Refusal::WrongSizes);
     }
     if b.len() != places::board_size(k) {
-        return Sizes::Wrong;
+        return Err(Refusal::WrongSizes);
     }
     let n = numbers::index(number(b, places::STORED));
     if k < n {
-        return Sizes::Wrong;
+        return Err(Refusal::WrongSizes);
     }
     let h = numbers::index(number(b, places::HANDED_OUT));
     if n < h {
-        return Sizes::Wrong;
+        return Err(Refusal::WrongSizes);
     }
-    Sizes::Right(k, n, h)
+    Ok(Sizes {
+        capacity: k,
+        stored: n,
+        handed_out: h,
+    })
 }
 
-fn wide(x: u8) -> u64
-    ensures { result ≡ x }
+// The bytes and k stay two parameters here and above: a struct of them would be needed twice, to read and to write.
+// How many bytes of row r, 0 or 1, of cue i came in.
+fn length_at(b: &[u8], k: usize, i: usize, r: usize) -> u64
+    requires board { Board k b.now }
+    requires i_lt_k { (i < k) × (r ≤ 1) }
+    ensures { result ≡ get_or b.now (length_place k i r) 0 }
 {
-    x as u64
+    u64::from(b[places::length_place(k, i, r)])
 }
 
 pub fn start_at(b: &[u8], k: usize, i: usize) -> u64
@@ -84,8 +117,7 @@ pub fn first_length_at(b: &[u8], k: usize, i: usize) -> u64
     requires i_lt_k { i < k }
     ensures { result ≡ (cue_at k b.now i).first_length }
 {
-    let at = places::length_place(k, i, 0);
-    wide(b[at])
+    length_at(b, k, i, 0)
 }
 
 pub fn second_length_at(b: &[u8], k: usize, i: usize) -> u64
@@ -93,6 +125,5 @@ pub fn second_length_at(b: &[u8], k: usize, i: usize) -> u64
     requires i_lt_k { i < k }
     ensures { result ≡ (cue_at k b.now i).second_length }
 {
-    let at = places::length_place(k, i, 1);
-    wide(b[at])
+    length_at(b, k, i, 1)
 }

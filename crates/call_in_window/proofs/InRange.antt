@@ -1,5 +1,5 @@
 -- The record of an accepted decision is in its range: the context below N, the time at most 2^52 - 1. Assumes nothing.
-use Rattle.std.specs.Prelude.{if◌then◌else◌}
+use Rattle.std.specs.Prelude.{if◌then◌else◌, None, Option, Some, Err, Ok, Result}
 use mathlib.Core.Path.{◌≡◌, refl, sym, ap, subst}
 use mathlib.Core.Bool.{Bool, true, false}
 use mathlib.Core.List.{List}
@@ -12,10 +12,6 @@ use Rattle.columns.proofs.Tests.{by_test}
 use Rattle.cpu_stats.specs.Words.{stats_words}
 use Rattle.percpu.specs.Words.{block_words}
 use Rattle.percpu.specs.Layout.{cpu_words}
-use Rattle.machine.specs.declared.Lookup.{Lookup}
-use Rattle.machine.specs.declared.Lookup.TheVariants.{Live, Gone}
-use Rattle.machine.specs.declared.CpuLookup.{CpuLookup}
-use Rattle.machine.specs.declared.CpuLookup.TheVariants.{Present, Absent}
 use Rattle.machine.specs.Machine.{Machine, cpu_at}
 use Rattle.machine.specs.Encode.{decode, cpu_place}
 use Rattle.machine.specs.Shape.{Fits}
@@ -26,16 +22,12 @@ use Rattle.image.specs.Refusal.{size_c, size_n}
 use Rattle.image.proofs.Admitted.{passed, decoded, decoded_fits}
 use Rattle.model.specs.Turn.{elapsed}
 use Rattle.model.specs.Accepted.{Call, by_tick, by_switch, by_direct_switch}
-use Rattle.context_ops.specs.declared.named.Named.{Named}
-use Rattle.context_ops.specs.declared.named.Named.TheVariants.{Refused as NotNamed, Found}
 use Rattle.context_ops.specs.Named.{named}
 use Rattle.context_ops.specs.Operations.{drain_ipi_context_wakeups, block_with, block, hard_block}
 use Rattle.context_ops.specs.Reply.{Reply, replied, reply_to, reply_on}
 use Rattle.group_ops.proofs.Unblocking.{unblock_rule}
 use Rattle.switch_ops.specs.Reply.{refusal, decide_on, decide_by, direct_switch_by}
 use Rattle.switch_ops.proofs.Answered.{in_time}
-use Rattle.calls.specs.declared.Checked.{Checked}
-use Rattle.calls.specs.declared.Checked.TheVariants.{Refused, Passed}
 use Rattle.calls.specs.Call.{check, checked_by, call}
 use Rattle.calls.proofs.Accepts.{Accepts, accepts}
 use Rattle.operations.specs.Operation.{operation_reply}
@@ -60,28 +52,28 @@ module _ (m : List ℕ) (M : Machine) (cpu time : ℕ) where
   unfolding replied
   quiet o e = by_test o.no_room (λ t. rw t (λ z d. absurd (d refl))) (λ t. rw t (λ z d. absurd (d e)))
 
-  decided : (c : Call) (l : CpuLookup) → l ≡ get_percpu_block M cpu → Timely (decide_by m M time c l)
+  decided : (c : Call) (l : Option ℕ) → l ≡ get_percpu_block M cpu → Timely (decide_by m M time c l)
   unfolding decide_by decide_on
-  decided c Absent h = λ z d. absurd (d refl)
-  decided c (Present k) h =
+  decided c None h = λ z d. absurd (d refl)
+  decided c (Some k) h =
       by_test (eqb (refusal c M k time) 0)
       (λ t z d. subst (λ (j : ℕ). elapsed time (cpu_at M j) ≤ max_elapsed) (present M cpu k h).is (in_time c M k time (refusal c M k time) refl (eqb-true (refusal c M k time) 0 t)))
       (λ t. rw t (λ z d. absurd (d refl)))
 
-  directed : (l : Lookup) → Timely (direct_switch_by m M cpu time l)
+  directed : (l : Option ℕ) → Timely (direct_switch_by m M cpu time l)
   unfolding direct_switch_by
-  directed Gone = λ z d. absurd (d refl)
-  directed (Live x) = decided (by_direct_switch x) (get_percpu_block M cpu) refl
+  directed None = λ z d. absurd (d refl)
+  directed (Some x) = decided (by_direct_switch x) (get_percpu_block M cpu) refl
 
-  to : (f : ℕ → ℕ → Outcome) → ((k x : ℕ) → (f k x).rule ≡ 0) → (w : Named) → Timely (reply_to m f w)
+  to : (f : ℕ → ℕ → Outcome) → ((k x : ℕ) → (f k x).rule ≡ 0) → (w : Result (ℕ × ℕ) ℕ) → Timely (reply_to m f w)
   unfolding reply_to
-  to f g (NotNamed r) = λ z d. absurd (d refl)
-  to f g (Found k x) = quiet (f k x) (g k x)
+  to f g (Err r) = λ z d. absurd (d refl)
+  to f g (Ok (k, x)) = quiet (f k x) (g k x)
 
-  on : (f : ℕ → Outcome) → ((k : ℕ) → (f k).rule ≡ 0) → (l : CpuLookup) → Timely (reply_on m f l)
+  on : (f : ℕ → Outcome) → ((k : ℕ) → (f k).rule ≡ 0) → (l : Option ℕ) → Timely (reply_on m f l)
   unfolding reply_on
-  on f g Absent = λ z d. absurd (d refl)
-  on f g (Present k) = quiet (f k) (g k)
+  on f g None = λ z d. absurd (d refl)
+  on f g (Some k) = quiet (f k) (g k)
 
   drain_rule : (k : ℕ) → (drain_ipi_context_wakeups k M).rule ≡ 0
   unfolding drain_ipi_context_wakeups
@@ -107,10 +99,10 @@ module _ (m : List ℕ) (M : Machine) (cpu time : ℕ) where
       (one_of (eqb operation 7) _ _ (to _ (λ k x. hard_block_rule x) (named M cpu context)) (λ z d. absurd (d refl))))))))
 
 module _ (m : List ℕ) (operation cpu time context : ℕ) where
-  checked_timely : (w : Checked) → Timely m (decode m) cpu time (checked_by m (λ (M : Machine). operation_reply m M operation cpu time context) w)
+  checked_timely : (w : Result (ℕ × ℕ) ℕ) → Timely m (decode m) cpu time (checked_by m (λ (M : Machine). operation_reply m M operation cpu time context) w)
   unfolding checked_by
-  checked_timely (Refused r) = λ z d. absurd (d refl)
-  checked_timely (Passed c n) = operation_timely m (decode m) cpu time operation context
+  checked_timely (Err r) = λ z d. absurd (d refl)
+  checked_timely (Ok (c, n)) = operation_timely m (decode m) cpu time operation context
 
   timely : Timely m (decode m) cpu time (call m operation cpu time context)
   timely = subst (Timely m (decode m) cpu time) (sym (call_is m operation cpu time context)) (checked_timely (check m time))

@@ -7,9 +7,11 @@ ghost use Rattle.context_ops.specs.Reply.{reply};
 ghost use Rattle.asked.specs.OfReply.{BlockInside};
 ghost use Rattle.calls.specs.Call.{call};
 ghost use Rattle.call_in_window.specs.CallInWindow.{turn_at, window_reply, own_first, call_in_window};
+ghost use Rattle.refusal.specs.Number.{refusal_number};
 
 use answer::Answer;
 use percpu::places;
+use refusal::{Refusal, refused};
 use window::Record;
 
 fn none() -> Record {
@@ -35,7 +37,7 @@ fn turn(image: &[u64], n: usize, cpu: u64, time: u64) -> Record
     }
     Record {
         context: image[at + places::SCHED_CTXT],
-        time: numbers::saturating_sub(time, image[at + places::SCHEDULE_TIME]),
+        time: time.saturating_sub(image[at + places::SCHEDULE_TIME]),
     }
 }
 
@@ -49,16 +51,16 @@ fn shorter(len: usize) -> usize
     len
 }
 
-// The window is refused by the number. What the call itself is refused for comes first; accepted, its words are put back.
+// The window is refused. What the call itself is refused for comes first; accepted, its words are put back.
 fn refuse(
     image: &mut [u64],
     operation: u64,
     cpu: u64,
     time: u64,
     context: u64,
-    number: u64,
+    refusal: Refusal,
 ) -> Answer
-    ensures { reply result image.new ≡ own_first image.old number (call image.old operation cpu time context) }
+    ensures { reply result image.new ≡ own_first image.old (refusal_number refusal) (call image.old operation cpu time context) }
 {
     let mut kept = [0u64; machine::MAX_IMAGE_SIZE];
     let len = shorter(image.len());
@@ -68,7 +70,7 @@ fn refuse(
         return a;
     }
     words::copy(&kept, image, len);
-    answer::refused(number)
+    refused(refusal)
 }
 
 // The window is that of the call's CPU, which nothing in it says.
@@ -83,9 +85,8 @@ pub fn call(
     ensures { window_reply result image.new window.new ≡ call_in_window image.old window.old operation cpu time context }
 {
     let n = asked::contexts(image);
-    let number = window::refusal(window, numbers::word(n));
-    if number != 0 {
-        return refuse(image, operation, cpu, time, context, number);
+    if let Err(refusal) = window::check(window, numbers::word(n)) {
+        return refuse(image, operation, cpu, time, context, refusal);
     }
     let holder = turn(image, n, cpu, time);
     let a = operations::call(image, operation, cpu, time, context);

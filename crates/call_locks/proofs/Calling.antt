@@ -1,10 +1,9 @@
 -- Operations 1 to 3 with other words where they do not look: contexts outside the set, and other CPUs' queue locks. Assumes nothing.
-use Rattle.std.specs.Prelude.{if◌then◌else◌}
+use Rattle.std.specs.Prelude.{if◌then◌else◌, None, Option, Some}
 use mathlib.Core.Path.{◌≡◌, refl, sym, ap, ◌∙◌}
 use mathlib.Core.Logic.{◌⊎◌, inl, inr}
 use mathlib.Core.Bool.{Bool, true, false}
 use mathlib.Core.List.{List}
-use mathlib.Core.Option.{Option, none, some}
 use Prim.Native.Nat.{ℕ, ◌%◌}
 use native.Mathlib.Omega.{arith}
 use lib.Dec.{eqb, ltb}
@@ -41,13 +40,13 @@ use Rattle.call_locks.proofs.Stealing.{QueuedWithin}
 use Rattle.call_locks.proofs.Deciding.{inner_moves}
 
 -- a counter that allows no stealing without a winner allows none
-steals_none : (s : State) (w : Option ℕ) → should_steal s none ≡ false → should_steal s w ≡ false
-steals_none s none h = h
-steals_none s (some x) h =
+steals_none : (s : State) (w : Option ℕ) → should_steal s None ≡ false → should_steal s w ≡ false
+steals_none s None h = h
+steals_none s (Some x) h =
     let n = s.cpu.block.steal_counter in
     by_test (is_idle s) (λ t. rw t (ne_eqb (n % 16) 0 (λ e. eqb-false (n % 2) 0 (rw t at h) (omega (arith, e))))) (λ t. rw t (rw t at h))
 
-no_turn : (k time : ℕ) (s : State) → should_steal s none ≡ false → finds_stealing_turn k time s ≡ false
+no_turn : (k time : ℕ) (s : State) → should_steal s None ≡ false → finds_stealing_turn k time s ≡ false
 no_turn k time s h = let b = before_choice time s in turn_is k time s ∙ steals_none s (choice b (scanned k time b)).winner h
 
 -- contexts outside of S as in ds, queue locks of CPUs outside of Q as in l
@@ -60,7 +59,7 @@ module _ (S Q : ℕ → Bool) (l : Locks) (ds : List Context) where
 
 -- either the counter allows no stealing, or what is queued anywhere is of the set and every CPU is of Q
 abbrev pub Stealable : (S Q : ℕ → Bool) (n k : ℕ) → Machine → Type 0
-Stealable S Q n k M = (should_steal (state_of k M) none ≡ false) ⊎ (((j : ℕ) → Q j ≡ true) × All (QueuedWithin S n) M.cpus)
+Stealable S Q n k M = (should_steal (state_of k M) None ≡ false) ⊎ (((j : ℕ) → Q j ≡ true) × All (QueuedWithin S n) M.cpus)
 
 -- the context that a direct switch is to
 abbrev pub Target : (ℕ → Bool) → Call → Type 0
@@ -97,12 +96,12 @@ module _ (S Q : ℕ → Bool) (l : Locks) (ds : List Context) (k time : ℕ) (M 
       λ j. record { machine = record { contexts = with_others S ds u.contexts; cpus = cpus_set l Q cpus k u.cpu here j }; result = r; interrupt = false; rule = rule; no_room = u.no_room }
 
   -- u: a state whose counter allows what that of s does
-  inner : (u : State) → should_steal u none ≡ should_steal s none → Owns S n u → switch_inner k time (P M.cpus) (G u) ≡ R (switch_inner k time M.cpus u)
+  inner : (u : State) → should_steal u None ≡ should_steal s None → Owns S n u → switch_inner k time (P M.cpus) (G u) ≡ R (switch_inner k time M.cpus u)
   inner u c o = by v
     where
       by : Stealable S Q n k M → switch_inner k time (P M.cpus) (G u) ≡ R (switch_inner k time M.cpus u)
       by (inl h) =
-          let g : should_steal u none ≡ false = c ∙ h in
+          let g : should_steal u None ≡ false = c ∙ h in
           let e = ended k time u in
           ended_is k time (P M.cpus) (G u) (λ z. no_turn k time (G u) g)
           ∙ ap (finish_ended k (P M.cpus)) (ended_moves S n ds k time u o)
@@ -122,8 +121,8 @@ module _ (S Q : ℕ → Bool) (l : Locks) (ds : List Context) (k time : ℕ) (M 
 
   or_moves : (o : Option State) → direct_switch_or k time (P M.cpus) (G s) (G_option S n ds o) ≡ R (direct_switch_or k time M.cpus s o)
   unfolding direct_switch_or
-  or_moves none = inner s refl owns
-  or_moves (some u) = finish_moves 0 (result_number Switched) M.cpus u
+  or_moves None = inner s refl owns
+  or_moves (Some u) = finish_moves 0 (result_number Switched) M.cpus u
 
   pub outcome_moves : (c : Call) → Target S c → outcome c k time (elsewhere S Q l ds M) ≡ R (outcome c k time M)
   unfolding tick switch direct_switch_to

@@ -1,15 +1,15 @@
 -- A switch, on a stealing turn or not, stays with the contexts that its CPU names and those that are queued on any CPU. Assumes nothing.
+use Rattle.std.specs.Prelude.{None, Option, Some, is_some}
 use mathlib.Core.Path.{◌≡◌, refl, sym, ap, ◌∙◌}
 use mathlib.Core.Bool.{Bool}
 use mathlib.Core.List.{List}
-use mathlib.Core.Option.{Option, none, some}
 use Prim.Native.Nat.{ℕ}
 use Rattle.columns.specs.Common.{All}
 use Rattle.answer.specs.declared.Rule.{Rule}
 use Rattle.context.specs.declared.Context.{Context}
 use Rattle.percpu.specs.Cpu.{Cpu}
 use Rattle.machine.specs.Outcome.{Outcome}
-use Rattle.model.specs.State.{State, is_some, prev_runnable}
+use Rattle.model.specs.State.{State, prev_runnable}
 use Rattle.model.specs.Turn.{spent, was_idle, before_choice}
 use Rattle.model.specs.Choice.{choice, chosen}
 use Rattle.model.specs.Rule.{rule_of}
@@ -98,8 +98,8 @@ module _ (S : ℕ → Bool) (n : ℕ) (ds : List Context) (k time : ℕ) where
 
     by_moves : (s : State) → Owns S n s → (w : Option State) → switch_inner_by k time cpus (G s) (G_option S n ds w) ≡ outcome_others (switch_inner_by k time cpus s w)
     unfolding switch_inner_by
-    by_moves s o none = decision_moves s o
-    by_moves s o (some s') = refl
+    by_moves s o None = decision_moves s o
+    by_moves s o (Some s') = refl
 
     pub inner_moves : (s : State) → Owns S n s → switch_inner k time cpus (G s) ≡ outcome_others (switch_inner k time cpus s)
     unfolding switch_inner

@@ -1,10 +1,10 @@
 -- The machines on which other words change the answer, by computing.
+use Rattle.std.specs.Prelude.{Err, Ok, Result}
 use mathlib.Core.Path.{◌≡◌, refl}
 use mathlib.Core.Bool.{true}
 use Prim.Native.Nat.{ℕ}
 use native.Mathlib.Omega.{arith}
 use Rattle.machine.specs.LookUp.{look_up, get_percpu_block}
-use Rattle.context_ops.specs.declared.named.Named.TheVariants.{Refused, Found}
 use Rattle.context_ops.specs.Named.{named_context, named_on, named}
 use Rattle.model.specs.Opened.{opened}
 use Rattle.model_cases.specs.Starred.{idler, worker, start, worked}
@@ -88,5 +88,5 @@ own_read =
       k = 0;
       x = 1;
       not_here = refl;
-      differs = λ (e : Refused 6 ≡ Found 0 1). let z : ◌≡◌ {A = ℕ} 0 1 = cc in omega arith;
+      differs = λ (e : ◌≡◌ {A = Result (ℕ × ℕ) ℕ} (Err 6) (Ok (0, 1))). let z : ◌≡◌ {A = ℕ} 0 1 = cc in omega arith;
     }

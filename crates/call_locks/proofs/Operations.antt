@@ -1,5 +1,5 @@
 -- Operations 4 to 7 with other words where they do not look. Assumes nothing.
-use Rattle.std.specs.Prelude.{if◌then◌else◌}
+use Rattle.std.specs.Prelude.{if◌then◌else◌, None, Option, Some}
 use mathlib.Core.Path.{◌≡◌, refl, ap, ◌∙◌}
 use mathlib.Core.Bool.{Bool, true, false}
 use mathlib.Core.List.{List, [], ◌++◌}
@@ -14,8 +14,6 @@ use Rattle.context.specs.Block.{blocked_as, unblocked}
 use Rattle.percpu.specs.Cpu.{Cpu}
 use Rattle.percpu.specs.Lists.{cpu_push_local, cpu_push_ipi}
 use Rattle.percpu.specs.With.{cpu_local_wakeup_list, cpu_ipi_context_wakeup_list}
-use Rattle.machine.specs.declared.CpuLookup.{CpuLookup}
-use Rattle.machine.specs.declared.CpuLookup.TheVariants.{Present, Absent}
 use Rattle.machine.specs.Machine.{Machine, context_at, cpu_at, set_context}
 use Rattle.machine.specs.LookUp.{get_percpu_block}
 use Rattle.machine.specs.Outcome.{Outcome, finished}
@@ -40,15 +38,15 @@ module _ (S Q : ℕ → Bool) (l : Locks) (ds : List Context) where
 
   pub block_same : (M : Machine) (j : ℕ) → get_percpu_block (E M) j ≡ get_percpu_block M j
   unfolding get_percpu_block
-  block_same M j = λ i. if leb (cpus_count l Q M.cpus i) j then Absent else if present_same M j i then Present j else Absent
+  block_same M j = λ i. if leb (cpus_count l Q M.cpus i) j then None else if present_same M j i then Some j else None
 
   other_same : (k id : ℕ) (M : Machine) → other_cpu k id (E M) ≡ other_cpu k id M
   unfolding other_cpu
-  other_same k id M = λ i. if eqb id 0 then Absent else if eqb (id - 1) k then Absent else block_same M (id - 1) i
+  other_same k id M = λ i. if eqb id 0 then None else if eqb (id - 1) k then None else block_same M (id - 1) i
 
-  on_moves : (k x r : ℕ) (M : Machine) (t : CpuLookup) → wakeup_on k x r (E M) t ≡ R (wakeup_on k x r M t)
+  on_moves : (k x r : ℕ) (M : Machine) (t : Option ℕ) → wakeup_on k x r (E M) t ≡ R (wakeup_on k x r M t)
   unfolding wakeup_on push_local push_ipi cpu_at
-  on_moves k x r M (Present t) =
+  on_moves k x r M (Some t) =
       λ i. record {
         machine = record { contexts = with_others S ds M.contexts; cpus = cpus_change l Q (cpu_push_ipi x) (λ p. refl) (λ b p. refl) M.cpus t i };
         result = r;
@@ -56,7 +54,7 @@ module _ (S Q : ℕ → Bool) (l : Locks) (ds : List Context) where
         rule = 0;
         no_room = leb 64 (length (cpus_read l Q (λ (p : Cpu). p.ipi_context_wakeup_list) (λ b p. refl) M.cpus t i));
       }
-  on_moves k x r M Absent =
+  on_moves k x r M None =
       λ i. record {
         machine = record { contexts = with_others S ds M.contexts; cpus = cpus_change l Q (cpu_push_local x) (λ p. refl) (λ b p. refl) M.cpus k i };
         result = r;

@@ -1,5 +1,5 @@
 -- Refusals 5 to 8 read no lock outside the set. Assumes nothing.
-use Rattle.std.specs.Prelude.{if◌then◌else◌}
+use Rattle.std.specs.Prelude.{if◌then◌else◌, None, Option, Some, Err, Ok}
 use mathlib.Core.Path.{◌≡◌, refl, sym, ap, ◌∙◌, subst}
 use mathlib.Core.Bool.{Bool, true, not, ◌&&◌}
 use mathlib.Core.List.{List}
@@ -7,15 +7,10 @@ use Prim.Native.Nat.{ℕ}
 use lib.Dec.{leb, eqb}
 use Rattle.context.specs.declared.Context.{Context}
 use Rattle.percpu.specs.Cpu.{Cpu}
-use Rattle.machine.specs.declared.Lookup.{Lookup}
-use Rattle.machine.specs.declared.Lookup.TheVariants.{Live, Gone}
-use Rattle.machine.specs.declared.CpuLookup.{CpuLookup}
-use Rattle.machine.specs.declared.CpuLookup.TheVariants.{Present, Absent}
 use Rattle.machine.specs.Machine.{Machine, context_at, cpu_at}
 use Rattle.machine.specs.LookUp.{look_up, get_percpu_block}
 use Rattle.machine.proofs.LookUps.{live}
 use Rattle.admission.specs.Refusals.{is_locked, is_late, decision_refusal, direct_refusal}
-use Rattle.context_ops.specs.declared.named.Named.TheVariants.{Refused, Found}
 use Rattle.context_ops.specs.Named.{named_context, named_on, named}
 use Rattle.model_local.specs.Names.{names}
 use Rattle.model_local.specs.Local.{Within}
@@ -33,19 +28,19 @@ module _ (S Q : ℕ → Bool) (l : Locks) (ds : List Context) (M : Machine) wher
   module _ (x : ℕ) (t : S x ≡ true) where
     pub found_same : look_up E x ≡ look_up M x
     unfolding look_up
-    found_same = λ i. if leb (others_count S ds M.contexts i) x then Gone else if (others_at S ds M.contexts x t i).gone then Gone else Live x
+    found_same = λ i. if leb (others_count S ds M.contexts i) x then None else if (others_at S ds M.contexts x t i).gone then None else Some x
 
-    named_context_same : (k : ℕ) (y : Lookup) → y ≡ look_up M x → named_context E k y ≡ named_context M k y
+    named_context_same : (k : ℕ) (y : Option ℕ) → y ≡ look_up M x → named_context E k y ≡ named_context M k y
     unfolding named_context
-    named_context_same k Gone h = refl
-    named_context_same k (Live y) h =
+    named_context_same k None h = refl
+    named_context_same k (Some y) h =
         let u : S y ≡ true = subst (λ (z : ℕ). S z ≡ true) (sym (live M x y h).is) t in
-        ap (λ (c : Context). if eqb c.lock 0 then Found k y else Refused 6) (others_at S ds M.contexts y u)
+        ap (λ (c : Context). if eqb c.lock 0 then Ok (k, y) else Err 6) (others_at S ds M.contexts y u)
 
-    named_on_same : (p : CpuLookup) → named_on E x p ≡ named_on M x p
+    named_on_same : (p : Option ℕ) → named_on E x p ≡ named_on M x p
     unfolding named_on
-    named_on_same Absent = refl
-    named_on_same (Present k) = ap (named_context E k) found_same ∙ named_context_same k (look_up M x) refl
+    named_on_same None = refl
+    named_on_same (Some k) = ap (named_context E k) found_same ∙ named_context_same k (look_up M x) refl
 
     pub named_same : (cpu : ℕ) → named E cpu x ≡ named M cpu x
     unfolding named

@@ -1,5 +1,5 @@
 -- Two replies: of a call on a machine, and on the machine with other words where the call does not look. Assumes nothing.
-use Rattle.std.specs.Prelude.{if◌then◌else◌}
+use Rattle.std.specs.Prelude.{if◌then◌else◌, None, Option, Some}
 use mathlib.Core.Path.{◌≡◌, refl, sym, ap, ◌∙◌, subst}
 use mathlib.Core.Bool.{Bool, true, false}
 use mathlib.Core.List.{List}
@@ -9,10 +9,6 @@ use lib.ListN.{length}
 use Rattle.columns.specs.Common.{mark}
 use Rattle.columns.proofs.Tests.{by_test}
 use Rattle.context.specs.declared.Context.{Context}
-use Rattle.machine.specs.declared.Lookup.{Lookup}
-use Rattle.machine.specs.declared.Lookup.TheVariants.{Live, Gone}
-use Rattle.machine.specs.declared.CpuLookup.{CpuLookup}
-use Rattle.machine.specs.declared.CpuLookup.TheVariants.{Present, Absent}
 use Rattle.machine.specs.Machine.{Machine, context_at, cpu_at}
 use Rattle.machine.specs.Encode.{encode}
 use Rattle.machine.specs.LookUp.{look_up, get_percpu_block}
@@ -81,12 +77,12 @@ module _ (S Q : ℕ → Bool) (l : Locks) (M : Machine) (m m' : List ℕ) where
       (reply_on m' (λ (k : ℕ). drain_ipi_context_wakeups k E) (get_percpu_block E cpu))
   unfolding reply_on
   drain_both cpu =
-      subst (λ (p : CpuLookup). Both (drain_ipi_context_wakeups cpu M).machine (reply_on m (λ (k : ℕ). drain_ipi_context_wakeups k M) (get_percpu_block M cpu)) (reply_on m' (λ (k : ℕ). drain_ipi_context_wakeups k E) p))
+      subst (λ (p : Option ℕ). Both (drain_ipi_context_wakeups cpu M).machine (reply_on m (λ (k : ℕ). drain_ipi_context_wakeups k M) (get_percpu_block M cpu)) (reply_on m' (λ (k : ℕ). drain_ipi_context_wakeups k E) p))
       (sym (block_same S Q l (relocked_contexts l M.contexts) M cpu)) (by (get_percpu_block M cpu) refl)
     where
-      by : (p : CpuLookup) → p ≡ get_percpu_block M cpu → Both (drain_ipi_context_wakeups cpu M).machine (reply_on m (λ (k : ℕ). drain_ipi_context_wakeups k M) p) (reply_on m' (λ (k : ℕ). drain_ipi_context_wakeups k E) p)
-      by Absent h = refused 5 refl refl
-      by (Present k) h =
+      by : (p : Option ℕ) → p ≡ get_percpu_block M cpu → Both (drain_ipi_context_wakeups cpu M).machine (reply_on m (λ (k : ℕ). drain_ipi_context_wakeups k M) p) (reply_on m' (λ (k : ℕ). drain_ipi_context_wakeups k E) p)
+      by None h = refused 5 refl refl
+      by (Some k) h =
           subst (λ (j : ℕ). Both (drain_ipi_context_wakeups j M).machine (replied m (drain_ipi_context_wakeups k M)) (replied m' (drain_ipi_context_wakeups k E))) (present M cpu k h).is
           (moved_both (drain_ipi_context_wakeups k) (drain_moves S Q l (relocked_contexts l M.contexts) k M) (drain_moves S everywhere l M.contexts k M))
 
@@ -96,18 +92,18 @@ module _ (S Q : ℕ → Bool) (l : Locks) (M : Machine) (m m' : List ℕ) where
     abbrev BothTo : ℕ → Reply → Reply → Type 0
     BothTo k = Both (f k context M).machine
 
-    context_both : (k : ℕ) (y : Lookup) → y ≡ look_up M context → BothTo k (reply_to m (λ (i x : ℕ). f i x M) (named_context M k y)) (reply_to m' (λ (i x : ℕ). f i x E) (named_context M k y))
+    context_both : (k : ℕ) (y : Option ℕ) → y ≡ look_up M context → BothTo k (reply_to m (λ (i x : ℕ). f i x M) (named_context M k y)) (reply_to m' (λ (i x : ℕ). f i x E) (named_context M k y))
     unfolding named_context reply_to
-    context_both k Gone h = refused 5 refl refl
-    context_both k (Live y) h =
+    context_both k None h = refused 5 refl refl
+    context_both k (Some y) h =
         by_test (eqb (context_at M.contexts y).lock 0)
         (λ u. rw u (subst (λ (x : ℕ). BothTo k (replied m (f k x M)) (replied m' (f k x E))) (sym (live M context y h).is) (g k)))
         (λ u. rw u (refused 6 refl refl))
 
-    cpu_both : (p : CpuLookup) → p ≡ get_percpu_block M cpu → BothTo cpu (reply_to m (λ (i x : ℕ). f i x M) (named_on M context p)) (reply_to m' (λ (i x : ℕ). f i x E) (named_on M context p))
+    cpu_both : (p : Option ℕ) → p ≡ get_percpu_block M cpu → BothTo cpu (reply_to m (λ (i x : ℕ). f i x M) (named_on M context p)) (reply_to m' (λ (i x : ℕ). f i x E) (named_on M context p))
     unfolding named_on reply_to
-    cpu_both Absent h = refused 5 refl refl
-    cpu_both (Present k) h =
+    cpu_both None h = refused 5 refl refl
+    cpu_both (Some k) h =
         subst (λ (j : ℕ). BothTo j (reply_to m (λ (i x : ℕ). f i x M) (named_context M k (look_up M context))) (reply_to m' (λ (i x : ℕ). f i x E) (named_context M k (look_up M context)))) (present M cpu k h).is
         (context_both k (look_up M context) refl)
 
@@ -139,21 +135,21 @@ module _ (S Q : ℕ → Bool) (l : Locks) (M : Machine) (m m' : List ℕ) where
         (λ u. moved_both (outcome c k time) (outcome_moves S Q l ds k time M w here v c t) (outcome_moves S everywhere l M.contexts k time M w refl v₀ c t))
         (λ u. refused r refl refl))
 
-    by_both : (c : Call) → Target S c → (p : CpuLookup) → p ≡ get_percpu_block M k → BothBy c (decide_by m M time c p) (decide_by m' E time c p)
+    by_both : (c : Call) → Target S c → (p : Option ℕ) → p ≡ get_percpu_block M k → BothBy c (decide_by m M time c p) (decide_by m' E time c p)
     unfolding decide_by
-    by_both c t Absent h = refused 5 refl refl
-    by_both c t (Present j) h = subst (λ (i : ℕ). BothBy c (decide_on m M i time c) (decide_on m' E i time c)) (sym (present M k j h).is) (on_both c t)
+    by_both c t None h = refused 5 refl refl
+    by_both c t (Some j) h = subst (λ (i : ℕ). BothBy c (decide_on m M i time c) (decide_on m' E i time c)) (sym (present M k j h).is) (on_both c t)
 
     pub decide_both : (c : Call) → Target S c → BothBy c (decide m M k time c) (decide m' E k time c)
     decide_both c t =
-        subst (λ (p : CpuLookup). BothBy c (decide m M k time c) (decide_by m' E time c p)) (sym (block_same S Q l ds M k)) (by_both c t (get_percpu_block M k) refl)
+        subst (λ (p : Option ℕ). BothBy c (decide m M k time c) (decide_by m' E time c p)) (sym (block_same S Q l ds M k)) (by_both c t (get_percpu_block M k) refl)
 
     pub direct_both : (x : ℕ) → S x ≡ true → BothBy (by_direct_switch x) (direct_switch m M k time x) (direct_switch m' E k time x)
     unfolding direct_switch_by
     direct_both x t =
-        subst (λ (y : Lookup). BothBy (by_direct_switch x) (direct_switch m M k time x) (direct_switch_by m' E k time y)) (sym (found_same S Q l ds M x t)) (by (look_up M x) refl)
+        subst (λ (y : Option ℕ). BothBy (by_direct_switch x) (direct_switch m M k time x) (direct_switch_by m' E k time y)) (sym (found_same S Q l ds M x t)) (by (look_up M x) refl)
       where
-        by : (y : Lookup) → y ≡ look_up M x → BothBy (by_direct_switch x) (direct_switch_by m M k time y) (direct_switch_by m' E k time y)
-        by Gone h = refused 5 refl refl
-        by (Live y) h =
+        by : (y : Option ℕ) → y ≡ look_up M x → BothBy (by_direct_switch x) (direct_switch_by m M k time y) (direct_switch_by m' E k time y)
+        by None h = refused 5 refl refl
+        by (Some y) h =
             subst (λ (z : ℕ). BothBy (by_direct_switch x) (decide m M k time (by_direct_switch z)) (decide m' E k time (by_direct_switch z))) (sym (live M x y h).is) (decide_both (by_direct_switch x) t)

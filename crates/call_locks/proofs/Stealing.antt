@@ -1,8 +1,8 @@
 -- Stealing stays with the contexts that the CPU names and those that are queued on any CPU. Assumes nothing.
+use Rattle.std.specs.Prelude.{Option, Some}
 use mathlib.Core.Path.{◌≡◌, refl, ap, ◌∙◌}
 use mathlib.Core.Bool.{Bool, false, not, ◌&&◌, ◌||◌}
 use mathlib.Core.List.{List, [], ◌∷◌}
-use mathlib.Core.Option.{Option, some}
 use Prim.Native.Nat.{ℕ, zero, suc, ◌+◌}
 use lib.Dec.{ltb}
 use lib.ListN.{length, get_or, set}
@@ -139,9 +139,9 @@ module _ (S : ℕ → Bool) (n : ℕ) (ds : List Context) where
         let s = on_cpu (λ p. cpu_total_weight (p.block.total_weight + e.weight) p) m.state in
         rw (at_others S ds m.state x t)
         (branch moving_others (first_wins runs m.winner)
-        {x = record { state = put_context x c s; victim = give_up e m.victim; winner = some x }}
+        {x = record { state = put_context x c s; victim = give_up e m.victim; winner = Some x }}
         {y = record { state = insert_entry (entry_of x e.weight c) (put_context x (with_new_key c) s); victim = give_up e m.victim; winner = m.winner }}
-        (λ j. record { state = put_others S ds s x t c j; victim = give_up e m.victim; winner = some x })
+        (λ j. record { state = put_others S ds s x t c j; victim = give_up e m.victim; winner = Some x })
         (λ j. record { state = insert_entry (entry_of x e.weight c) (put_others S ds s x t (with_new_key c) j); victim = give_up e m.victim; winner = m.winner }))
 
     entries_move : (l : Stealing) (t : ℕ) (v : Cpu) (es : List Entry) → All (OfEntry S n) es → QueuedWithin S n v → StealOwns S n l

@@ -1,6 +1,5 @@
 -- Lock and address-space words that a call does not read: those of contexts that its CPU does not name, and other CPUs' queue locks. Assumes nothing.
-use Rattle.std.specs.Prelude.{◌≡◌, Bool, false, ◌&&◌, ◌||◌, List, [], ◌∷◌, ◌++◌, ℕ, ◌≤◌, eqb, length, get_or, if◌then◌else◌}
-use Rattle.std.proofs.Math.Option.{none}
+use Rattle.std.specs.Prelude.{◌≡◌, Bool, false, ◌&&◌, ◌||◌, List, [], ◌∷◌, ◌++◌, ℕ, ◌≤◌, eqb, length, get_or, if◌then◌else◌, None}
 use Rattle.columns.specs.Common.{tabulate}
 use Rattle.context.specs.declared.Context.{Context}
 use Rattle.context.specs.With.{with_lock, with_addr_space}
@@ -62,7 +61,7 @@ is_queued (p ∷ ps) x = member x (contexts_of p.queue) || is_queued ps x
 
 -- the steal counter allows stealing: every 2nd value where idle is in charge, else every 16th
 unfoldable pub may_steal : Machine → ℕ → Bool
-may_steal M k = should_steal (state_of k M) none
+may_steal M k = should_steal (state_of k M) None
 
 -- `direct_switch_to`, `unblock_context`, `block` and `hard_block`
 unfoldable pub takes_context : ℕ → Bool

@@ -1,12 +1,11 @@
 -- The checker's answer is the condition.
+use Rattle.std.specs.Prelude.{None, Option, Some}
 use mathlib.Core.Path.{◌≡◌, refl, sym, ap, ◌∙◌}
 use mathlib.Core.List.{List}
 use Prim.Native.Nat.{ℕ, ◌<◌}
 use native.Mathlib.Omega.{arith}
 use Rattle.columns.specs.Common.{mark}
 use Rattle.answer.specs.declared.Answer.{Answer}
-use Rattle.machine.specs.declared.CpuLookup.{CpuLookup}
-use Rattle.machine.specs.declared.CpuLookup.TheVariants.{Present, Absent}
 use Rattle.machine.specs.Machine.{Machine}
 use Rattle.machine.specs.Encode.{decode}
 use Rattle.machine.specs.LookUp.{get_percpu_block}
@@ -31,11 +30,11 @@ module _ (a : Answer) (m m' : List ℕ) (one other : ℕ) (z : a.refusal ≡ 0) 
     below : one < size_c m
     result : a.result ≡ mark (are_apart M one other)
 
-  by : (k l : CpuLookup) → k ≡ get_percpu_block M one → l ≡ get_percpu_block M other → reply a m' ≡ reply (apart_answer M k l) m → Found
+  by : (k l : Option ℕ) → k ≡ get_percpu_block M one → l ≡ get_percpu_block M other → reply a m' ≡ reply (apart_answer M k l) m → Found
   unfolding apart_answer
-  by Absent l h g e = refused_not 5 m (λ w. omega arith) e z
-  by (Present k) Absent h g e = refused_not 5 m (λ w. omega arith) e z
-  by (Present k) (Present l) h g e =
+  by None l h g e = refused_not 5 m (λ w. omega arith) e z
+  by (Some k) None h g e = refused_not 5 m (λ w. omega arith) e z
+  by (Some k) (Some l) h g e =
       let i = present M one k h in
       let j = present M other l g in
       let o = admitted.decoded_fits m p in

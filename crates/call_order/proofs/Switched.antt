@@ -1,8 +1,8 @@
 -- An accepted switch: its answer, the image it leaves, and the machine that this stands for. Assumes nothing.
+use Rattle.std.specs.Prelude.{None, Option, Some}
 use mathlib.Core.Path.{◌≡◌, refl, sym, ap, ◌∙◌, subst}
 use mathlib.Core.Bool.{false}
 use mathlib.Core.List.{List}
-use mathlib.Core.Option.{Option, none, some}
 use Prim.Native.Nat.{ℕ, ◌<◌}
 use native.Mathlib.Omega.{arith}
 use lib.Dec.{eqb}
@@ -12,8 +12,6 @@ use Rattle.columns.specs.Common.{mark}
 use Rattle.columns.proofs.Tests.{by_test}
 use Rattle.answer.specs.declared.Answer.{Answer}
 use Rattle.percpu.specs.Cpu.{Cpu}
-use Rattle.machine.specs.declared.CpuLookup.{CpuLookup}
-use Rattle.machine.specs.declared.CpuLookup.TheVariants.{Present, Absent}
 use Rattle.machine.specs.Machine.{Machine}
 use Rattle.machine.specs.Encode.{encode, decode}
 use Rattle.machine.specs.LookUp.{get_percpu_block}
@@ -61,10 +59,10 @@ module _ (a : Answer) (m m' : List ℕ) (cpu time : ℕ) (z : a.refusal ≡ 0) w
       by_test (eqb (refusal by_switch M k time) 0) (λ y. there_was_room k b (rw y at e))
       (λ y. refused_not (refusal by_switch M k time) m (eqb-false (refusal by_switch M k time) 0 y) (rw y at e) z)
 
-  by : (l : CpuLookup) → l ≡ get_percpu_block M cpu → reply a m' ≡ decide_by m M time by_switch l → Replied a m' cpu time M
+  by : (l : Option ℕ) → l ≡ get_percpu_block M cpu → reply a m' ≡ decide_by m M time by_switch l → Replied a m' cpu time M
   unfolding decide_by
-  by Absent h e = refused_not 5 m (λ w. omega arith) e z
-  by (Present k) h e =
+  by None h e = refused_not 5 m (λ w. omega arith) e z
+  by (Some k) h e =
       let i = present M cpu k h in
       subst (λ (j : ℕ). Replied a m' j time M) i.is (on k (subst (λ (j : ℕ). j < length M.cpus) (sym i.is) i.below) e)
 
@@ -81,13 +79,13 @@ switched m k time z =
 module _ (k time : ℕ) where
   as_marks_none : (rule : ℕ) (s : State) (cpus : List Cpu) (o : Option ℕ) → (switch_as k time rule s cpus o).interrupt ≡ false
   unfolding switch_as
-  as_marks_none rule s cpus none = refl
-  as_marks_none rule s cpus (some x) = refl
+  as_marks_none rule s cpus None = refl
+  as_marks_none rule s cpus (Some x) = refl
 
   by_marks_none : (cpus : List Cpu) (s : State) (o : Option State) → (switch_inner_by k time cpus s o).interrupt ≡ false
   unfolding switch_inner_by after_schedule
-  by_marks_none cpus s none = let d = schedule k time cpus s in as_marks_none _ d.state d.cpus d.picked
-  by_marks_none cpus s (some s') = refl
+  by_marks_none cpus s None = let d = schedule k time cpus s in as_marks_none _ d.state d.cpus d.picked
+  by_marks_none cpus s (Some s') = refl
 
   pub switch_marks_none : (M : Machine) → (switch k time M).interrupt ≡ false
   unfolding switch switch_inner

@@ -1,15 +1,14 @@
 -- The stealing turn of a switch goes by the counter, in charge and idle of the machine before it, and by whether somebody won. Assumes nothing.
-use Rattle.std.specs.Prelude.{if◌then◌else◌}
+use Rattle.std.specs.Prelude.{if◌then◌else◌, Option, is_some}
 use mathlib.Core.Path.{◌≡◌, refl, ap, ◌∙◌}
 use mathlib.Core.Logic.{◌≢◌}
 use mathlib.Core.Bool.{Bool, true, false, not, ◌&&◌}
-use mathlib.Core.Option.{Option}
 use Prim.Native.Nat.{ℕ, ◌%◌}
 use native.Mathlib.Omega.{arith}
 use lib.Dec.{eqb}
 use borrow.Author.Tests.{ne_eqb}
 use Rattle.machine.specs.Machine.{Machine}
-use Rattle.model.specs.State.{State, state_of, is_some, is_idle}
+use Rattle.model.specs.State.{State, state_of, is_idle}
 use Rattle.model.specs.Turn.{spent, charge_holder, before_selection, before_choice}
 use Rattle.model.specs.Choice.{choice, chosen}
 use Rattle.model.specs.Steal.{idle_steal_interval, steal_interval, should_steal}

@@ -1,4 +1,5 @@
 -- From a call's reply to the rule in its answer. Assumes nothing.
+use Rattle.std.specs.Prelude.{None, Option, Some, Err, Ok, Result}
 use mathlib.Core.Path.{◌≡◌, refl, sym, ap, ◌∙◌, subst}
 use mathlib.Core.Bool.{true, false}
 use mathlib.Core.List.{List}
@@ -8,10 +9,6 @@ use lib.Dec.{eqb}
 use borrow.Author.Tests.{eqb-false}
 use Rattle.columns.proofs.Tests.{by_test}
 use Rattle.answer.specs.declared.Answer.{Answer}
-use Rattle.machine.specs.declared.Lookup.{Lookup}
-use Rattle.machine.specs.declared.Lookup.TheVariants.{Live, Gone}
-use Rattle.machine.specs.declared.CpuLookup.{CpuLookup}
-use Rattle.machine.specs.declared.CpuLookup.TheVariants.{Present, Absent}
 use Rattle.machine.specs.Machine.{Machine}
 use Rattle.machine.specs.Encode.{decode}
 use Rattle.machine.specs.LookUp.{look_up, get_percpu_block}
@@ -19,12 +16,8 @@ use Rattle.machine.specs.Outcome.{Outcome}
 use Rattle.machine.proofs.LookUps.{live, present}
 use Rattle.image.proofs.Admitted as admitted
 use Rattle.model.specs.Accepted.{Call, by_direct_switch, outcome}
-use Rattle.context_ops.specs.declared.named.Named.{Named}
-use Rattle.context_ops.specs.declared.named.Named.TheVariants as names
 use Rattle.context_ops.specs.Reply.{Reply, reply, refuse, replied, reply_to, reply_on}
 use Rattle.switch_ops.specs.Reply.{refusal, decide_on, decide_by, decide, direct_switch_by, direct_switch}
-use Rattle.calls.specs.declared.Checked.{Checked}
-use Rattle.calls.specs.declared.Checked.TheVariants.{Refused, Passed}
 use Rattle.calls.specs.Call.{check, checked_by, checked}
 use Rattle.calls.proofs.Accepts.{refused_not}
 use Rattle.calls.proofs.Called.{is_refused, call_none}
@@ -58,26 +51,26 @@ module _ {a : Answer} {m' : List ℕ} (m : List ℕ) where
         by_test (eqb (refusal call M k time) 0) (λ t. replied_tells (outcome call k time M) (rw t at e))
         (λ t. refused_tells _ (refusal call M k time) (eqb-false (refusal call M k time) 0 t) (rw t at e))
 
-    by : (call : Call) (p : CpuLookup) → p ≡ get_percpu_block M cpu → reply a m' ≡ decide_by m M time call p → Tells a (outcome call cpu time M)
+    by : (call : Call) (p : Option ℕ) → p ≡ get_percpu_block M cpu → reply a m' ≡ decide_by m M time call p → Tells a (outcome call cpu time M)
     unfolding decide_by
-    by call Absent h e = refused_tells _ 5 (λ w. omega arith) e
-    by call (Present k) h e = subst (λ (j : ℕ). Tells a (outcome call j time M)) (present M cpu k h).is (on k call e)
+    by call None h e = refused_tells _ 5 (λ w. omega arith) e
+    by call (Some k) h e = subst (λ (j : ℕ). Tells a (outcome call j time M)) (present M cpu k h).is (on k call e)
 
-    to : (context : ℕ) (l : Lookup) → l ≡ look_up M context → reply a m' ≡ direct_switch_by m M cpu time l → Tells a (outcome (by_direct_switch context) cpu time M)
+    to : (context : ℕ) (l : Option ℕ) → l ≡ look_up M context → reply a m' ≡ direct_switch_by m M cpu time l → Tells a (outcome (by_direct_switch context) cpu time M)
     unfolding direct_switch_by
-    to context Gone h e = refused_tells _ 5 (λ w. omega arith) e
-    to context (Live x) h e =
+    to context None h e = refused_tells _ 5 (λ w. omega arith) e
+    to context (Some x) h e =
         subst (λ (y : ℕ). Tells a (outcome (by_direct_switch y) cpu time M)) (live M context x h).is (by (by_direct_switch x) (get_percpu_block M cpu) refl e)
 
   -- behind refusals 1 to 4
   past : (cpu time : ℕ) (call : Call) (f : Machine → Reply) → (reply a m' ≡ f (decode m) → Tells a (outcome call cpu time (decode m)))
-      → (reply a m' ≡ f (decode m) → a.refusal ≡ 0 → WasAccepted (decode m) cpu time call) → (w : Checked) → w ≡ check m time → reply a m' ≡ checked_by m f w → Knows m cpu time call a
+      → (reply a m' ≡ f (decode m) → a.refusal ≡ 0 → WasAccepted (decode m) cpu time call) → (w : Result (ℕ × ℕ) ℕ) → w ≡ check m time → reply a m' ≡ checked_by m f w → Knows m cpu time call a
   unfolding checked_by
-  past cpu time call f g h (Refused r) i e =
+  past cpu time call f g h (Err r) i e =
       let n = is_refused m time r i
       in record { tells = refused_tells _ r n e; accepted = λ z. refused_not r m n e z; passed = λ z. refused_not r m n e z }
-  past cpu time call f g h (Passed c n) i e =
-      record { tells = g e; accepted = h e; passed = λ z. admitted.passed time m (call_none m time (Passed c n) i c n refl) }
+  past cpu time call f g h (Ok (c, n)) i e =
+      record { tells = g e; accepted = h e; passed = λ z. admitted.passed time m (call_none m time (Ok (c, n)) i c n refl) }
 
   pub decision_knows : (cpu time : ℕ) (call : Call) → reply a m' ≡ checked m time (λ (M : Machine). decide m M cpu time call) → Knows m cpu time call a
   decision_knows cpu time call e =
@@ -97,23 +90,23 @@ module _ {a : Answer} {m' : List ℕ} (m : List ℕ) where
   unfolding replied
   quiet_replied o z e = by_test o.no_room (λ t. quiet_refuse 9 (rw t at e)) (λ t. ap (λ (y : Reply). y.answer.rule) (rw t at e) ∙ z)
 
-  pub quiet_to : (f : ℕ → ℕ → Outcome) → ((k x : ℕ) → (f k x).rule ≡ 0) → (v : Named) → reply a m' ≡ reply_to m f v → a.rule ≡ 0
+  pub quiet_to : (f : ℕ → ℕ → Outcome) → ((k x : ℕ) → (f k x).rule ≡ 0) → (v : Result (ℕ × ℕ) ℕ) → reply a m' ≡ reply_to m f v → a.rule ≡ 0
   unfolding reply_to
-  quiet_to f z (names.Refused r) e = quiet_refuse r e
-  quiet_to f z (names.Found k x) e = quiet_replied (f k x) (z k x) e
+  quiet_to f z (Err r) e = quiet_refuse r e
+  quiet_to f z (Ok (k, x)) e = quiet_replied (f k x) (z k x) e
 
-  pub quiet_on : (f : ℕ → Outcome) → ((k : ℕ) → (f k).rule ≡ 0) → (p : CpuLookup) → reply a m' ≡ reply_on m f p → a.rule ≡ 0
+  pub quiet_on : (f : ℕ → Outcome) → ((k : ℕ) → (f k).rule ≡ 0) → (p : Option ℕ) → reply a m' ≡ reply_on m f p → a.rule ≡ 0
   unfolding reply_on
-  quiet_on f z Absent e = quiet_refuse 5 e
-  quiet_on f z (Present k) e = quiet_replied (f k) (z k) e
+  quiet_on f z None e = quiet_refuse 5 e
+  quiet_on f z (Some k) e = quiet_replied (f k) (z k) e
 
   pub quiet_checked : (time : ℕ) (f : Machine → Reply) → (reply a m' ≡ f (decode m) → a.rule ≡ 0) → reply a m' ≡ checked m time f → a.rule ≡ 0
   unfolding checked_by
   quiet_checked time f g e = go (check m time) e
     where
-      go : (w : Checked) → reply a m' ≡ checked_by m f w → a.rule ≡ 0
-      go (Refused r) h = quiet_refuse r h
-      go (Passed c n) h = g h
+      go : (w : Result (ℕ × ℕ) ℕ) → reply a m' ≡ checked_by m f w → a.rule ≡ 0
+      go (Err r) h = quiet_refuse r h
+      go (Ok (c, n)) h = g h
 
   pub quiet_none : (time : ℕ) → reply a m' ≡ checked m time (λ (M : Machine). refuse 5 m) → a.rule ≡ 0
   quiet_none time e = quiet_checked time (λ (M : Machine). refuse 5 m) (quiet_refuse 5) e

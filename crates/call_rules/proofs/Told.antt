@@ -1,5 +1,5 @@
 -- What the rule of any call says. Assumes nothing.
-use Rattle.std.specs.Prelude.{if◌then◌else◌}
+use Rattle.std.specs.Prelude.{if◌then◌else◌, None, Option, Some}
 use mathlib.Core.Path.{◌≡◌, refl, sym, ap, ◌∙◌, subst}
 use mathlib.Core.Bool.{Bool, true, false}
 use mathlib.Core.List.{List}
@@ -9,8 +9,6 @@ use borrow.Author.Tests.{eqb-true, eqb-false}
 use Rattle.columns.proofs.Tests.{by_test}
 use Rattle.cpu_set.specs.Members.{members}
 use Rattle.answer.specs.declared.Answer.{Answer}
-use Rattle.machine.specs.declared.CpuLookup.{CpuLookup}
-use Rattle.machine.specs.declared.CpuLookup.TheVariants.{Present, Absent}
 use Rattle.machine.specs.Machine.{Machine}
 use Rattle.machine.specs.Outcome.{Outcome, finished}
 use Rattle.machine.specs.Encode.{decode}
@@ -122,8 +120,8 @@ pub group_rule : {a : Answer} {m' : List ℕ} (m : List ℕ) (cpu time mask : �
 unfolding unblock_group group_on
 group_rule {a} {m'} m cpu time mask = quiet_checked m time _ (on (get_percpu_block (decode m) cpu))
   where
-    on : (p : CpuLookup) → reply a m' ≡ group_on m (decode m) cpu (members mask) p → a.rule ≡ 0
-    on Absent e = quiet_refuse m 5 e
-    on (Present k) e =
+    on : (p : Option ℕ) → reply a m' ≡ group_on m (decode m) cpu (members mask) p → a.rule ≡ 0
+    on None e = quiet_refuse m 5 e
+    on (Some k) e =
         by_test (eqb (names_refusal (decode m) cpu (members mask)) 0) (λ t. quiet_replied m (unblock_each k (members mask) (decode m)) (each_rule k (members mask) (decode m)) (rw t at e))
         (λ t. quiet_refuse m _ (rw t at e))

@@ -1,27 +1,19 @@
 -- A refused call keeps every word of the image, whatever its operation. Assumes nothing.
-use Rattle.std.specs.Prelude.{if◌then◌else◌}
+use Rattle.std.specs.Prelude.{if◌then◌else◌, None, Option, Some, Err, Ok, Result}
 use mathlib.Core.Path.{◌≡◌, refl}
 use mathlib.Core.Bool.{Bool}
 use mathlib.Core.List.{List}
 use Prim.Native.Nat.{ℕ}
 use lib.Dec.{eqb}
-use Rattle.machine.specs.declared.Lookup.{Lookup}
-use Rattle.machine.specs.declared.Lookup.TheVariants.{Live, Gone}
-use Rattle.machine.specs.declared.CpuLookup.{CpuLookup}
-use Rattle.machine.specs.declared.CpuLookup.TheVariants.{Present, Absent}
 use Rattle.machine.specs.Machine.{Machine}
 use Rattle.machine.specs.Encode.{decode}
 use Rattle.machine.specs.LookUp.{look_up, get_percpu_block}
 use Rattle.machine.specs.Outcome.{Outcome}
 use Rattle.model.specs.Accepted.{Call, by_tick, by_switch, by_direct_switch, outcome}
 use Rattle.model.proofs.Cases.{pick}
-use Rattle.context_ops.specs.declared.named.Named.{Named}
-use Rattle.context_ops.specs.declared.named.Named.TheVariants.{Refused as NotNamed, Found}
 use Rattle.context_ops.specs.Named.{named}
 use Rattle.context_ops.specs.Reply.{Reply, refuse, replied, reply_to, reply_on}
 use Rattle.switch_ops.specs.Reply.{refusal, decide_on, decide_by, decide, direct_switch_by, direct_switch}
-use Rattle.calls.specs.declared.Checked.{Checked}
-use Rattle.calls.specs.declared.Checked.TheVariants.{Refused, Passed}
 use Rattle.calls.specs.Call.{check, checked_by, checked, call}
 use Rattle.ronthuyal.proofs.Least.{refused_group}
 use Rattle.call_weights.specs.Kept.{ImageCall, operation_call, group_call, reply_of}
@@ -35,30 +27,30 @@ module _ (m : List ℕ) where
   unfolding replied
   replied_keeps o = pick Keeps o.no_room (λ t n. refl) (λ t n. absurd (n refl))
 
-  decided_keeps : (M : Machine) (time : ℕ) (c : Call) (l : CpuLookup) → Keeps (decide_by m M time c l)
+  decided_keeps : (M : Machine) (time : ℕ) (c : Call) (l : Option ℕ) → Keeps (decide_by m M time c l)
   unfolding decide_by decide_on
-  decided_keeps M time c Absent = λ n. refl
-  decided_keeps M time c (Present k) = pick Keeps (eqb (refusal c M k time) 0) (λ t. replied_keeps (outcome c k time M)) (λ t n. refl)
+  decided_keeps M time c None = λ n. refl
+  decided_keeps M time c (Some k) = pick Keeps (eqb (refusal c M k time) 0) (λ t. replied_keeps (outcome c k time M)) (λ t n. refl)
 
-  direct_keeps : (M : Machine) (cpu time : ℕ) (l : Lookup) → Keeps (direct_switch_by m M cpu time l)
+  direct_keeps : (M : Machine) (cpu time : ℕ) (l : Option ℕ) → Keeps (direct_switch_by m M cpu time l)
   unfolding direct_switch_by
-  direct_keeps M cpu time Gone = λ n. refl
-  direct_keeps M cpu time (Live x) = decided_keeps M time (by_direct_switch x) (get_percpu_block M cpu)
+  direct_keeps M cpu time None = λ n. refl
+  direct_keeps M cpu time (Some x) = decided_keeps M time (by_direct_switch x) (get_percpu_block M cpu)
 
-  named_keeps : (f : ℕ → ℕ → Outcome) (w : Named) → Keeps (reply_to m f w)
+  named_keeps : (f : ℕ → ℕ → Outcome) (w : Result (ℕ × ℕ) ℕ) → Keeps (reply_to m f w)
   unfolding reply_to
-  named_keeps f (NotNamed r) = λ n. refl
-  named_keeps f (Found k x) = replied_keeps (f k x)
+  named_keeps f (Err r) = λ n. refl
+  named_keeps f (Ok (k, x)) = replied_keeps (f k x)
 
-  on_keeps : (f : ℕ → Outcome) (l : CpuLookup) → Keeps (reply_on m f l)
+  on_keeps : (f : ℕ → Outcome) (l : Option ℕ) → Keeps (reply_on m f l)
   unfolding reply_on
-  on_keeps f Absent = λ n. refl
-  on_keeps f (Present k) = replied_keeps (f k)
+  on_keeps f None = λ n. refl
+  on_keeps f (Some k) = replied_keeps (f k)
 
-  checked_keeps : (f : Machine → Reply) (w : Checked) → Keeps (f (decode m)) → Keeps (checked_by m f w)
+  checked_keeps : (f : Machine → Reply) (w : Result (ℕ × ℕ) ℕ) → Keeps (f (decode m)) → Keeps (checked_by m f w)
   unfolding checked_by
-  checked_keeps f (Refused r) h = λ n. refl
-  checked_keeps f (Passed c k) h = h
+  checked_keeps f (Err r) h = λ n. refl
+  checked_keeps f (Ok (c, k)) h = h
 
   abbrev M : Machine
   M = decode m
@@ -66,7 +58,7 @@ module _ (m : List ℕ) where
   call_keeps : (operation cpu time context : ℕ) → Keeps (call m operation cpu time context)
   unfolding call
   call_keeps operation cpu time context =
-      let w : Checked = check m time in
+      let w : Result (ℕ × ℕ) ℕ = check m time in
       pick Keeps (eqb operation 1) (λ t. checked_keeps _ w (decided_keeps M time by_tick (get_percpu_block M cpu)))
       (λ t. pick Keeps (eqb operation 2) (λ t. checked_keeps _ w (decided_keeps M time by_switch (get_percpu_block M cpu)))
       (λ t. pick Keeps (eqb operation 3) (λ t. checked_keeps _ w (direct_keeps M cpu time (look_up M context)))

@@ -1,5 +1,5 @@
 -- From the reply of an accepted call to the machine that its image stands for. Assumes nothing.
-use Rattle.std.specs.Prelude.{if◌then◌else◌}
+use Rattle.std.specs.Prelude.{if◌then◌else◌, None, Option, Some}
 use mathlib.Core.Path.{◌≡◌, refl, sym, ap, ◌∙◌, subst}
 use mathlib.Core.Bool.{Bool, true, false}
 use mathlib.Core.List.{List}
@@ -12,10 +12,6 @@ use Rattle.cpu_set.specs.Members.{members}
 use Rattle.context.specs.declared.Status.{Status}
 use Rattle.context.specs.declared.Status.TheVariants.{Blocked, Stopped}
 use Rattle.answer.specs.declared.Answer.{Answer}
-use Rattle.machine.specs.declared.Lookup.{Lookup}
-use Rattle.machine.specs.declared.Lookup.TheVariants.{Live, Gone}
-use Rattle.machine.specs.declared.CpuLookup.{CpuLookup}
-use Rattle.machine.specs.declared.CpuLookup.TheVariants.{Present, Absent}
 use Rattle.machine.specs.Machine.{Machine, context_at, cpu_at}
 use Rattle.machine.specs.Encode.{encode, decode}
 use Rattle.machine.specs.LookUp.{look_up, get_percpu_block}
@@ -78,26 +74,26 @@ module _ (a : Answer) (m m' : List ℕ) (time : ℕ) (z : a.refusal ≡ 0) (p : 
       (decision_leaves c n M W k time (here a m m' time z p cpu k i) (is_present a m m' time z p cpu k i) p.words.time_most call t) (rw y at e))
       (λ y. refused_not (refusal call M k time) m (eqb-false (refusal call M k time) 0 y) (rw y at e) z)
 
-  pub by : (cpu : ℕ) (call : Call) → TargetFormed n M.contexts call → (l : CpuLookup) → l ≡ get_percpu_block M cpu → reply a m' ≡ decide_by m M time call l
+  pub by : (cpu : ℕ) (call : Call) → TargetFormed n M.contexts call → (l : Option ℕ) → l ≡ get_percpu_block M cpu → reply a m' ≡ decide_by m M time call l
       → Came m m' cpu time (outcome call cpu time M).machine
   unfolding decide_by
-  by cpu call t Absent h e = refused_not 5 m (λ w. omega arith) e z
-  by cpu call t (Present k) h e =
+  by cpu call t None h e = refused_not 5 m (λ w. omega arith) e z
+  by cpu call t (Some k) h e =
       let i = present M cpu k h in subst (λ (j : ℕ). Came m m' j time (outcome call j time M).machine) i.is (on cpu k i call t e)
 
-  pub to : (cpu context : ℕ) (l : Lookup) → l ≡ look_up M context → reply a m' ≡ direct_switch_by m M cpu time l → Came m m' cpu time (outcome (by_direct_switch context) cpu time M).machine
+  pub to : (cpu context : ℕ) (l : Option ℕ) → l ≡ look_up M context → reply a m' ≡ direct_switch_by m M cpu time l → Came m m' cpu time (outcome (by_direct_switch context) cpu time M).machine
   unfolding direct_switch_by
-  to cpu context Gone h e = refused_not 5 m (λ w. omega arith) e z
-  to cpu context (Live x) h e =
+  to cpu context None h e = refused_not 5 m (λ w. omega arith) e z
+  to cpu context (Some x) h e =
       let i = live M context x h in
       subst (λ (y : ℕ). Came m m' cpu time (outcome (by_direct_switch y) cpu time M).machine) i.is
       (by cpu (by_direct_switch x) (live_name a m m' time z p context x i) (get_percpu_block M cpu) refl e)
 
   -- operation 5
-  pub drained : (cpu : ℕ) (l : CpuLookup) → l ≡ get_percpu_block M cpu → reply a m' ≡ reply_on m (λ (k : ℕ). drain_ipi_context_wakeups k M) l → Came m m' cpu time (drain_ipi_context_wakeups cpu M).machine
+  pub drained : (cpu : ℕ) (l : Option ℕ) → l ≡ get_percpu_block M cpu → reply a m' ≡ reply_on m (λ (k : ℕ). drain_ipi_context_wakeups k M) l → Came m m' cpu time (drain_ipi_context_wakeups cpu M).machine
   unfolding reply_on
-  drained cpu Absent h e = refused_not 5 m (λ w. omega arith) e z
-  drained cpu (Present k) h e =
+  drained cpu None h e = refused_not 5 m (λ w. omega arith) e z
+  drained cpu (Some k) h e =
       let i = present M cpu k h in
       subst (λ (j : ℕ). Came m m' j time (drain_ipi_context_wakeups j M).machine) i.is
       (made k (is_present a m m' time z p cpu k i) _ (drain_leaves c n M W k (here a m m' time z p cpu k i) (is_present a m m' time z p cpu k i)) e)
@@ -105,20 +101,20 @@ module _ (a : Answer) (m m' : List ℕ) (time : ℕ) (z : a.refusal ≡ 0) (p : 
   -- f: operation 4, 6 or 7
   module _ (cpu context : ℕ) (f : ℕ → ℕ → Outcome)
       (g : (k x : ℕ) → k < c → (cpu_at M k).block.present ≡ true → LiveName n M.contexts x → (f k x).no_room ≡ false → WellFormed c n (f k x).machine) where
-    named_so : (k : ℕ) (i : IsPresent M cpu k) (l : Lookup) → l ≡ look_up M context → reply a m' ≡ reply_to m f (named_context M k l) → Came m m' k time (f k context).machine
+    named_so : (k : ℕ) (i : IsPresent M cpu k) (l : Option ℕ) → l ≡ look_up M context → reply a m' ≡ reply_to m f (named_context M k l) → Came m m' k time (f k context).machine
     unfolding named_context reply_to
-    named_so k i Gone h e = refused_not 5 m (λ w. omega arith) e z
-    named_so k i (Live x) h e =
+    named_so k i None h e = refused_not 5 m (λ w. omega arith) e z
+    named_so k i (Some x) h e =
         let j = live M context x h in
         by_test (eqb (context_at M.contexts x).lock 0)
         (λ t. subst (λ (y : ℕ). Came m m' k time (f k y).machine) j.is
         (made k (is_present a m m' time z p cpu k i) (f k x) (g k x (here a m m' time z p cpu k i) (is_present a m m' time z p cpu k i) (live_name a m m' time z p context x j)) (rw t at e)))
         (λ t. refused_not 6 m (λ w. omega arith) (rw t at e) z)
 
-    pub called : (l : CpuLookup) → l ≡ get_percpu_block M cpu → reply a m' ≡ reply_to m f (named_on M context l) → Came m m' cpu time (f cpu context).machine
+    pub called : (l : Option ℕ) → l ≡ get_percpu_block M cpu → reply a m' ≡ reply_to m f (named_on M context l) → Came m m' cpu time (f cpu context).machine
     unfolding named_on reply_to
-    called Absent h e = refused_not 5 m (λ w. omega arith) e z
-    called (Present k) h e =
+    called None h e = refused_not 5 m (λ w. omega arith) e z
+    called (Some k) h e =
         let i = present M cpu k h in subst (λ (j : ℕ). Came m m' j time (f j context).machine) i.is (named_so k i (look_up M context) refl e)
 
   -- the group
@@ -129,10 +125,10 @@ module _ (a : Answer) (m m' : List ℕ) (time : ℕ) (z : a.refusal ≡ 0) (p : 
   grouped_by cpu k i r o b l (crowded y t w N s) e = refused_not 9 m (λ v. omega arith) (rw (y, t) at e) z
   grouped_by cpu k i r o b l (refused j w N s) e = refused_not r m (λ v. omega arith) (rw (ne_eqb r 0 (λ v. omega arith)) at e) z
 
-  pub grouped : image_refusal time m ≡ 0 → (cpu mask : ℕ) (l : CpuLookup) → l ≡ get_percpu_block M cpu → reply a m' ≡ group_on m M cpu (members mask) l
+  pub grouped : image_refusal time m ≡ 0 → (cpu mask : ℕ) (l : Option ℕ) → l ≡ get_percpu_block M cpu → reply a m' ≡ group_on m M cpu (members mask) l
       → Came m m' cpu time (unblock_each cpu (members mask) M).machine
   unfolding group_on
-  grouped none cpu mask Absent h e = refused_not 5 m (λ v. omega arith) e z
-  grouped none cpu mask (Present k) h e =
+  grouped none cpu mask None h e = refused_not 5 m (λ v. omega arith) e z
+  grouped none cpu mask (Some k) h e =
       let i = present M cpu k h in
       subst (λ (j : ℕ). Came m m' j time (unblock_each j (members mask) M).machine) i.is (grouped_by cpu k i _ _ _ _ (group_alike m cpu time none k h (members mask)) e)

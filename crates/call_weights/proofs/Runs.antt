@@ -1,5 +1,5 @@
 -- A decision on an image keeps the equality, and accepted calls on images keep it with all that it needs.
-use Rattle.std.specs.Prelude.{if◌then◌else◌}
+use Rattle.std.specs.Prelude.{if◌then◌else◌, Err, Ok, Result}
 use mathlib.Core.Path.{◌≡◌, refl, sym, ap, ◌∙◌, subst}
 use mathlib.Core.Bool.{Bool, true, false}
 use mathlib.Core.List.{List, [], ◌∷◌}
@@ -29,8 +29,6 @@ use Rattle.model_weights.specs.Runs.{Steady}
 use Rattle.model_weights.proofs.Decision.{decides_agree}
 use Rattle.model_weights.proofs.Steadiness.{untouched_steady, call_steady}
 use Rattle.model_weights.proofs.Operations.{block_untouched, drain_untouched, unblock_untouched, group_untouched}
-use Rattle.calls.specs.declared.Checked.{Checked}
-use Rattle.calls.specs.declared.Checked.TheVariants.{Refused, Passed}
 use Rattle.calls.specs.Call.{check, checked_by, tick_call, switch_call, direct_switch_to_call, unblock_context_call, drain_ipi_context_wakeups_call, block_call, hard_block_call, unblock_group_call, no_operation_call, call}
 use Rattle.ronthuyal.specs.Demand.{StandsFor}
 use Rattle.calls.proofs.Accepts.{refused_not}
@@ -99,12 +97,12 @@ module _ (a : Answer) (m m' : List ℕ) (cpu time context : ℕ) (z : a.refusal 
       (λ t. one_of (eqb operation 7) _ _ (λ t e. subst Steady (sym (hard_blocks e).is) (untouched_steady M _ (block_untouched Stopped context M) s))
       (λ t. through a m m' cpu time context z _ (λ p e. refused_not 5 m (λ w. omega arith) e z))))))))
 
-  pub group_checked : (mask : ℕ) (w : Checked) → w ≡ check m time → reply a m' ≡ checked_by m (λ (N : Machine). unblock_group m N cpu mask) w
+  pub group_checked : (mask : ℕ) (w : Result (ℕ × ℕ) ℕ) → w ≡ check m time → reply a m' ≡ checked_by m (λ (N : Machine). unblock_group m N cpu mask) w
       → Came m m' cpu time (unblock_each cpu (members mask) M).machine
   unfolding checked_by unblock_group
-  group_checked mask (Refused r) h e = refused_not r m (is_refused m time r h) e z
-  group_checked mask (Passed c n) h e =
-      let none = call_none m time (Passed c n) h c n refl in grouped a m m' time z (admitted.passed time m none) none cpu mask (get_percpu_block M cpu) refl e
+  group_checked mask (Err r) h e = refused_not r m (is_refused m time r h) e z
+  group_checked mask (Ok (c, n)) h e =
+      let none = call_none m time (Ok (c, n)) h c n refl in grouped a m m' time z (admitted.passed time m none) none cpu mask (get_percpu_block M cpu) refl e
 
   pub group_steadies : Steady M → (mask : ℕ) → reply a m' ≡ unblock_group_call m cpu time mask → Steady (decode m')
   group_steadies s mask e =

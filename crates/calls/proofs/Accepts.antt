@@ -1,5 +1,5 @@
 -- An accepted call's image passed the check, and its CPU is one of the image's. Assumes nothing.
-use Rattle.std.specs.Prelude.{if◌then◌else◌}
+use Rattle.std.specs.Prelude.{if◌then◌else◌, None, Option, Some, Err, Ok, Result}
 use mathlib.Core.Path.{◌≡◌, refl, sym, ap, ◌∙◌}
 use mathlib.Core.Bool.{Bool, true, false}
 use Prim.Native.Nat.{ℕ, ◌<◌}
@@ -7,10 +7,6 @@ use native.Mathlib.Omega.{arith}
 use mathlib.Core.List.{List}
 use lib.Dec.{eqb}
 use lib.ListN.{length}
-use Rattle.machine.specs.declared.Lookup.{Lookup}
-use Rattle.machine.specs.declared.Lookup.TheVariants.{Live, Gone}
-use Rattle.machine.specs.declared.CpuLookup.{CpuLookup}
-use Rattle.machine.specs.declared.CpuLookup.TheVariants.{Present, Absent}
 use Rattle.machine.specs.Machine.{Machine}
 use Rattle.machine.specs.Encode.{decode}
 use Rattle.machine.specs.LookUp.{look_up, get_percpu_block}
@@ -23,8 +19,6 @@ use Rattle.answer.specs.declared.Answer.{Answer}
 use Rattle.context_ops.specs.Named.{named, named_on}
 use Rattle.context_ops.specs.Reply.{Reply, reply, refuse, reply_to, reply_on}
 use Rattle.switch_ops.specs.Reply.{decide_by, decide, direct_switch_by, direct_switch}
-use Rattle.calls.specs.declared.Checked.{Checked}
-use Rattle.calls.specs.declared.Checked.TheVariants.{Refused, Passed}
 use Rattle.calls.specs.Call.{check, checked, checked_by, switch_call, call}
 use Rattle.calls.proofs.Called.{is_refused, call_none}
 
@@ -40,31 +34,31 @@ abbrev Below : ℕ → Machine → Type 0
 Below cpu M = cpu < length M.cpus
 
 module _ {a : Answer} {m' : List ℕ} (m : List ℕ) (cpu time context : ℕ) (z : a.refusal ≡ 0) where
-  on : (M : Machine) (f : ℕ → Outcome) (p : CpuLookup) → p ≡ get_percpu_block M cpu → reply a m' ≡ reply_on m f p → Below cpu M
+  on : (M : Machine) (f : ℕ → Outcome) (p : Option ℕ) → p ≡ get_percpu_block M cpu → reply a m' ≡ reply_on m f p → Below cpu M
   unfolding reply_on
-  on M f Absent h e = refused_not 5 m (λ w. omega arith) e z
-  on M f (Present k) h e = (present M cpu k h).below
+  on M f None h e = refused_not 5 m (λ w. omega arith) e z
+  on M f (Some k) h e = (present M cpu k h).below
 
-  to : (M : Machine) (f : ℕ → ℕ → Outcome) (p : CpuLookup) → p ≡ get_percpu_block M cpu → reply a m' ≡ reply_to m f (named_on M context p) → Below cpu M
+  to : (M : Machine) (f : ℕ → ℕ → Outcome) (p : Option ℕ) → p ≡ get_percpu_block M cpu → reply a m' ≡ reply_to m f (named_on M context p) → Below cpu M
   unfolding reply_to named_on
-  to M f Absent h e = refused_not 5 m (λ w. omega arith) e z
-  to M f (Present k) h e = (present M cpu k h).below
+  to M f None h e = refused_not 5 m (λ w. omega arith) e z
+  to M f (Some k) h e = (present M cpu k h).below
 
-  pub by : (M : Machine) (call : Call) (p : CpuLookup) → p ≡ get_percpu_block M cpu → reply a m' ≡ decide_by m M time call p → Below cpu M
+  pub by : (M : Machine) (call : Call) (p : Option ℕ) → p ≡ get_percpu_block M cpu → reply a m' ≡ decide_by m M time call p → Below cpu M
   unfolding decide_by
-  by M call Absent h e = refused_not 5 m (λ w. omega arith) e z
-  by M call (Present k) h e = (present M cpu k h).below
+  by M call None h e = refused_not 5 m (λ w. omega arith) e z
+  by M call (Some k) h e = (present M cpu k h).below
 
-  directly : (M : Machine) (l : Lookup) → reply a m' ≡ direct_switch_by m M cpu time l → Below cpu M
+  directly : (M : Machine) (l : Option ℕ) → reply a m' ≡ direct_switch_by m M cpu time l → Below cpu M
   unfolding direct_switch_by
-  directly M Gone e = refused_not 5 m (λ w. omega arith) e z
-  directly M (Live x) e = by M (by_direct_switch x) (get_percpu_block M cpu) refl e
+  directly M None e = refused_not 5 m (λ w. omega arith) e z
+  directly M (Some x) e = by M (by_direct_switch x) (get_percpu_block M cpu) refl e
 
-  past_check : (f : Machine → Reply) → ((M : Machine) → reply a m' ≡ f M → Below cpu M) → (w : Checked) → w ≡ check m time → reply a m' ≡ checked_by m f w → Accepts m cpu time
+  past_check : (f : Machine → Reply) → ((M : Machine) → reply a m' ≡ f M → Below cpu M) → (w : Result (ℕ × ℕ) ℕ) → w ≡ check m time → reply a m' ≡ checked_by m f w → Accepts m cpu time
   unfolding checked_by
-  past_check f g (Refused r) h e = refused_not r m (is_refused m time r h) e z
-  past_check f g (Passed c n) h e =
-      let o = call_none m time (Passed c n) h c n refl
+  past_check f g (Err r) h e = refused_not r m (is_refused m time r h) e z
+  past_check f g (Ok (c, n)) h e =
+      let o = call_none m time (Ok (c, n)) h c n refl
       in record { none = o; below = rw (decoded_fits m (passed time m o)).cpus at (g (decode m) e) }
 
   through : (f : Machine → Reply) → ((M : Machine) → reply a m' ≡ f M → Below cpu M) → reply a m' ≡ checked m time f → Accepts m cpu time

@@ -1,11 +1,9 @@
 -- What each call answers and the image it leaves, of any words, CPU, time and context. Assumes nothing.
-use Rattle.std.specs.Prelude.{Bool, true, false, ℕ, List, eqb, if◌then◌else◌}
+use Rattle.std.specs.Prelude.{Bool, true, false, ℕ, List, eqb, if◌then◌else◌, Err, Ok, Result}
 use Rattle.machine.specs.Machine.{Machine}
 use Rattle.machine.specs.Encode.{decode}
 use Rattle.machine.specs.LookUp.{get_percpu_block}
 use Rattle.image.specs.Refusal.{size_c, size_n, image_refusal}
-use Rattle.calls.specs.declared.Checked.{Checked}
-use Rattle.calls.specs.declared.Checked.TheVariants.{Refused, Passed}
 use Rattle.model.specs.Accepted.{by_tick, by_switch}
 use Rattle.switch_ops.specs.Reply.{decide, direct_switch}
 use Rattle.context_ops.specs.Named.{named}
@@ -15,13 +13,13 @@ use Rattle.group_ops.specs.Group.{unblock_group}
 use Rattle.total_weight.specs.TotalWeight.{total_weight_answer}
 
 -- refusals 1 to 4, or the counts of CPUs and contexts
-unfoldable pub check : List ℕ → ℕ → Checked
-check m time = if eqb (image_refusal time m) 0 then Passed (size_c m) (size_n m) else Refused (image_refusal time m)
+unfoldable pub check : List ℕ → ℕ → Result (ℕ × ℕ) ℕ
+check m time = if eqb (image_refusal time m) 0 then Ok (size_c m, size_n m) else Err (image_refusal time m)
 
 -- refusals 1 to 4 come first; then f answers, of the machine that the image stands for
-unfoldable pub checked_by : List ℕ → (Machine → Reply) → Checked → Reply
-checked_by m f (Refused r) = refuse r m
-checked_by m f (Passed c n) = f (decode m)
+unfoldable pub checked_by : List ℕ → (Machine → Reply) → Result (ℕ × ℕ) ℕ → Reply
+checked_by m f (Err r) = refuse r m
+checked_by m f (Ok (c, n)) = f (decode m)
 
 abbrev pub checked : List ℕ → ℕ → (Machine → Reply) → Reply
 checked m time f = checked_by m f (check m time)

@@ -3,20 +3,14 @@
 
 ghost use Rattle.std.specs.Prelude.{◌≡◌};
 ghost use Rattle.calls.specs.Call.{check};
+ghost use Rattle.refusal.specs.Number.{numbered};
 
-// What the check of an image gives: its refusal, or the counts of its CPUs and contexts.
-#[derive(Clone, Copy)]
-pub enum Checked {
-    Refused(u64),
-    Passed(usize, usize),
-}
+use refusal::Refusal;
 
-pub fn check(image: &[u64], time: u64) -> Checked
-    ensures { result ≡ check image.now time }
+// The counts of an image's CPUs and contexts, or why it is refused.
+pub fn check(image: &[u64], time: u64) -> Result<(usize, usize), Refusal>
+    ensures { numbered result ≡ check image.now time }
 {
-    let number = image::refusal(image, time);
-    if number != 0 {
-        return Checked::Refused(number);
-    }
-    Checked::Passed(numbers::index(image[0]), numbers::index(image[1]))
+    image::check(image, time)?;
+    Ok((numbers::index(image[0]), numbers::index(image[1])))
 }

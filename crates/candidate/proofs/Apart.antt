@@ -1,4 +1,6 @@
 -- A context that is on no CPU, from what the code's tests said. Assumes nothing.
+use Rattle.context_ops.proofs.Resolved.{first_found, second_found}
+use Rattle.std.specs.Prelude.{None, Option, Some, Err, Ok, Result}
 use mathlib.Core.Path.{◌≡◌, refl, sym, ap, ◌∙◌, subst}
 use mathlib.Core.Bool.{Bool, true, false, not}
 use mathlib.Core.List.{List}
@@ -13,18 +15,12 @@ use Rattle.cpu_stats.specs.Words.{stats_words}
 use Rattle.percpu.specs.Words.{block_words}
 use Rattle.percpu.specs.Layout.{cpu_words}
 use Rattle.percpu.specs.Places.{block_size, queue_count, sched_ctxt_place}
-use Rattle.machine.specs.declared.Lookup.{Lookup}
-use Rattle.machine.specs.declared.Lookup.TheVariants.{Live, Gone}
-use Rattle.machine.specs.declared.CpuLookup.{CpuLookup}
-use Rattle.machine.specs.declared.CpuLookup.TheVariants.{Present, Absent}
 use Rattle.machine.specs.Machine.{Machine, cpu_at}
 use Rattle.machine.specs.Encode.{encode, cpu_place}
 use Rattle.machine.specs.Shape.{Image, Fits}
 use Rattle.machine.specs.LookUp.{look_up, get_percpu_block}
 use Rattle.machine.proofs.LookUps.{IsLive, live, IsPresent, present, block_word, present_word}
 use Rattle.machine.proofs.Places.{lent_is}
-use Rattle.context_ops.specs.declared.named.Named.{Named}
-use Rattle.context_ops.specs.declared.named.Named.TheVariants.{Refused, Found}
 use Rattle.candidate.specs.Candidate.{not_on, on_none, candidate, candidate_on, candidate_context}
 use Rattle.candidate.specs.Words.{no_word_queued}
 use Rattle.candidate.proofs.Reading.{counted, queue_is}
@@ -91,26 +87,26 @@ module _ {c n : ℕ} (x : ℕ) (M : Machine) (o : Fits c n M) where
   all_off k h g e = every_end off (length M.cpus) k (omega (arith, o.cpus)) (omega (arith, o.cpus)) e
 
 -- the answer, from the look-ups
-module _ (M : Machine) (cpu context : ℕ) (p : CpuLookup) (hp : p ≡ get_percpu_block M cpu) where
-  pub absent_cpu : p ≡ Absent → Refused 5 ≡ candidate M cpu context
+module _ (M : Machine) (cpu context : ℕ) (p : Option ℕ) (hp : p ≡ get_percpu_block M cpu) where
+  pub absent_cpu : p ≡ None → Err 5 ≡ candidate M cpu context
   unfolding candidate candidate_on
   absent_cpu e = rw (← hp, e)
 
-  module _ (k : ℕ) (ek : p ≡ Present k) (l : Lookup) (hl : l ≡ look_up M context) where
-    pub gone_context : l ≡ Gone → Refused 5 ≡ candidate M cpu context
+  module _ (k : ℕ) (ek : p ≡ Some k) (l : Option ℕ) (hl : l ≡ look_up M context) where
+    pub gone_context : l ≡ None → Err 5 ≡ candidate M cpu context
     unfolding candidate candidate_on candidate_context
     gone_context e = rw (← hp, ek, ← hl, e)
 
     -- r: what the code found of the context's number
-    module _ (x : ℕ) (ex : l ≡ Live x) (r : Bool) (hr : r ≡ on_none M context) where
+    module _ (x : ℕ) (ex : l ≡ Some x) (r : Bool) (hr : r ≡ on_none M context) where
       same : x ≡ context
       same = (live M context x (sym ex ∙ hl)).is
 
-      pub off_context : r ≡ true → Found k x ≡ candidate M cpu context
+      pub off_context : r ≡ true → Ok (k, x) ≡ candidate M cpu context
       unfolding candidate candidate_on candidate_context
       off_context t = rw (← hp, ek, ← hl, ex, ap (on_none M) same ∙ sym hr ∙ t)
 
-      pub on_context : r ≡ false → Refused 5 ≡ candidate M cpu context
+      pub on_context : r ≡ false → Err 5 ≡ candidate M cpu context
       unfolding candidate candidate_on candidate_context
       on_context t = rw (← hp, ek, ← hl, ex, ap (on_none M) same ∙ sym hr ∙ t)
 
@@ -120,50 +116,50 @@ pub record IsCandidate (M : Machine) (cpu context k x : ℕ) : Type 0 where
   pub context_is : IsLive M context x
   pub off : on_none M context ≡ true
 
-of_context : (M : Machine) (context k i x : ℕ) (l : Lookup) → l ≡ look_up M context → Found k x ≡ candidate_context M i l
+of_context : (M : Machine) (context k i x : ℕ) (l : Option ℕ) → l ≡ look_up M context → Ok (k, x) ≡ candidate_context M i l
     → (k ≡ i) × (IsLive M context x) × (on_none M context ≡ true)
 unfolding candidate_context
-of_context M context k i x Gone e z = let w : ◌≡◌ {A = ℕ} 0 1 = cc in absurd (omega arith)
-of_context M context k i x (Live y) e z =
+of_context M context k i x None e z = let w : ◌≡◌ {A = ℕ} 0 1 = cc in absurd (omega arith)
+of_context M context k i x (Some y) e z =
     by_test (on_none M y) (λ t. same t (rw t at z)) (λ t. never (rw t at z))
   where
-    never : Found k x ≡ Refused 5 → (k ≡ i) × (IsLive M context x) × (on_none M context ≡ true)
+    never : ◌≡◌ {A = Result (ℕ × ℕ) ℕ} (Ok (k, x)) (Err 5) → (k ≡ i) × (IsLive M context x) × (on_none M context ≡ true)
     never q = let w : ◌≡◌ {A = ℕ} 0 1 = cc in absurd (omega arith)
 
-    same : on_none M y ≡ true → Found k x ≡ Found i y → (k ≡ i) × (IsLive M context x) × (on_none M context ≡ true)
+    same : on_none M y ≡ true → ◌≡◌ {A = Result (ℕ × ℕ) ℕ} (Ok (k, x)) (Ok (i, y)) → (k ≡ i) × (IsLive M context x) × (on_none M context ≡ true)
     same t q =
-        let s : x ≡ y = cc in
+        let s : x ≡ y = ap second_found q in
         let a = live M context y e in
-        (cc, live M context x (ap Live s ∙ e), ap (on_none M) (sym a.is) ∙ t)
+        (ap first_found q, live M context x (ap Some s ∙ e), ap (on_none M) (sym a.is) ∙ t)
 
-on_cpu : (M : Machine) (cpu context k x : ℕ) (p : CpuLookup) → p ≡ get_percpu_block M cpu → Found k x ≡ candidate_on M context p → IsCandidate M cpu context k x
+on_cpu : (M : Machine) (cpu context k x : ℕ) (p : Option ℕ) → p ≡ get_percpu_block M cpu → Ok (k, x) ≡ candidate_on M context p → IsCandidate M cpu context k x
 unfolding candidate_on
-on_cpu M cpu context k x Absent e z = let w : ◌≡◌ {A = ℕ} 0 1 = cc in absurd (omega arith)
-on_cpu M cpu context k x (Present i) e z =
+on_cpu M cpu context k x None e z = let w : ◌≡◌ {A = ℕ} 0 1 = cc in absurd (omega arith)
+on_cpu M cpu context k x (Some i) e z =
     let t = of_context M context k i x (look_up M context) refl z
-    in record { cpu_is = present M cpu k (ap Present t.0 ∙ e); context_is = t.1; off = t.2 }
+    in record { cpu_is = present M cpu k (ap Some t.0 ∙ e); context_is = t.1; off = t.2 }
 
-pub is_candidate : (M : Machine) (cpu context k x : ℕ) → Found k x ≡ candidate M cpu context → IsCandidate M cpu context k x
+pub is_candidate : (M : Machine) (cpu context k x : ℕ) → Ok (k, x) ≡ candidate M cpu context → IsCandidate M cpu context k x
 unfolding candidate
 is_candidate M cpu context k x z = on_cpu M cpu context k x (get_percpu_block M cpu) refl z
 
 -- and `Refused`
-five_context : (M : Machine) (k r : ℕ) (l : Lookup) → Refused r ≡ candidate_context M k l → r ≡ 5
+five_context : (M : Machine) (k r : ℕ) (l : Option ℕ) → Err r ≡ candidate_context M k l → r ≡ 5
 unfolding candidate_context
-five_context M k r Gone z = cc
-five_context M k r (Live x) z = by_test (on_none M x) (λ t. never (rw t at z)) (λ t. told (rw t at z))
+five_context M k r None z = cc
+five_context M k r (Some x) z = by_test (on_none M x) (λ t. never (rw t at z)) (λ t. told (rw t at z))
   where
-    never : Refused r ≡ Found k x → r ≡ 5
+    never : ◌≡◌ {A = Result (ℕ × ℕ) ℕ} (Err r) (Ok (k, x)) → r ≡ 5
     never q = let w : ◌≡◌ {A = ℕ} 0 1 = cc in absurd (omega arith)
 
-    told : Refused r ≡ Refused 5 → r ≡ 5
+    told : ◌≡◌ {A = Result (ℕ × ℕ) ℕ} (Err r) (Err 5) → r ≡ 5
     told q = cc
 
-five_cpu : (M : Machine) (context r : ℕ) (p : CpuLookup) → Refused r ≡ candidate_on M context p → r ≡ 5
+five_cpu : (M : Machine) (context r : ℕ) (p : Option ℕ) → Err r ≡ candidate_on M context p → r ≡ 5
 unfolding candidate_on
-five_cpu M context r Absent z = cc
-five_cpu M context r (Present k) z = five_context M k r (look_up M context) z
+five_cpu M context r None z = cc
+five_cpu M context r (Some k) z = five_context M k r (look_up M context) z
 
-pub refused_five : (M : Machine) (cpu context r : ℕ) → Refused r ≡ candidate M cpu context → r ≡ 5
+pub refused_five : (M : Machine) (cpu context r : ℕ) → Err r ≡ candidate M cpu context → r ≡ 5
 unfolding candidate
 refused_five M cpu context r z = five_cpu M context r (get_percpu_block M cpu) z

@@ -1,14 +1,12 @@
 -- What the code reads of a queue's words is what the definitions say of the queue. Assumes nothing.
-use mathlib.Core.Path.{◌≡◌, refl, sym, ap, ◌∙◌}
-use mathlib.Core.Bool.{Bool, true, false, not}
+use mathlib.Core.Path.{◌≡◌, refl, ap, ◌∙◌}
+use mathlib.Core.Bool.{Bool, not}
 use mathlib.Core.List.{List}
 use Prim.Native.Nat.{ℕ, zero, suc, ◌+◌, ◌<◌, ◌≤◌}
 use native.Mathlib.Omega.{arith}
 use lib.Dec.{eqb}
 use lib.ListN.{length, get_or}
-use borrow.Author.Tests.{eq-eqb}
 use Rattle.columns.specs.Common.{every}
-use Rattle.columns.proofs.Tests.{every_no, every_end}
 use Rattle.cpu_stats.specs.Words.{stats_words}
 use Rattle.entries.specs.declared.Entry.{Entry}
 use Rattle.percpu.specs.Cpu.{Cpu}
@@ -19,20 +17,9 @@ use Rattle.percpu.proofs.Read.{entry_is}
 use Rattle.candidate.specs.Candidate.{not_queued}
 use Rattle.candidate.specs.Words.{no_word_queued}
 
--- the loop over the entries of the block b
-module _ (x : ℕ) (b : List ℕ) where
-  -- entry i is not context x's
-  abbrev pub differs : ℕ → Bool
-  differs i = not (eqb (get_or b (entry_context_ref_column + i) 0) x)
-
-  pub word_queued : (i : ℕ) → i < get_or b queue_count 0 → get_or b (entry_context_ref_column + i) 0 ≡ x → false ≡ no_word_queued x b
-  unfolding no_word_queued
-  word_queued i h e =
-      sym (every_no differs (get_or b queue_count 0) i h (rw (eq-eqb (get_or b (entry_context_ref_column + i) 0) x e)))
-
-  pub words_differ : (i count : ℕ) → count ≤ i → i ≤ count → count ≡ get_or b queue_count 0 → every differs i ≡ true → true ≡ no_word_queued x b
-  unfolding no_word_queued
-  words_differ i count h g e f = every_end differs (get_or b queue_count 0) i (omega arith) (omega arith) f
+-- entry i of the block b is not context x's
+abbrev pub differs : (x : ℕ) → List ℕ → ℕ → Bool
+differs x b i = not (eqb (get_or b (entry_context_ref_column + i) 0) x)
 
 pub every_same : (f g : ℕ → Bool) (n : ℕ) → ((i : ℕ) → i < n → f i ≡ g i) → every f n ≡ every g n
 unfolding every

@@ -9,25 +9,18 @@ ghost use Rattle.machine.specs.Encode.{encode};
 ghost use Rattle.machine.specs.Shape.{Image, Fits};
 ghost use Rattle.candidate.specs.Candidate.{not_on, on_none, candidate};
 ghost use Rattle.candidate.specs.Words.{no_word_queued};
+ghost use Rattle.refusal.specs.Number.{numbered};
 
-use context_ops::Named;
-use machine::{CpuLookup, Lookup};
 use percpu::places;
+use refusal::Refusal;
 
 // No entry of the queue in the block b is context x's.
 fn not_queued(b: &[u64], x: u64) -> bool
     requires { (length b.now ≡ block_size) × (get_or b.now queue_count 0 ≤ 64) }
     ensures { result ≡ no_word_queued x b.now }
 {
-    let count = numbers::index(b[places::QUEUE_COUNT]);
-    let mut i = 0;
-    while i < count {
-        if b[places::ENTRY_CONTEXT_REF + i] == x {
-            return false;
-        }
-        i += 1;
-    }
-    true
+    let end = places::ENTRY_CONTEXT_REF + numbers::index(b[places::QUEUE_COUNT]);
+    !b[places::ENTRY_CONTEXT_REF..end].contains(&x)
 }
 
 // Context x is neither in charge of CPU k nor queued there.
@@ -51,30 +44,34 @@ fn on_none(m: &[u64], c: usize, n: usize, x: u64) -> bool
     requires { Image c n m.now }
     ensures { (M : Machine) → m.now ≡ encode M → Fits c n M → result ≡ on_none M x }
 {
-    let mut k = 0;
-    while k < c {
+    for k in 0..c {
         if !not_on(m, c, n, k, x) {
             return false;
         }
-        k += 1;
     }
     true
 }
 
-pub fn candidate(m: &[u64], c: usize, n: usize, cpu: u64, context: u64) -> Named
+pub fn candidate(
+    m: &[u64],
+    c: usize,
+    n: usize,
+    cpu: u64,
+    context: u64,
+) -> Result<(usize, usize), Refusal>
     requires { Image c n m.now }
-    ensures { (M : Machine) → m.now ≡ encode M → Fits c n M → result ≡ candidate M cpu context }
+    ensures { (M : Machine) → m.now ≡ encode M → Fits c n M → numbered result ≡ candidate M cpu context }
 {
     let p = machine::get_percpu_block(m, c, n, cpu);
-    let CpuLookup::Present(k) = p else {
-        return Named::Refused(5);
+    let Some(k) = p else {
+        return Err(Refusal::Name);
     };
     let l = machine::look_up(m, c, n, context);
-    let Lookup::Live(x) = l else {
-        return Named::Refused(5);
+    let Some(x) = l else {
+        return Err(Refusal::Name);
     };
     if on_none(m, c, n, context) {
-        return Named::Found(k, x);
+        return Ok((k, x));
     }
-    Named::Refused(5)
+    Err(Refusal::Name)
 }

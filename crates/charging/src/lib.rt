@@ -30,8 +30,8 @@ pub fn charge_runnable(mut c: Context, v: u64, spent: Spent) -> Context
     ensures { result ≡ charged v spent c }
 {
     let weight = weights::weight_of(c.prio);
-    let rem_slice = numbers::saturating_sub(c.rem_slice, spent.ticks);
-    let vtime = numbers::max(c.vtime + spent.ticks / weight, v);
+    let rem_slice = c.rem_slice.saturating_sub(spent.ticks);
+    let vtime = (c.vtime + spent.ticks / weight).max(v);
     if spent.elapsed < YIELD_BOUND {
         c.vtime = vtime + rem_slice / weight;
         c.rem_slice = 0;

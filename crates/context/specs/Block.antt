@@ -1,11 +1,18 @@
 -- `block`, `hard_block` and `unblock_no_ipi`. Assumes nothing.
 use Rattle.std.specs.Prelude.{Bool, true, false, if◌then◌else◌}
 use Rattle.context.specs.declared.Context.{Context}
-use Rattle.context.specs.declared.Changed.{Changed}
 use Rattle.context.specs.declared.Status.{Status}
 use Rattle.context.specs.declared.Status.TheVariants.{Runnable, Blocked}
 use Rattle.context.specs.Status.{is_runnable, is_soft_blocked}
 use Rattle.context.specs.With.{with_status, with_has_wake, with_wake}
+
+-- a record, and whether it was changed
+pub record Changed : Type 0 where
+  pub context : Context
+  pub done : Bool
+
+abbrev pub changed : Context → Bool → Changed
+changed c b = record { context = c; done = b }
 
 -- a runnable context gets the status; the truth says whether it did
 unfoldable pub blocked_as : Status → Context → Changed

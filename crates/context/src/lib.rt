@@ -1,4 +1,4 @@
-// A context's record: what the scheduler reads and writes of it (context/context.rs).
+// A context's record: what the scheduler reads and writes of it (context/context.rs), field by field a word of the image, flags too.
 #![tactic(auto)]
 
 mod key;
@@ -7,12 +7,12 @@ mod record;
 
 ghost use Rattle.std.specs.Prelude.{◌≡◌, Bool, true, false};
 ghost use Rattle.context.specs.With.{with_status};
-ghost use Rattle.context.specs.Block.{blocked_as, unblocked, without_wake};
+ghost use Rattle.context.specs.Block.{changed, blocked_as, unblocked, without_wake};
 ghost use Rattle.context.specs.Status.{is_runnable, is_soft_blocked};
 
-pub use record::{load_context, status_number, status_of, store_context};
+pub use record::{load_context, store_context};
 
-#[derive(Clone, Copy)]
+#[derive(Clone, Copy, PartialEq, Eq)]
 pub enum Status {
     Runnable,
     Blocked,
@@ -55,125 +55,66 @@ pub struct Context {
     pub addr_space: u64,
 }
 
-// a record and whether it was changed
-#[derive(Clone, Copy)]
-pub struct Changed {
-    pub context: Context,
-    pub done: bool,
-}
-
 impl Status {
     pub fn is_runnable(self) -> bool
         ensures { result ≡ is_runnable self }
     {
-        match self {
-            Status::Runnable => true,
-            Status::Blocked => false,
-            Status::Stopped => false,
-            Status::AwaitingMmap => false,
-            Status::NotYetStarted => false,
-            Status::Dead => false,
-        }
+        self == Status::Runnable
     }
 
     pub fn is_soft_blocked(self) -> bool
         ensures { result ≡ is_soft_blocked self }
     {
-        match self {
-            Status::Runnable => false,
-            Status::Blocked => true,
-            Status::Stopped => false,
-            Status::AwaitingMmap => false,
-            Status::NotYetStarted => false,
-            Status::Dead => false,
-        }
+        self == Status::Blocked
     }
 }
 
 impl Context {
-    // The record anew: the prover does not cover a store to a field that is an enum.
-    pub fn with_status(self, status: Status) -> Context
+    pub fn with_status(mut self, status: Status) -> Context
         ensures { result ≡ with_status status self }
     {
-        Context {
-            gone: self.gone,
-            debug_id: self.debug_id,
-            status,
-            running: self.running,
-            currently_scheduled: self.currently_scheduled,
-            cpu_id: self.cpu_id,
-            schedule_time: self.schedule_time,
-            switch_time: self.switch_time,
-            active_cpu_time: self.active_cpu_time,
-            sched_cpu_time: self.sched_cpu_time,
-            sched_affinity: self.sched_affinity,
-            inside_syscall: self.inside_syscall,
-            has_wake: self.has_wake,
-            wake: self.wake,
-            userspace: self.userspace,
-            being_sigkilled: self.being_sigkilled,
-            prio: self.prio,
-            vtime: self.vtime,
-            vd: self.vd,
-            rem_slice: self.rem_slice,
-            is_active: self.is_active,
-            has_queue_key: self.has_queue_key,
-            queue_key_vd: self.queue_key_vd,
-            queue_key_rem_slice: self.queue_key_rem_slice,
-            lock: self.lock,
-            addr_space: self.addr_space,
-        }
+        self.status = status;
+        self
     }
 
-    // A runnable context gets the status.
-    fn blocked_as(self, status: Status) -> Changed
-        ensures { result ≡ blocked_as status self }
+    // A runnable context gets the status. True if it did.
+    fn blocked_as(&mut self, status: Status) -> bool
+        ensures { changed self.new result ≡ blocked_as status self.old }
     {
-        let old = self.status;
-        if old.is_runnable() {
-            return Changed {
-                context: self.with_status(status),
-                done: true,
-            };
+        let runs = self.status.is_runnable();
+        if runs {
+            self.status = status;
         }
-        Changed {
-            context: self,
-            done: false,
-        }
+        runs
     }
 
-    pub fn block(self) -> Changed
-        ensures { result ≡ blocked_as Status.Blocked self }
+    pub fn block(&mut self) -> bool
+        ensures { changed self.new result ≡ blocked_as Status.Blocked self.old }
     {
         self.blocked_as(Status::Blocked)
     }
 
     // As Stopped, the one reason that document 01 takes.
-    pub fn hard_block(self) -> Changed
-        ensures { result ≡ blocked_as Status.Stopped self }
+    pub fn hard_block(&mut self) -> bool
+        ensures { changed self.new result ≡ blocked_as Status.Stopped self.old }
     {
         self.blocked_as(Status::Stopped)
     }
 
-    // Its wake stays.
-    pub fn unblock_no_ipi(self) -> Changed
-        ensures { result ≡ unblocked self }
+    // Its wake stays. True if it was soft-blocked.
+    pub fn unblock_no_ipi(&mut self) -> bool
+        ensures { changed self.new result ≡ unblocked self.old }
     {
-        let old = self.status;
-        if old.is_soft_blocked() {
-            return Changed {
-                context: self.with_status(Status::Runnable),
-                done: true,
-            };
+        let blocked = self.status.is_soft_blocked();
+        if blocked {
+            self.status = Status::Runnable;
         }
-        Changed {
-            context: self,
-            done: false,
-        }
+        blocked
     }
+
     // At its wake, of which nothing is left.
-    pub fn wake_up(mut self) -> Changed
-        ensures { result ≡ unblocked (without_wake self) }
+    pub fn wake_up(&mut self) -> bool
+        ensures { changed self.new result ≡ unblocked (without_wake self.old) }
     {
         self.has_wake = false;
         self.wake = 0;

@@ -5,29 +5,27 @@ ghost use Rattle.context.specs.Words.{context_words, context_of, record_size};
 
 use crate::{Context, Status};
 
-pub fn status_number(s: Status) -> u64
-    ensures { result ≡ status_number s }
-{
-    match s {
-        Status::Runnable => 0,
-        Status::Blocked => 1,
-        Status::Stopped => 2,
-        Status::AwaitingMmap => 3,
-        Status::NotYetStarted => 4,
-        Status::Dead => 5,
+impl From<Status> for u64 {
+    ghost from_gives = { λ s x. x ≡ status_number s };
+
+    fn from(s: Status) -> u64 {
+        s as u64
     }
 }
 
-pub fn status_of(x: u64) -> Status
-    ensures { result ≡ status_of x }
-{
-    match x {
-        0 => Status::Runnable,
-        1 => Status::Blocked,
-        2 => Status::Stopped,
-        3 => Status::AwaitingMmap,
-        4 => Status::NotYetStarted,
-        _ => Status::Dead,
+// Only 0 to 5 are in range.
+impl From<u64> for Status {
+    ghost from_gives = { λ x s. s ≡ status_of x };
+
+    fn from(x: u64) -> Status {
+        match x {
+            0 => Status::Runnable,
+            1 => Status::Blocked,
+            2 => Status::Stopped,
+            3 => Status::AwaitingMmap,
+            4 => Status::NotYetStarted,
+            _ => Status::Dead,
+        }
     }
 }
 
@@ -35,11 +33,10 @@ pub fn load_context(w: &[u64]) -> Context
     requires { length w.now ≡ record_size }
     ensures { result ≡ context_of w.now }
 {
-    let status = status_of(w[2]);
     Context {
         gone: w[0] == 1,
         debug_id: w[1],
-        status,
+        status: w[2].into(),
         running: w[3] == 1,
         currently_scheduled: w[4] == 1,
         cpu_id: w[5],
@@ -70,32 +67,32 @@ pub fn store_context(w: &mut [u64], c: Context)
     requires { length w.old ≡ record_size }
     ensures { w.new ≡ context_words c }
 {
-    let s = c.status;
-    let status = status_number(s);
-    w[0] = c.gone as u64;
-    w[1] = c.debug_id;
-    w[2] = status;
-    w[3] = c.running as u64;
-    w[4] = c.currently_scheduled as u64;
-    w[5] = c.cpu_id;
-    w[6] = c.schedule_time;
-    w[7] = c.switch_time;
-    w[8] = c.active_cpu_time;
-    w[9] = c.sched_cpu_time;
-    w[10] = c.sched_affinity;
-    w[11] = c.inside_syscall as u64;
-    w[12] = c.has_wake as u64;
-    w[13] = c.wake;
-    w[14] = c.userspace as u64;
-    w[15] = c.being_sigkilled as u64;
-    w[16] = c.prio;
-    w[17] = c.vtime;
-    w[18] = c.vd;
-    w[19] = c.rem_slice;
-    w[20] = c.is_active as u64;
-    w[21] = c.has_queue_key as u64;
-    w[22] = c.queue_key_vd;
-    w[23] = c.queue_key_rem_slice;
-    w[24] = c.lock;
-    w[25] = c.addr_space;
+    w.copy_from_slice(&[
+        c.gone as u64,
+        c.debug_id,
+        c.status.into(),
+        c.running as u64,
+        c.currently_scheduled as u64,
+        c.cpu_id,
+        c.schedule_time,
+        c.switch_time,
+        c.active_cpu_time,
+        c.sched_cpu_time,
+        c.sched_affinity,
+        c.inside_syscall as u64,
+        c.has_wake as u64,
+        c.wake,
+        c.userspace as u64,
+        c.being_sigkilled as u64,
+        c.prio,
+        c.vtime,
+        c.vd,
+        c.rem_slice,
+        c.is_active as u64,
+        c.has_queue_key as u64,
+        c.queue_key_vd,
+        c.queue_key_rem_slice,
+        c.lock,
+        c.addr_space,
+    ]);
 }

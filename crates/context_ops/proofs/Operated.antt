@@ -1,5 +1,5 @@
 -- Operations 4 to 7, from what the code's calls and tests said. Assumes nothing.
-use Rattle.std.specs.Prelude.{if◌then◌else◌}
+use Rattle.std.specs.Prelude.{if◌then◌else◌, None, Option, Some, Err, Ok, Result}
 use mathlib.Core.Path.{◌≡◌, refl, sym, ap, ◌∙◌, subst}
 use mathlib.Core.Bool.{Bool, true, false}
 use Prim.Native.Nat.{ℕ, zero, suc, ◌+◌, ◌-◌, ◌*◌, ◌<◌, ◌≤◌}
@@ -12,8 +12,6 @@ use Rattle.percpu.specs.Cpu.{Cpu}
 use Rattle.percpu.specs.With.{cpu_local_wakeup_list, cpu_ipi_context_wakeup_list}
 use Rattle.percpu.specs.Layout.{cpu_words}
 use Rattle.machine.proofs.Places.{lent_is, back_is}
-use Rattle.context_ops.specs.declared.named.Named.{Named}
-use Rattle.context_ops.specs.declared.named.Named.TheVariants.{Refused, Found}
 use Rattle.context_ops.specs.Named.{named}
 use Rattle.context_ops.proofs.Resolved.{found}
 use Rattle.context_ops.proofs.Waking.{local_counted, ipi_counted}
@@ -21,12 +19,10 @@ use lib.Seq.{get_or-set_same, set-get_or}
 use Rattle.columns.specs.Common.{mark}
 use Rattle.columns.proofs.Tests.{by_test}
 use Rattle.context.specs.declared.Context.{Context}
-use Rattle.context.specs.declared.Changed.{Changed}
+use Rattle.context.specs.Block.{Changed}
 use Rattle.context.specs.declared.Status.{Status}
 use Rattle.context.specs.Status.{is_runnable, is_soft_blocked}
 use Rattle.context.specs.Block.{blocked_as, unblocked}
-use Rattle.machine.specs.declared.CpuLookup.{CpuLookup}
-use Rattle.machine.specs.declared.CpuLookup.TheVariants.{Present, Absent}
 use Rattle.machine.specs.Machine.{Machine, context_at, cpu_at, no_context, set_context}
 use Rattle.machine.specs.Encode.{encode, cpu_place}
 use Rattle.machine.specs.LookUp.{get_percpu_block}
@@ -47,7 +43,7 @@ other_same : (k w x : ℕ) (q : Context) (M : Machine) → other_cpu k w (set_co
 unfolding other_cpu get_percpu_block cpu_at
 other_same k w x q M = refl
 
-pub woken_by : {a : Answer} {m' : List ℕ} {c n : ℕ} (m : List ℕ) (k x r : ℕ) (q : Context) (M : Machine) (p P : CpuLookup) → Fits c n M → x < n → p ≡ other_cpu k q.cpu_id M → p ≡ P
+pub woken_by : {a : Answer} {m' : List ℕ} {c n : ℕ} (m : List ℕ) (k x r : ℕ) (q : Context) (M : Machine) (p P : Option ℕ) → Fits c n M → x < n → p ≡ other_cpu k q.cpu_id M → p ≡ P
     → reply a m' ≡ replied m (wakeup_on k x r (set_context x q M) P) → reply a m' ≡ replied m (wakeup_context k x r (set_context x q M))
 unfolding wakeup_context
 woken_by m k x r q M p P o h e f g =
@@ -141,24 +137,24 @@ counts_small {m = m} i k p h =
     (rw (p, local_counted m k h i.M i.eq i.fits) (i.fits.cpu k h).local, rw (p, ipi_counted m k h i.M i.eq i.fits) (i.fits.cpu k h).ipi)
 
 -- the reply to a call, by whom it names
-pub refused_call : {a : Answer} (m : List ℕ) (f : ℕ → ℕ → Outcome) (r : ℕ) (w v : Named) → w ≡ v → w ≡ Refused r → a ≡ record { refusal = r; result = 0; interrupt = 0; rule = 0 } → reply a m ≡ reply_to m f v
+pub refused_call : {a : Answer} (m : List ℕ) (f : ℕ → ℕ → Outcome) (r : ℕ) (w v : Result (ℕ × ℕ) ℕ) → w ≡ v → w ≡ Err r → a ≡ record { refusal = r; result = 0; interrupt = 0; rule = 0 } → reply a m ≡ reply_to m f v
 unfolding reply_to
 refused_call m f r w v e g z = rw (← e, g) (ap (λ (b : Answer). reply b m) z)
 
-pub found_call : {a : Answer} {m' : List ℕ} (m : List ℕ) (f : ℕ → ℕ → Outcome) (k x : ℕ) (w v : Named) → w ≡ v → w ≡ Found k x → reply a m' ≡ replied m (f k x) → reply a m' ≡ reply_to m f v
+pub found_call : {a : Answer} {m' : List ℕ} (m : List ℕ) (f : ℕ → ℕ → Outcome) (k x : ℕ) (w v : Result (ℕ × ℕ) ℕ) → w ≡ v → w ≡ Ok (k, x) → reply a m' ≡ replied m (f k x) → reply a m' ≡ reply_to m f v
 unfolding reply_to
 found_call m f k x w v e g z = rw (← e, g) z
 
-pub absent_call : {a : Answer} (m : List ℕ) (f : ℕ → Outcome) (w v : CpuLookup) → w ≡ v → w ≡ Absent → a ≡ record { refusal = 5; result = 0; interrupt = 0; rule = 0 } → reply a m ≡ reply_on m f v
+pub absent_call : {a : Answer} (m : List ℕ) (f : ℕ → Outcome) (w v : Option ℕ) → w ≡ v → w ≡ None → a ≡ record { refusal = 5; result = 0; interrupt = 0; rule = 0 } → reply a m ≡ reply_on m f v
 unfolding reply_on
 absent_call m f w v e g z = rw (← e, g) (ap (λ (b : Answer). reply b m) z)
 
-pub present_call : {a : Answer} {m' : List ℕ} (m : List ℕ) (f : ℕ → Outcome) (k : ℕ) (w v : CpuLookup) → w ≡ v → w ≡ Present k → reply a m' ≡ replied m (f k) → reply a m' ≡ reply_on m f v
+pub present_call : {a : Answer} {m' : List ℕ} (m : List ℕ) (f : ℕ → Outcome) (k : ℕ) (w v : Option ℕ) → w ≡ v → w ≡ Some k → reply a m' ≡ replied m (f k) → reply a m' ≡ reply_on m f v
 unfolding reply_on
 present_call m f k w v e g z = rw (← e, g) z
 
 -- what is named lies below the sizes
-pub found_below : {c n : ℕ} {m : List ℕ} (i : Image c n m) (cpu context k x : ℕ) (w : Named) → ((M : Machine) → m ≡ encode M → Fits c n M → w ≡ named M cpu context) → w ≡ Found k x → (k < c) × (x < n)
+pub found_below : {c n : ℕ} {m : List ℕ} (i : Image c n m) (cpu context k x : ℕ) (w : Result (ℕ × ℕ) ℕ) → ((M : Machine) → m ≡ encode M → Fits c n M → w ≡ named M cpu context) → w ≡ Ok (k, x) → (k < c) × (x < n)
 found_below i cpu context k x w f e =
     let t = found i.M cpu context k x (sym e ∙ f i.M i.eq i.fits)
     in (omega (arith, t.cpu_is.is, t.cpu_is.below, i.fits.cpus), omega (arith, t.context_is.is, t.context_is.below, i.fits.contexts))

@@ -1,5 +1,5 @@
 -- Names put on wake-up lists of the image. Assumes nothing.
-use Rattle.std.specs.Prelude.{if◌then◌else◌}
+use Rattle.std.specs.Prelude.{if◌then◌else◌, None, Option, Some}
 use mathlib.Core.Path.{◌≡◌, refl, sym, ap, ◌∙◌}
 use mathlib.Core.Bool.{Bool, true, false}
 use Prim.Native.Nat.{ℕ, zero, suc, ◌+◌, ◌-◌, ◌*◌, ◌<◌, ◌≤◌}
@@ -16,8 +16,6 @@ use Rattle.context.specs.declared.Context.{Context}
 use Rattle.percpu.specs.Cpu.{Cpu}
 use Rattle.percpu.specs.With.{cpu_local_wakeup_list, cpu_ipi_context_wakeup_list}
 use Rattle.wakeup_lists.proofs.Pushed.{local_listed, ipi_listed}
-use Rattle.machine.specs.declared.CpuLookup.{CpuLookup}
-use Rattle.machine.specs.declared.CpuLookup.TheVariants.{Present, Absent}
 use Rattle.machine.specs.Machine.{Machine, cpu_at, set_context}
 use Rattle.machine.specs.Encode.{encode, cpu_place}
 use Rattle.machine.specs.Shape.{CpuFits, Fits, Image, Went}
@@ -97,22 +95,22 @@ module _ {c n : ℕ} (m : List ℕ) (k : ℕ) (h : k < c) (M : Machine) (e : m �
   -- a wake-up that finds no room, and one that is made
   module _ (x r : ℕ) (q : Context) {at : ℕ} (p : at ≡ cpu_place n k) where
     pub local_full : {a : Answer} → a ≡ record { refusal = 9; result = 0; interrupt = 0; rule = 0 } → 64 ≤ get_or m (at + local_count) 0
-        → reply a m ≡ replied m (wakeup_on k x r (set_context x q M) Absent)
+        → reply a m ≡ replied m (wakeup_on k x r (set_context x q M) None)
     unfolding replied wakeup_on cpu_at
     local_full z g = rw (le-leb 64 (length (cpu_at M k).local_wakeup_list) (rw (p, local_counted) at g)) (ap (λ (b : Answer). reply b m) z)
 
     pub local_woken : {m' : List ℕ} → get_or m (at + local_count) 0 < 64 → m' ≡ encode (set_context x q (push_local k x M))
-        → reply (record { refusal = 0; result = r; interrupt = 0; rule = 0 }) m' ≡ replied m (wakeup_on k x r (set_context x q M) Absent)
+        → reply (record { refusal = 0; result = r; interrupt = 0; rule = 0 }) m' ≡ replied m (wakeup_on k x r (set_context x q M) None)
     unfolding replied wakeup_on cpu_at push_local
     local_woken g z = rw (lt-leb 64 (length (cpu_at M k).local_wakeup_list) (rw (p, local_counted) at g)) (λ i. record { answer = record { refusal = 0; result = r; interrupt = 0; rule = 0 }; image = z i })
 
     pub ipi_full : {a : Answer} (j : ℕ) → a ≡ record { refusal = 9; result = 0; interrupt = 0; rule = 0 } → 64 ≤ get_or m (at + ipi_count) 0
-        → reply a m ≡ replied m (wakeup_on j x r (set_context x q M) (Present k))
+        → reply a m ≡ replied m (wakeup_on j x r (set_context x q M) (Some k))
     unfolding replied wakeup_on cpu_at
     ipi_full j z g = rw (le-leb 64 (length (cpu_at M k).ipi_context_wakeup_list) (rw (p, ipi_counted) at g)) (ap (λ (b : Answer). reply b m) z)
 
     pub ipi_woken : {m' : List ℕ} (j : ℕ) → get_or m (at + ipi_count) 0 < 64 → m' ≡ encode (set_context x q (push_ipi k x M))
-        → reply (record { refusal = 0; result = r; interrupt = 1; rule = 0 }) m' ≡ replied m (wakeup_on j x r (set_context x q M) (Present k))
+        → reply (record { refusal = 0; result = r; interrupt = 1; rule = 0 }) m' ≡ replied m (wakeup_on j x r (set_context x q M) (Some k))
     unfolding replied wakeup_on cpu_at push_ipi
     ipi_woken j g z = rw (lt-leb 64 (length (cpu_at M k).ipi_context_wakeup_list) (rw (p, ipi_counted) at g)) (λ i. record { answer = record { refusal = 0; result = r; interrupt = 1; rule = 0 }; image = z i })
 
@@ -146,28 +144,28 @@ module _ {c n : ℕ} {m : List ℕ} (i : Image c n m) (k x name : ℕ) {at : ℕ
 
 -- the other CPU, as the code finds it; i is its number
 module _ (k w : ℕ) (M : Machine) where
-  pub no_cpu_word : w ≡ 0 → Absent ≡ other_cpu k w M
+  pub no_cpu_word : w ≡ 0 → None ≡ other_cpu k w M
   unfolding other_cpu
   no_cpu_word e = rw (eq-eqb w 0 e)
 
-  pub this_cpu : (i : ℕ) → (w ≡ 0 → ⊥) → i ≡ w - 1 → i ≡ k → Absent ≡ other_cpu k w M
+  pub this_cpu : (i : ℕ) → (w ≡ 0 → ⊥) → i ≡ w - 1 → i ≡ k → None ≡ other_cpu k w M
   unfolding other_cpu
   this_cpu i z e q = rw (ne_eqb w 0 z, eq-eqb (w - 1) k (sym e ∙ q))
 
-  pub another_cpu : (i : ℕ) (p : CpuLookup) → (w ≡ 0 → ⊥) → i ≡ w - 1 → (i ≡ k → ⊥) → p ≡ get_percpu_block M (w - 1) → p ≡ other_cpu k w M
+  pub another_cpu : (i : ℕ) (p : Option ℕ) → (w ≡ 0 → ⊥) → i ≡ w - 1 → (i ≡ k → ⊥) → p ≡ get_percpu_block M (w - 1) → p ≡ other_cpu k w M
   unfolding other_cpu
   another_cpu i p z e q g = rw (ne_eqb w 0 z, ne_eqb (w - 1) k (λ y. q (e ∙ y))) g
 
-other_below_by : {c n : ℕ} {m : List ℕ} (i : Image c n m) (k w t : ℕ) → Present t ≡ other_cpu k w i.M → t < c
+other_below_by : {c n : ℕ} {m : List ℕ} (i : Image c n m) (k w t : ℕ) → Some t ≡ other_cpu k w i.M → t < c
 unfolding other_cpu
 other_below_by {c} i k w t e =
     by_test (eqb w 0) (λ f. never (rw f at e)) (λ f. by_test (eqb (w - 1) k) (λ g. never (rw (f, g) at e)) (λ g. below (rw (f, g) at e)))
   where
-    never : Present t ≡ Absent → t < c
+    never : Some t ≡ None → t < c
     never z = let y : ◌≡◌ {A = ℕ} 0 1 = cc in absurd (omega arith)
 
-    below : Present t ≡ get_percpu_block i.M (w - 1) → t < c
+    below : Some t ≡ get_percpu_block i.M (w - 1) → t < c
     below z = let p = present i.M (w - 1) t z in omega (arith, p.is, p.below, i.fits.cpus)
 
-pub other_below : {c n : ℕ} {m : List ℕ} (i : Image c n m) (k w t : ℕ) (p : CpuLookup) → ((M : Machine) → m ≡ encode M → Fits c n M → p ≡ other_cpu k w M) → p ≡ Present t → t < c
+pub other_below : {c n : ℕ} {m : List ℕ} (i : Image c n m) (k w t : ℕ) (p : Option ℕ) → ((M : Machine) → m ≡ encode M → Fits c n M → p ≡ other_cpu k w M) → p ≡ Some t → t < c
 other_below i k w t p f e = other_below_by i k w t (sym e ∙ f i.M i.eq i.fits)

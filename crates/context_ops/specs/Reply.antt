@@ -1,13 +1,9 @@
 -- What a call answers, and the image it leaves. Assumes nothing.
-use Rattle.std.specs.Prelude.{Bool, true, false, ℕ, List, if◌then◌else◌}
+use Rattle.std.specs.Prelude.{Bool, true, false, ℕ, List, if◌then◌else◌, None, Option, Some, Err, Ok, Result}
 use Rattle.columns.specs.Common.{mark}
-use Rattle.machine.specs.declared.CpuLookup.{CpuLookup}
-use Rattle.machine.specs.declared.CpuLookup.TheVariants.{Present, Absent}
 use Rattle.machine.specs.Machine.{Machine}
 use Rattle.machine.specs.Encode.{encode}
 use Rattle.answer.specs.declared.Answer.{Answer}
-use Rattle.context_ops.specs.declared.named.Named.{Named}
-use Rattle.context_ops.specs.declared.named.Named.TheVariants.{Refused, Found}
 use Rattle.machine.specs.Outcome.{Outcome}
 
 pub record Reply : Type 0 where
@@ -28,10 +24,10 @@ replied m o =
     record { answer = record { refusal = 0; result = o.result; interrupt = mark o.interrupt; rule = o.rule }; image = encode o.machine }
 
 -- a call that names a CPU and a context, and one that names a CPU
-unfoldable pub reply_to : List ℕ → (ℕ → ℕ → Outcome) → Named → Reply
-reply_to m f (Refused r) = refuse r m
-reply_to m f (Found k x) = replied m (f k x)
+unfoldable pub reply_to : List ℕ → (ℕ → ℕ → Outcome) → Result (ℕ × ℕ) ℕ → Reply
+reply_to m f (Err r) = refuse r m
+reply_to m f (Ok (k, x)) = replied m (f k x)
 
-unfoldable pub reply_on : List ℕ → (ℕ → Outcome) → CpuLookup → Reply
-reply_on m f Absent = refuse 5 m
-reply_on m f (Present k) = replied m (f k)
+unfoldable pub reply_on : List ℕ → (ℕ → Outcome) → Option ℕ → Reply
+reply_on m f None = refuse 5 m
+reply_on m f (Some k) = replied m (f k)

@@ -1,17 +1,15 @@
 -- `wakeup_context`: a context's name goes on the list of its last CPU, or of this one. Assumes nothing.
-use Rattle.std.specs.Prelude.{Bool, true, false, ℕ, ◌-◌, leb, eqb, length, if◌then◌else◌}
+use Rattle.std.specs.Prelude.{Bool, true, false, ℕ, ◌-◌, leb, eqb, length, if◌then◌else◌, None, Option, Some}
 use Rattle.percpu.specs.Lists.{cpu_push_local, cpu_push_ipi}
-use Rattle.machine.specs.declared.CpuLookup.{CpuLookup}
-use Rattle.machine.specs.declared.CpuLookup.TheVariants.{Present, Absent}
 use Rattle.machine.specs.Machine.{Machine, context_at, cpu_at, set_cpu}
 use Rattle.machine.specs.LookUp.{get_percpu_block}
 use Rattle.machine.specs.Outcome.{Outcome}
 
 -- the CPU of a record's CPU word, if it is another than CPU k and present
-unfoldable pub other_cpu : ℕ → ℕ → Machine → CpuLookup
+unfoldable pub other_cpu : ℕ → ℕ → Machine → Option ℕ
 other_cpu k cpu_id M =
-    if eqb cpu_id 0 then Absent else
-    if eqb (cpu_id - 1) k then Absent else get_percpu_block M (cpu_id - 1)
+    if eqb cpu_id 0 then None else
+    if eqb (cpu_id - 1) k then None else get_percpu_block M (cpu_id - 1)
 
 -- the name x at the end of CPU k's local list, and of its interrupt list
 unfoldable pub push_local : (k x : ℕ) → Machine → Machine
@@ -23,10 +21,10 @@ push_ipi k x M =
     set_cpu k (cpu_push_ipi x (cpu_at M k)) M
 
 -- on another CPU's list it is a non-local wake-up, with the interrupt
-unfoldable pub wakeup_on : (k x result : ℕ) → Machine → CpuLookup → Outcome
-wakeup_on k x result M (Present t) =
+unfoldable pub wakeup_on : (k x result : ℕ) → Machine → Option ℕ → Outcome
+wakeup_on k x result M (Some t) =
     record { machine = push_ipi t x M; result = result; interrupt = true; rule = 0; no_room = leb 64 (length (cpu_at M t).ipi_context_wakeup_list) }
-wakeup_on k x result M Absent =
+wakeup_on k x result M None =
     record { machine = push_local k x M; result = result; interrupt = false; rule = 0; no_room = leb 64 (length (cpu_at M k).local_wakeup_list) }
 
 -- context x is woken from CPU k; `result` is what the call gives

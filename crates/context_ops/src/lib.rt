@@ -17,11 +17,11 @@ ghost use Rattle.context_ops.specs.Wakeup.{wakeup_context};
 ghost use Rattle.context_ops.specs.Reply.{reply, replied, reply_to, reply_on};
 ghost use Rattle.context_ops.specs.Operations.{unblock_context, drain_ipi_context_wakeups, block, hard_block};
 
-use answer::{Answer, refused};
-use context::{Changed, Context};
-use machine::CpuLookup;
-pub use named::{Named, resolve};
+use answer::Answer;
+use context::Context;
+pub use named::resolve;
 use percpu::places::BLOCK_SIZE;
+use refusal::{Refusal, refused};
 pub use wake::wake_local;
 
 // The record q of context x stored, and its name on the list of its last CPU or of this one, k.
@@ -40,7 +40,7 @@ fn wakeup_context(
     ensures { (M : Machine) → m.old ≡ encode M → Fits c n M → reply result m.new ≡ replied m.old (wakeup_context k x res (set_context x q M)) }
 {
     let p = wake::other_cpu(m, c, n, k, q.cpu_id);
-    let CpuLookup::Present(t) = p else {
+    let Some(t) = p else {
         return wake::wake_local(m, c, n, k, x, q, res);
     };
     wake::wake_ipi(m, c, n, k, t, x, q, res)
@@ -52,13 +52,11 @@ pub fn unblock(m: &mut [u64], c: usize, n: usize, k: usize, x: usize) -> Answer
     ensures { (M : Machine) → m.old ≡ encode M → Fits c n M → reply result m.new ≡ replied m.old (unblock_context k x M) }
 {
     let q = machine::load(m, c, n, x);
-    let status = q.status;
-    let u = q.unblock_no_ipi();
-    if u.done {
-        let woken = u.context;
+    let mut woken = q;
+    if woken.unblock_no_ipi() {
         return wakeup_context(m, c, n, k, x, woken, 1);
     }
-    if status.is_runnable() {
+    if q.status.is_runnable() {
         return wakeup_context(m, c, n, k, x, q, 0);
     }
     Answer {
@@ -69,17 +67,16 @@ pub fn unblock(m: &mut [u64], c: usize, n: usize, k: usize, x: usize) -> Answer
     }
 }
 
-fn store_changed(m: &mut [u64], c: usize, n: usize, x: usize, b: Changed) -> Answer
+fn store_changed(m: &mut [u64], c: usize, n: usize, x: usize, q: Context, done: bool) -> Answer
     requires image { Image c n m.old }
     requires x_lt_n { x < n }
-    requires context_fits { ContextFits c b.context }
-    ensures { (M : Machine) → m.old ≡ encode M → Fits c n M → reply result m.new ≡ replied m.old (finished (mark b.done) (set_context x b.context M)) }
+    requires context_fits { ContextFits c q }
+    ensures { (M : Machine) → m.old ≡ encode M → Fits c n M → reply result m.new ≡ replied m.old (finished (mark done) (set_context x q M)) }
 {
-    let q = b.context;
     machine::store(m, c, n, x, q);
     Answer {
         refusal: 0,
-        result: b.done as u64,
+        result: done as u64,
         interrupt: 0,
         rule: 0,
     }
@@ -91,8 +88,8 @@ pub fn unblock_context(m: &mut [u64], c: usize, n: usize, cpu: u64, context: u64
 {
     let who = named::resolve(m, c, n, cpu, context);
     match who {
-        Named::Refused(number) => refused(number),
-        Named::Found(k, x) => unblock(m, c, n, k, x),
+        Err(refusal) => refused(refusal),
+        Ok((k, x)) => unblock(m, c, n, k, x),
     }
 }
 
@@ -101,9 +98,9 @@ fn block_live(m: &mut [u64], c: usize, n: usize, x: usize) -> Answer
     requires x_lt_n { x < n }
     ensures { (M : Machine) → m.old ≡ encode M → Fits c n M → reply result m.new ≡ replied m.old (block x M) }
 {
-    let q = machine::load(m, c, n, x);
-    let b = q.block();
-    store_changed(m, c, n, x, b)
+    let mut q = machine::load(m, c, n, x);
+    let done = q.block();
+    store_changed(m, c, n, x, q, done)
 }
 
 fn hard_block_live(m: &mut [u64], c: usize, n: usize, x: usize) -> Answer
@@ -111,9 +108,9 @@ fn hard_block_live(m: &mut [u64], c: usize, n: usize, x: usize) -> Answer
     requires x_lt_n { x < n }
     ensures { (M : Machine) → m.old ≡ encode M → Fits c n M → reply result m.new ≡ replied m.old (hard_block x M) }
 {
-    let q = machine::load(m, c, n, x);
-    let b = q.hard_block();
-    store_changed(m, c, n, x, b)
+    let mut q = machine::load(m, c, n, x);
+    let done = q.hard_block();
+    store_changed(m, c, n, x, q, done)
 }
 
 pub fn block(m: &mut [u64], c: usize, n: usize, cpu: u64, context: u64) -> Answer
@@ -122,8 +119,8 @@ pub fn block(m: &mut [u64], c: usize, n: usize, cpu: u64, context: u64) -> Answe
 {
     let who = named::resolve(m, c, n, cpu, context);
     match who {
-        Named::Refused(number) => refused(number),
-        Named::Found(_, x) => block_live(m, c, n, x),
+        Err(refusal) => refused(refusal),
+        Ok((_, x)) => block_live(m, c, n, x),
     }
 }
 
@@ -133,8 +130,8 @@ pub fn hard_block(m: &mut [u64], c: usize, n: usize, cpu: u64, context: u64) -> 
 {
     let who = named::resolve(m, c, n, cpu, context);
     match who {
-        Named::Refused(number) => refused(number),
-        Named::Found(_, x) => hard_block_live(m, c, n, x),
+        Err(refusal) => refused(refusal),
+        Ok((_, x)) => hard_block_live(m, c, n, x),
     }
 }
 
@@ -149,7 +146,7 @@ fn drain(m: &mut [u64], c: usize, n: usize, k: usize) -> Answer
     let local = m[at + 23];
     let ipi = m[at + 24];
     if 64 < local + ipi {
-        return refused(9);
+        return refused(Refusal::NoRoom);
     }
     wakeup_lists::drain_ipi(&mut m[at..end]);
     Answer {
@@ -166,7 +163,7 @@ pub fn drain_ipi_context_wakeups(m: &mut [u64], c: usize, n: usize, cpu: u64) ->
 {
     let p = machine::get_percpu_block(m, c, n, cpu);
     match p {
-        CpuLookup::Present(k) => drain(m, c, n, k),
-        CpuLookup::Absent => refused(5),
+        Some(k) => drain(m, c, n, k),
+        None => refused(Refusal::Name),
     }
 }

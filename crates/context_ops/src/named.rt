@@ -4,30 +4,32 @@ ghost use Rattle.machine.specs.Machine.{Machine};
 ghost use Rattle.machine.specs.Encode.{encode};
 ghost use Rattle.machine.specs.Shape.{Image, Fits};
 ghost use Rattle.context_ops.specs.Named.{named};
+ghost use Rattle.refusal.specs.Number.{numbered};
 
-use machine::{CpuLookup, Lookup};
+use refusal::Refusal;
 
-#[derive(Clone, Copy)]
-pub enum Named {
-    Refused(u64),
-    Found(usize, usize),
-}
-
-pub fn resolve(m: &[u64], c: usize, n: usize, cpu: u64, context: u64) -> Named
+// The CPU and the context, or why the call is refused.
+pub fn resolve(
+    m: &[u64],
+    c: usize,
+    n: usize,
+    cpu: u64,
+    context: u64,
+) -> Result<(usize, usize), Refusal>
     requires { Image c n m.now }
-    ensures { (M : Machine) → m.now ≡ encode M → Fits c n M → result ≡ named M cpu context }
+    ensures { (M : Machine) → m.now ≡ encode M → Fits c n M → numbered result ≡ named M cpu context }
 {
     let p = machine::get_percpu_block(m, c, n, cpu);
-    let CpuLookup::Present(k) = p else {
-        return Named::Refused(5);
+    let Some(k) = p else {
+        return Err(Refusal::Name);
     };
     let l = machine::look_up(m, c, n, context);
-    let Lookup::Live(x) = l else {
-        return Named::Refused(5);
+    let Some(x) = l else {
+        return Err(Refusal::Name);
     };
     let at = machine::context_place(x) + context::places::LOCK;
     if m[at] != 0 {
-        return Named::Refused(6);
+        return Err(Refusal::Lock);
     }
-    Named::Found(k, x)
+    Ok((k, x))
 }

@@ -1,6 +1,5 @@
 // Waking a context: its name goes on a wake-up list.
-ghost use Rattle.std.specs.Prelude.{◌≡◌, List, [], ◌∷◌, ◌++◌, ℕ, ◌+◌, ◌*◌, ◌<◌, ◌≤◌, length, get_or};
-ghost use Rattle.machine.specs.declared.CpuLookup.TheVariants.{Present, Absent};
+ghost use Rattle.std.specs.Prelude.{◌≡◌, List, [], ◌∷◌, ◌++◌, ℕ, ◌+◌, ◌*◌, ◌<◌, ◌≤◌, length, get_or, None, Some};
 ghost use Rattle.machine.specs.Machine.{Machine, cpu_at, set_context};
 ghost use Rattle.machine.specs.Encode.{encode, cpu_place};
 ghost use Rattle.machine.specs.Shape.{ContextFits, Image, Fits, Went};
@@ -10,20 +9,20 @@ ghost use Rattle.percpu.specs.Places.{local_count, ipi_count};
 
 use crate::Answer;
 use context::Context;
-use machine::CpuLookup;
 use percpu::places;
+use refusal::{Refusal, refused};
 
 // The CPU of a record's CPU word, if it is another than k and present.
-pub fn other_cpu(m: &[u64], c: usize, n: usize, k: usize, cpu_id: u64) -> CpuLookup
+pub fn other_cpu(m: &[u64], c: usize, n: usize, k: usize, cpu_id: u64) -> Option<usize>
     requires { Image c n m.now }
     ensures { (M : Machine) → m.now ≡ encode M → Fits c n M → result ≡ other_cpu k cpu_id M }
 {
     if cpu_id == 0 {
-        return CpuLookup::Absent;
+        return None;
     }
     let home = cpu_id - 1;
     if numbers::index(home) == k {
-        return CpuLookup::Absent;
+        return None;
     }
     machine::get_percpu_block(m, c, n, home)
 }
@@ -63,11 +62,11 @@ pub fn wake_local(
     requires image { Image c n m.old }
     requires k_lt_c { (k < c) × (x < n) }
     requires context_fits { ContextFits c q }
-    ensures { (M : Machine) → m.old ≡ encode M → Fits c n M → reply result m.new ≡ replied m.old (wakeup_on k x res (set_context x q M) Absent) }
+    ensures { (M : Machine) → m.old ≡ encode M → Fits c n M → reply result m.new ≡ replied m.old (wakeup_on k x res (set_context x q M) None) }
 {
     let at = machine::cpu_place(n, k) + places::LOCAL_COUNT;
     if 64 <= m[at] {
-        return crate::refused(9);
+        return refused(Refusal::NoRoom);
     }
     push_local(m, c, n, k, x);
     machine::store(m, c, n, x, q);
@@ -93,11 +92,11 @@ pub fn wake_ipi(
     requires image { Image c n m.old }
     requires t_lt_c { (t < c) × (x < n) }
     requires context_fits { ContextFits c q }
-    ensures { (M : Machine) → m.old ≡ encode M → Fits c n M → reply result m.new ≡ replied m.old (wakeup_on k x res (set_context x q M) (Present t)) }
+    ensures { (M : Machine) → m.old ≡ encode M → Fits c n M → reply result m.new ≡ replied m.old (wakeup_on k x res (set_context x q M) (Some t)) }
 {
     let at = machine::cpu_place(n, t) + places::IPI_COUNT;
     if 64 <= m[at] {
-        return crate::refused(9);
+        return refused(Refusal::NoRoom);
     }
     push_ipi(m, c, n, t, x);
     machine::store(m, c, n, x, q);

@@ -2,6 +2,7 @@
 #![tactic(auto)]
 
 ghost use Rattle.std.specs.Prelude.{◌≡◌, ℕ, ◌<◌, ◌≤◌, length};
+ghost use Rattle.std.specs.Iterator.{YieldsFirst, item_count};
 ghost use Rattle.cpu_set.specs.Set.{contains};
 ghost use Rattle.cpu_set.specs.Members.{members, next_cpu, rest_cpus, with_cpu, without_cpu};
 
@@ -26,18 +27,12 @@ pub fn clear(mask: u64, cpu: u64) -> u64
     mask & !(1 << cpu)
 }
 
-fn wide(x: u32) -> u64
-    ensures { result ≡ x }
-{
-    x as u64
-}
-
 // The lowest CPU of a set that is not empty.
 pub fn next(mask: u64) -> u64
     requires { 0 < mask }
     ensures { (result ≡ next_cpu mask) × (result < 64) }
 {
-    wide(u64::trailing_zeros(mask))
+    u64::from(mask.trailing_zeros())
 }
 
 // The set without its lowest CPU.
@@ -52,5 +47,34 @@ pub fn rest(mask: u64) -> u64
 pub fn count(mask: u64) -> u64
     ensures { result ≡ length (members mask) }
 {
-    wide(u64::count_ones(mask))
+    u64::from(mask.count_ones())
+}
+
+// The CPUs of a set by rising number, from the lowest on.
+#[derive(Clone, Copy, Drop)]
+pub struct Cpus {
+    pub rest: u64,
+}
+
+impl Iterator for Cpus {
+    type Item = u64;
+
+    ghost next_gives = { YieldsFirst (λ s. members s.rest) };
+
+    ghost remaining = { item_count (λ s. members s.rest) };
+
+    fn next(&mut self) -> Option<u64> {
+        if self.rest == 0 {
+            return None;
+        }
+        let cpu = next(self.rest);
+        self.rest = rest(self.rest);
+        Some(cpu)
+    }
+}
+
+pub fn iter(mask: u64) -> Cpus
+    ensures { result.rest ≡ mask }
+{
+    Cpus { rest: mask }
 }

@@ -2,4 +2,3 @@ pub mod State
 pub mod Words
 pub mod With
 pub mod Counted
-pub mod Updated

@@ -7,9 +7,7 @@ ghost use Rattle.cpu_stats.specs.With.{stats_state};
 ghost use Rattle.cpu_stats.specs.Counted.{time_added, switch_added, CountersBelow};
 ghost use Rattle.numbers.specs.Limits.{number_range, half_range};
 
-pub mod lent;
-
-#[derive(Clone, Copy)]
+#[derive(Clone, Copy, PartialEq, Eq)]
 pub enum CpuState {
     Idle,
     Kernel,
@@ -27,89 +25,55 @@ pub struct CpuStats {
     pub syscall_switches: u64,
 }
 
-// the counters after a turn, and the state that its time went to
-#[derive(Clone, Copy)]
-pub struct Accounted {
-    pub stats: CpuStats,
-    pub state: CpuState,
-}
+impl From<CpuState> for u64 {
+    ghost from_gives = { λ s w. w ≡ state_number s };
 
-pub fn state_number(s: CpuState) -> u64
-    ensures { result ≡ state_number s }
-{
-    match s {
-        CpuState::Idle => 0,
-        CpuState::Kernel => 1,
-        CpuState::User => 2,
+    fn from(s: CpuState) -> u64 {
+        s as u64
     }
 }
 
-pub fn state_of(w: u64) -> CpuState
-    ensures { result ≡ state_of w }
-{
-    if w == 0 {
-        return CpuState::Idle;
+impl From<u64> for CpuState {
+    ghost from_gives = { λ w s. s ≡ state_of w };
+
+    fn from(w: u64) -> CpuState {
+        match w {
+            0 => CpuState::Idle,
+            1 => CpuState::Kernel,
+            _ => CpuState::User,
+        }
     }
-    if w == 1 {
-        return CpuState::Kernel;
-    }
-    CpuState::User
 }
 
 impl CpuStats {
-    pub fn set_state(self, new_state: CpuState) -> CpuStats
-        ensures { result ≡ stats_state new_state self }
+    pub fn set_state(&mut self, new_state: CpuState)
+        ensures { self.new ≡ stats_state new_state self.old }
     {
-        CpuStats {
-            state: new_state,
-            user: self.user,
-            kernel: self.kernel,
-            idle: self.idle,
-            context_switches: self.context_switches,
-            syscall_switches: self.syscall_switches,
-        }
+        self.state = new_state;
     }
 
-    pub fn add_time(mut self, ms: u64) -> Accounted
-        requires counters_below { CountersBelow half_range self }
+    // Milliseconds for the state that the CPU is in.
+    #[tactic(auto, unfolding(crate::specs::Counted::time_added))]
+    pub fn add_time(&mut self, ms: u64)
+        requires counters_below { CountersBelow half_range self.old }
         requires ms_lt_number_range { ms < number_range }
-        ensures { (result.stats ≡ time_added ms self) × (result.state ≡ self.state) }
+        ensures { self.new ≡ time_added ms self.old }
     {
-        let state = self.state;
-        match state {
-            CpuState::Idle => {
-                self.idle += ms;
-                Accounted {
-                    stats: self,
-                    state: state,
-                }
-            }
-            CpuState::Kernel => {
-                self.kernel += ms;
-                Accounted {
-                    stats: self,
-                    state: state,
-                }
-            }
-            CpuState::User => {
-                self.user += ms;
-                Accounted {
-                    stats: self,
-                    state: state,
-                }
-            }
+        match self.state {
+            CpuState::Idle => self.idle += ms,
+            CpuState::Kernel => self.kernel += ms,
+            CpuState::User => self.user += ms,
         }
     }
 
-    pub fn add_context_switch(mut self, inside_syscall: bool) -> CpuStats
-        requires { CountersBelow half_range self }
-        ensures { result ≡ switch_added inside_syscall self }
+    // A switch, and whether it was made inside a system call.
+    pub fn add_context_switch(&mut self, inside_syscall: bool)
+        requires { CountersBelow half_range self.old }
+        ensures { self.new ≡ switch_added inside_syscall self.old }
     {
         self.context_switches += 1;
         if inside_syscall {
             self.syscall_switches += 1;
-            return self;
         }
-        self
     }
 }

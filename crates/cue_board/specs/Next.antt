@@ -1,10 +1,9 @@
 -- Asking a board for its next cue at a time: the answer, every byte of the board and every word of the image after. Assumes nothing.
-use Rattle.std.specs.Prelude.{ℕ, ◌+◌, List, eqb, if◌then◌else◌}
+use Rattle.std.specs.Prelude.{Option, Some, None, Result, Ok, Err, ℕ, ◌+◌, List, eqb, if◌then◌else◌}
 use Rattle.context_ops.specs.Reply.{Reply}
 use Rattle.calls.specs.Call.{unblock_context_call}
 use Rattle.board.specs.Board.{Cue, put_number, cue_at}
-use Rattle.cues.specs.declared.Due.{Due}
-use Rattle.cues.specs.declared.Due.TheVariants.{Refused, Nothing, Slot}
+use Rattle.cues.specs.declared.Slot.{Slot}
 use Rattle.cues.specs.Due.{next_due}
 use Rattle.cue_board.specs.declared.Handed.{Handed}
 
@@ -56,10 +55,10 @@ handed_if_woken b m i q woken =
 abbrev pub hand_out : List ℕ → List ℕ → (cpu time i : ℕ) → Cue → Asked
 hand_out b m cpu time i q = handed_if_woken b m i q (unblock_context_call m cpu time q.writer)
 
-unfoldable pub next_by : List ℕ → List ℕ → (cpu time : ℕ) → Due → Asked
-next_by b m cpu time (Refused r) = asked (no_cue r) b m
-next_by b m cpu time Nothing = asked (no_cue 0) b m
-next_by b m cpu time (Slot k i) = hand_out b m cpu time i (cue_at k b i)
+unfoldable pub next_by : List ℕ → List ℕ → (cpu time : ℕ) → Result (Option Slot) ℕ → Asked
+next_by b m cpu time (Err r) = asked (no_cue r) b m
+next_by b m cpu time (Ok None) = asked (no_cue 0) b m
+next_by b m cpu time (Ok (Some s)) = hand_out b m cpu time s.index (cue_at s.capacity b s.index)
 
 abbrev pub next : List ℕ → List ℕ → (cpu time : ℕ) → Asked
 next b m cpu time = next_by b m cpu time (next_due b time)

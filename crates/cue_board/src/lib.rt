@@ -7,9 +7,10 @@ ghost use Rattle.cues.specs.Add.{added, add};
 ghost use Rattle.cue_board.specs.Next.{asked, no_cue, hand_out, next};
 
 use board::places;
-use cues::Due;
+use cues::Slot;
+use slots::Offer;
 
-// What asking for the next cue answers.
+// What asking for the next cue answers. Numbers say whether and why not, since C reads them.
 #[repr(C)]
 #[derive(Clone, Copy)]
 pub struct Handed {
@@ -45,12 +46,14 @@ fn no_cue(refusal: u64) -> Handed
     }
 }
 
-// The cue in slot i of k, unless its writer cannot be woken.
-fn hand_out(bytes: &mut [u8], image: &mut [u64], cpu: u64, time: u64, k: usize, i: usize) -> Handed
-    requires board { Board k bytes.old }
-    requires i_lt_k { i < k }
-    ensures { asked result bytes.new image.new ≡ hand_out bytes.old image.old cpu time i (cue_at k bytes.old i) }
+// The cue in that slot, unless its writer cannot be woken.
+fn hand_out(bytes: &mut [u8], image: &mut [u64], cpu: u64, time: u64, s: Slot) -> Handed
+    requires board { Board s.capacity bytes.old }
+    requires i_lt_k { s.index < s.capacity }
+    ensures { asked result bytes.new image.new ≡ hand_out bytes.old image.old cpu time s.index (cue_at s.capacity bytes.old s.index) }
 {
+    let k = s.capacity;
+    let i = s.index;
     let writer = board::writer_at(bytes, k, i);
     let woken = ronthuyal::ronthuyal_unblock_context(image, cpu, time, writer);
     if woken.refusal != 0 {
@@ -77,17 +80,25 @@ fn hand_out(bytes: &mut [u8], image: &mut [u64], cpu: u64, time: u64, k: usize, 
 pub fn cue_board_add(board: &mut [u8], start: u64, writer: u64, first: &[u8], second: &[u8]) -> u64
     ensures { added result board.new ≡ add board.old (offered start writer first.now second.now) }
 {
-    cues::add(board, start, writer, first, second)
+    let offer = Offer {
+        start,
+        writer,
+        first,
+        second,
+    };
+    match cues::add(board, offer) {
+        Ok(()) => 0,
+        Err(refusal) => u64::from(refusal),
+    }
 }
 
 // Hands out the earliest cue that is not handed out, if its start is at most the time, and wakes its writer.
 pub fn cue_board_next(board: &mut [u8], image: &mut [u64], cpu: u64, time: u64) -> Handed
     ensures { asked result board.new image.new ≡ next board.old image.old cpu time }
 {
-    let found = cues::next_due(board, time);
-    match found {
-        Due::Refused(number) => no_cue(number),
-        Due::Nothing => no_cue(0),
-        Due::Slot(k, i) => hand_out(board, image, cpu, time, k, i),
+    match cues::next_due(board, time) {
+        Err(refusal) => no_cue(u64::from(refusal)),
+        Ok(None) => no_cue(0),
+        Ok(Some(slot)) => hand_out(board, image, cpu, time, slot),
     }
 }

@@ -59,10 +59,10 @@ module _ (f : ℕ → Cue) where
   fit_every zero = refl
   fit_every (suc n) = ap all_rows_fit (tabulate_snoc n f) ∙ fit_snoc (tabulate n f) (f n) ∙ ap (λ (t : Bool). t && rows_fit (f n)) (fit_every n)
 
-  pub rise_next : (i last start : ℕ) (rise later r : Bool) → rise ≡ starts_rise (tabulate i f) → last ≡ last_start (tabulate i f) → start ≡ (f i).start
-      → later ≡ (eqb i 0 || ltb last start) → r ≡ (rise && later) → r ≡ starts_rise (tabulate (i + 1) f)
-  rise_next i last start rise later r a b c d e =
-      e ∙ rw (d, a, b, c)
+  pub rise_next : (i last start : ℕ) (rise r : Bool) → rise ≡ starts_rise (tabulate i f) → last ≡ last_start (tabulate i f) → start ≡ (f i).start
+      → r ≡ (rise && (eqb i 0 || ltb last start)) → r ≡ starts_rise (tabulate (i + 1) f)
+  rise_next i last start rise r a b c e =
+      e ∙ rw (a, b, c)
       (sym (rw (add-one i, tabulate_snoc i f) (rise_snoc (tabulate i f) (f i) ∙ rw (length_tabulate i f))))
 
   pub last_next : (i start : ℕ) → start ≡ (f i).start → start ≡ last_start (tabulate (i + 1) f)

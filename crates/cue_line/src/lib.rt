@@ -1,52 +1,53 @@
 // Refusals 10 and 11 of the cues that are stored, in one pass.
 #![tactic(auto)]
 
-ghost use Rattle.std.specs.Prelude.{◌≡◌, ◌||◌, ◌-◌, ◌<◌, ◌≤◌, eqb, ltb, leb};
+ghost use Rattle.std.specs.Prelude.{◌≡◌, ◌&&◌, ◌||◌, ◌-◌, ◌<◌, ◌≤◌, eqb, ltb, leb};
 ghost use Rattle.columns.specs.Common.{tabulate};
-ghost use Rattle.board.specs.Board.{Board, row_size, cue_at};
+ghost use Rattle.board.specs.Board.{Board, row_size, cue_at, refusal_of};
 ghost use Rattle.cue_line.specs.Line.{rows_fit, line_refusal};
+
+use board::Refusal;
 
 const MAX_ROW_LENGTH: u64 = 40;
 
-pub fn row_fits(length: u64) -> bool
-    ensures { result ≡ leb length row_size }
+pub fn lengths_fit(first: u64, second: u64) -> bool
+    ensures { result ≡ (leb first row_size && leb second row_size) }
 {
-    length <= MAX_ROW_LENGTH
+    first <= MAX_ROW_LENGTH && second <= MAX_ROW_LENGTH
 }
 
+#[tactic(auto, unfolding(crate::specs::Line::rows_fit))]
 fn rows_fit(b: &[u8], k: usize, i: usize) -> bool
     requires board { Board k b.now }
     requires i_lt_k { i < k }
     ensures { result ≡ rows_fit (cue_at k b.now i) }
 {
-    let first = board::first_length_at(b, k, i);
-    let second = board::second_length_at(b, k, i);
-    numbers::both(row_fits(first), row_fits(second))
+    lengths_fit(
+        board::first_length_at(b, k, i),
+        board::second_length_at(b, k, i),
+    )
 }
 
-// 10 comes before 11, wherever they are met: a start that is not later is kept in mind.
-pub fn stored_refusal(b: &[u8], k: usize, n: usize) -> u64
+// A long row comes before an early start, wherever they are met: a start that is not later is kept in mind.
+pub fn check_stored(b: &[u8], k: usize, n: usize) -> Result<(), Refusal>
     requires board { Board k b.now }
     requires n_le_k { n ≤ k }
-    ensures { result ≡ line_refusal (tabulate n (cue_at k b.now)) }
+    ensures { refusal_of result ≡ line_refusal (tabulate n (cue_at k b.now)) }
 {
     let mut rise = true;
     let mut last = 0;
-    let mut i = 0;
-    while i < n {
+    for i in 0..n {
         if !rows_fit(b, k, i) {
-            return 10;
+            return Err(Refusal::LongRow);
         }
         let start = board::start_at(b, k, i);
-        let later = numbers::either(i == 0, last < start);
-        rise = numbers::both(rise, later);
+        rise = rise && (i == 0 || last < start);
         last = start;
-        i += 1;
     }
     if rise {
-        return 0;
+        return Ok(());
     }
-    11
+    Err(Refusal::EarlyStart)
 }
 
 // Whether a cue that starts then starts later than the last of n that are stored.
@@ -55,8 +56,5 @@ pub fn starts_later(b: &[u8], k: usize, n: usize, start: u64) -> bool
     requires n_le_k { n ≤ k }
     ensures { result ≡ (eqb n 0 || ltb (cue_at k b.now (n - 1)).start start) }
 {
-    if n == 0 {
-        return true;
-    }
-    board::start_at(b, k, n - 1) < start
+    n == 0 || board::start_at(b, k, n - 1) < start
 }

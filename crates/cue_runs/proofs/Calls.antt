@@ -1,5 +1,5 @@
 -- Every call on a board of right sizes advances it. Assumes nothing.
-use Rattle.std.specs.Prelude.{if◌then◌else◌}
+use Rattle.std.specs.Prelude.{Option, Some, None, Result, Ok, Err, if◌then◌else◌}
 use mathlib.Core.Path.{◌≡◌, refl}
 use mathlib.Core.Bool.{true}
 use mathlib.Core.Logic.{inr}
@@ -17,8 +17,7 @@ use Rattle.board.specs.Board.{Cue, is_sized, row_size, row_place, put_number, ca
 use Rattle.slots.proofs.Rows.{length_padded}
 use Rattle.board.proofs.Sized.{sized_is}
 use Rattle.cues.specs.Add.{add_refusal, add}
-use Rattle.cues.specs.declared.Due.{Due}
-use Rattle.cues.specs.declared.Due.TheVariants.{Refused, Nothing, Slot}
+use Rattle.cues.specs.declared.Slot.{Slot}
 use Rattle.cues.specs.Due.{next_due}
 use Rattle.cues.proofs.Accepted.{Takes, takes, slot_due}
 use Rattle.cue_board.specs.Next.{Asked, the_cue, handed_if_woken, next_by}
@@ -53,12 +52,12 @@ module _ (b : List ℕ) (s : is_sized b ≡ true) where
     slot k i woken e f g =
         by_test (eqb woken.answer.refusal 0) (λ t. rw (e, f, t, read_is woken g) (gives_cue b s g)) (λ t. rw t (stays b s))
 
-    asked_by : (d : Due) → d ≡ next_due b time → Advance b (next_by b m cpu time d).board [] (handed_by (next_by b m cpu time d))
+    asked_by : (d : Result (Option Slot) ℕ) → d ≡ next_due b time → Advance b (next_by b m cpu time d).board [] (handed_by (next_by b m cpu time d))
     unfolding next_by
-    asked_by (Refused r) e = stays b s
-    asked_by Nothing e = stays b s
-    asked_by (Slot k i) e =
-        let d = slot_due b time k i e in slot k i (unblock_context_call m cpu time (cue_at k b i).writer) d.capacity_is d.slot_is d.waits
+    asked_by (Err r) e = stays b s
+    asked_by (Ok None) e = stays b s
+    asked_by (Ok (Some t)) e =
+        let d = slot_due b time t e in slot t.capacity t.index (unblock_context_call m cpu time (cue_at t.capacity b t.index).writer) d.capacity_is d.slot_is d.waits
 
   pub call_advances : (c : Call) → Words c → Advance b (after b c) (brought b c) (handed b c)
   unfolding after brought handed add

@@ -1,5 +1,5 @@
 -- What a free slot, or its refusal, says of an offered cue. Assumes nothing.
-use Rattle.std.specs.Prelude.{if◌then◌else◌}
+use Rattle.std.specs.Prelude.{Option, Some, None, Result, Ok, Err, if◌then◌else◌}
 use mathlib.Core.Path.{◌≡◌, refl, sym, ◌∙◌}
 use mathlib.Core.Bool.{true, false, not}
 use Prim.Native.Nat.{ℕ, ◌+◌, ◌<◌, ◌≤◌}
@@ -14,10 +14,8 @@ use Rattle.slots.specs.Slots.{put_cue}
 use Rattle.board.proofs.Sized.{sized_is}
 use Rattle.cue_line.specs.Line.{rows_fit, all_rows_fit, line_refusal, board_refusal}
 use Rattle.cues.specs.Add.{added, add_refusal, free_slot, with_cue, add}
-use Rattle.cues.specs.declared.Free.{Free}
-use Rattle.cues.specs.declared.Free.TheVariants.{Refused, Slot}
+use Rattle.cues.specs.declared.Slot.{Slot}
 use Rattle.cues.specs.Due.{next_cue, is_due, next_due}
-use Rattle.cues.specs.declared.Due.TheVariants.{Refused as DueRefused, Nothing as NoneDue, Slot as DueSlot}
 use Rattle.cue_line.proofs.Lined.{fit_snoc}
 use Rattle.cues.proofs.Offered.{Orderly, orderly}
 
@@ -56,83 +54,82 @@ takes b q e = by_test (eqb r 0) (λ t. yes (eqb-true r 0 t) (rw t at e)) (λ t. 
         in let t = and_both (leb q.first_length row_size) (leb q.second_length row_size) f.1
         in record { accepted = a; room = omega arith; first_fits = leb-true q.first_length row_size t.0; second_fits = leb-true q.second_length row_size t.1 }
 
--- f: what the code found
-module _ (b : List ℕ) (q : Cue) (f : Free) (e : f ≡ free_slot b q) where
-  pub add_refused : (r : ℕ) → f ≡ Refused r → added r b ≡ add b q
+-- what the code found: a refusal, or a slot
+module _ (b : List ℕ) (q : Cue) where
+  abbrev the_slot : Slot
+  the_slot = record { capacity = capacity b; index = stored b }
+
+  pub add_refused : (r : ℕ) → Err r ≡ free_slot b q → added r b ≡ add b q
   unfolding free_slot add
-  add_refused r g =
-      by_test (eqb (add_refusal b q) 0) (λ t. absurd (no (rw t at (sym g ∙ e)))) (λ t. yes t (rw t at (sym g ∙ e)))
+  add_refused r e = by_test (eqb (add_refusal b q) 0) (λ t. absurd (no (rw t at e))) (λ t. yes t (rw t at e))
     where
-      no : Refused r ≡ Slot (capacity b) (stored b) → ⊥
+      no : ◌≡◌ {A = Result Slot ℕ} (Err r) (Ok the_slot) → ⊥
       no p = let w : ◌≡◌ {A = ℕ} 0 1 = cc in omega arith
 
-      yes : eqb (add_refusal b q) 0 ≡ false → Refused r ≡ Refused (add_refusal b q) → added r b ≡ add b q
+      yes : eqb (add_refusal b q) 0 ≡ false → ◌≡◌ {A = Result Slot ℕ} (Err r) (Err (add_refusal b q)) → added r b ≡ add b q
       yes t p = let w : r ≡ add_refusal b q = cc in rw (w, t)
 
   -- what a free slot says
-  record IsFree (k n : ℕ) : Type 0 where
+  record IsFree (s : Slot) : Type 0 where
     pub none : add_refusal b q ≡ 0
-    pub capacity_is : k ≡ capacity b
-    pub stored_is : n ≡ stored b
+    pub capacity_is : s.capacity ≡ capacity b
+    pub stored_is : s.index ≡ stored b
 
-  is_free : (k n : ℕ) → f ≡ Slot k n → IsFree k n
+  is_free : (s : Slot) → Ok s ≡ free_slot b q → IsFree s
   unfolding free_slot
-  is_free k n g =
-      by_test (eqb (add_refusal b q) 0) (λ t. yes (eqb-true (add_refusal b q) 0 t) (rw t at (sym g ∙ e))) (λ t. absurd (no (rw t at (sym g ∙ e))))
+  is_free s e = by_test (eqb (add_refusal b q) 0) (λ t. yes (eqb-true (add_refusal b q) 0 t) (rw t at e)) (λ t. absurd (no (rw t at e)))
     where
-      no : Slot k n ≡ Refused (add_refusal b q) → ⊥
+      no : ◌≡◌ {A = Result Slot ℕ} (Ok s) (Err (add_refusal b q)) → ⊥
       no p = let w : ◌≡◌ {A = ℕ} 0 1 = cc in omega arith
 
-      yes : add_refusal b q ≡ 0 → Slot k n ≡ Slot (capacity b) (stored b) → IsFree k n
-      yes t p = record { none = t; capacity_is = cc; stored_is = cc }
+      yes : add_refusal b q ≡ 0 → ◌≡◌ {A = Result Slot ℕ} (Ok s) (Ok the_slot) → IsFree s
+      yes t p = let w : s ≡ the_slot = cc in rw w (record { none = t; capacity_is = refl; stored_is = refl })
 
-  module _ (k n : ℕ) (g : f ≡ Slot k n) where
-    pub free_board : Board k b
-    free_board = let i = is_free k n g in rw i.capacity_is (sized_is b (takes b q i.none).accepted.sized).board
+  module _ (s : Slot) (e : Ok s ≡ free_slot b q) where
+    pub free_board : Board s.capacity b
+    free_board = let i = is_free s e in rw i.capacity_is (sized_is b (takes b q i.none).accepted.sized).board
 
-    pub free_room : (n < k) × (q.first_length ≤ row_size) × (q.second_length ≤ row_size)
-    free_room = let i = is_free k n g in let t = takes b q i.none in rw (i.capacity_is, i.stored_is) (t.room, t.first_fits, t.second_fits)
+    pub free_room : (s.index < s.capacity) × (q.first_length ≤ row_size) × (q.second_length ≤ row_size)
+    free_room = let i = is_free s e in let t = takes b q i.none in rw (i.capacity_is, i.stored_is) (t.room, t.first_fits, t.second_fits)
 
-    pub add_stored : (b' : List ℕ) → b' ≡ put_number (put_cue k b n q) 8 (n + 1) → added 0 b' ≡ add b q
+    pub add_stored : (b' : List ℕ) → b' ≡ put_number (put_cue s.capacity b s.index q) 8 (s.index + 1) → added 0 b' ≡ add b q
     unfolding add with_cue
-    add_stored b' h = let i = is_free k n g in rw (i.none, ← i.capacity_is, ← i.stored_is, ← h)
+    add_stored b' h = let i = is_free s e in rw (i.none, ← i.capacity_is, ← i.stored_is, ← h)
 
--- the offered cue, from its parts; x and y: the lengths of its rows as the code has them
-pub found : (b first second : List ℕ) (start writer x y : ℕ) (f : Free) → ((q : Cue) → q.start ≡ start → q.first_length ≡ x → q.second_length ≡ y → f ≡ free_slot b q)
-    → x ≡ length first → y ≡ length second → f ≡ free_slot b (offered start writer first second)
+pub offered_room : (b first second : List ℕ) (start writer : ℕ) (s : Slot) → Ok s ≡ free_slot b (offered start writer first second)
+    → (s.index < s.capacity) × (length first ≤ row_size) × (length second ≤ row_size)
 unfolding offered
-found b first second start writer x y f h p q = h (offered start writer first second) refl (sym p) (sym q)
-
-pub offered_room : (b first second : List ℕ) (start writer : ℕ) (f : Free) → f ≡ free_slot b (offered start writer first second) → (k n : ℕ) → f ≡ Slot k n
-    → (n < k) × (length first ≤ row_size) × (length second ≤ row_size)
-unfolding offered
-offered_room b first second start writer f e k n g = free_room b (offered start writer first second) f e k n g
+offered_room b first second start writer s e = free_room b (offered start writer first second) s e
 
 -- what a slot that is due says
-pub record IsDue (b : List ℕ) (time k i : ℕ) : Type 0 where
+pub record IsDue (b : List ℕ) (time : ℕ) (s : Slot) : Type 0 where
   pub accepted : Accepts b (cues b)
-  pub capacity_is : k ≡ capacity b
-  pub slot_is : i ≡ handed_out b
+  pub capacity_is : s.capacity ≡ capacity b
+  pub slot_is : s.index ≡ handed_out b
   pub waits : handed_out b < stored b
 
-pub slot_due : (b : List ℕ) (time k i : ℕ) → DueSlot k i ≡ next_due b time → IsDue b time k i
-unfolding next_due is_due
-slot_due b time k i e =
-    by_test (eqb r 0) (λ t. yes (eqb-true r 0 t) (rw t at e)) (λ t. absurd (refused (rw t at e)))
-  where
-    r : ℕ
-    r = board_refusal b (cues b)
+module _ (b : List ℕ) (time : ℕ) where
+  abbrev due_slot : Slot
+  due_slot = record { capacity = capacity b; index = handed_out b }
 
-    refused : DueSlot k i ≡ DueRefused r → ⊥
-    refused p = let w : ◌≡◌ {A = ℕ} 0 1 = cc in omega arith
+  pub slot_due : (s : Slot) → Ok (Some s) ≡ next_due b time → IsDue b time s
+  unfolding next_due is_due
+  slot_due s e = by_test (eqb r 0) (λ t. yes (eqb-true r 0 t) (rw t at e)) (λ t. absurd (refused (rw t at e)))
+    where
+      r : ℕ
+      r = board_refusal b (cues b)
 
-    none : DueSlot k i ≡ NoneDue → ⊥
-    none p = let w : ◌≡◌ {A = ℕ} 0 1 = cc in omega arith
+      refused : ◌≡◌ {A = Result (Option Slot) ℕ} (Ok (Some s)) (Err r) → ⊥
+      refused p = let w : ◌≡◌ {A = ℕ} 0 1 = cc in omega arith
 
-    named : r ≡ 0 → is_due b time ≡ true → DueSlot k i ≡ DueSlot (capacity b) (handed_out b) → IsDue b time k i
-    named z t p =
-        let s = and_both (ltb (handed_out b) (stored b)) (leb (next_cue b).start time) t
-        in record { accepted = accepts b (cues b) z; capacity_is = cc; slot_is = cc; waits = ltb-true (handed_out b) (stored b) s.0 }
+      none : ◌≡◌ {A = Result (Option Slot) ℕ} (Ok (Some s)) (Ok None) → ⊥
+      none p = let w : ◌≡◌ {A = ℕ} 0 1 = cc in omega arith
 
-    yes : r ≡ 0 → DueSlot k i ≡ (if is_due b time then DueSlot (capacity b) (handed_out b) else NoneDue) → IsDue b time k i
-    yes z p = by_test (is_due b time) (λ t. named z t (rw t at p)) (λ t. absurd (none (rw t at p)))
+      named : r ≡ 0 → is_due b time ≡ true → ◌≡◌ {A = Result (Option Slot) ℕ} (Ok (Some s)) (Ok (Some due_slot)) → IsDue b time s
+      named z t p =
+          let l = and_both (ltb (handed_out b) (stored b)) (leb (next_cue b).start time) t
+          in let w : s ≡ due_slot = cc
+          in rw w (record { accepted = accepts b (cues b) z; capacity_is = refl; slot_is = refl; waits = ltb-true (handed_out b) (stored b) l.0 })
+
+      yes : r ≡ 0 → ◌≡◌ {A = Result (Option Slot) ℕ} (Ok (Some s)) (Ok (if is_due b time then Some due_slot else None)) → IsDue b time s
+      yes z p = by_test (is_due b time) (λ t. named z t (rw t at p)) (λ t. absurd (none (rw t at p)))

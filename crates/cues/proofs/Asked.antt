@@ -10,8 +10,7 @@ use Rattle.board.proofs.Sized.{IsRight}
 use Rattle.cue_line.specs.Line.{line_refusal, board_refusal}
 use Rattle.cues.specs.Add.{add_refusal, free_slot}
 use Rattle.cues.specs.Due.{is_due, next_due}
-use Rattle.cues.specs.declared.Due.TheVariants.{Refused, Nothing, Slot}
-use Rattle.cues.specs.declared.Free.TheVariants.{Refused as NotFree, Slot as FreeSlot}
+use Rattle.std.specs.Prelude.{Some, None, Ok, Err}
 
 -- sizes that are wrong
 module _ (b : List ℕ) (w : is_sized b ≡ false) where
@@ -19,11 +18,11 @@ module _ (b : List ℕ) (w : is_sized b ≡ false) where
   unfolding board_refusal
   wrong l = rw w
 
-  pub asked_wrong : (time : ℕ) → Refused 1 ≡ next_due b time
+  pub asked_wrong : (time : ℕ) → Err 1 ≡ next_due b time
   unfolding next_due
   asked_wrong time = rw (wrong (cues b))
 
-  pub offered_wrong : (q : Cue) → NotFree 1 ≡ free_slot b q
+  pub offered_wrong : (q : Cue) → Err 1 ≡ free_slot b q
   unfolding free_slot add_refusal
   offered_wrong q = rw (wrong (cues b ++ (q ∷ [])))
 
@@ -41,21 +40,21 @@ module _ (b : List ℕ) (k n h : ℕ) (o : IsRight b k n h) where
     refusal_is : board_refusal b (cues b) ≡ r
     refusal_is = right (cues b) ∙ sym (e ∙ ap line_refusal line_is)
 
-    pub asked_refused : (r ≡ 0 → ⊥) → Refused r ≡ next_due b time
+    pub asked_refused : (r ≡ 0 → ⊥) → Err r ≡ next_due b time
     unfolding next_due
     asked_refused z = rw (refusal_is, ne_eqb r 0 z)
 
     module _ (z : r ≡ 0) where
-      pub all_handed : n ≤ h → Nothing ≡ next_due b time
+      pub all_handed : n ≤ h → Ok None ≡ next_due b time
       unfolding next_due is_due
       all_handed g = rw (refusal_is, eq-eqb r 0 z, ← o.stored_is, ← o.handed_is, le-ltb h n g)
 
       module _ (start : ℕ) (g : h < n) (s : start ≡ (cue_at k b h).start) where
-        pub not_yet : time < start → Nothing ≡ next_due b time
+        pub not_yet : time < start → Ok None ≡ next_due b time
         unfolding next_due is_due
         not_yet t = rw (refusal_is, eq-eqb r 0 z, ← o.stored_is, ← o.handed_is, lt-ltb h n g, ← o.capacity_is, ← s, lt-leb start time t)
 
-        pub now_due : start ≤ time → Slot k h ≡ next_due b time
+        pub now_due : start ≤ time → Ok (Some (record { capacity = k; index = h })) ≡ next_due b time
         unfolding next_due is_due
         now_due t = rw (refusal_is, eq-eqb r 0 z, ← o.stored_is, ← o.handed_is, lt-ltb h n g, ← o.capacity_is, ← s, le-leb start time t)
 
@@ -64,14 +63,14 @@ module _ (b : List ℕ) (k n h : ℕ) (o : IsRight b k n h) where
     offer_is : board_refusal b (cues b ++ (q ∷ [])) ≡ r
     offer_is = right (cues b ++ (q ∷ [])) ∙ sym (e ∙ ap (λ (l : List Cue). line_refusal (l ++ (q ∷ []))) line_is)
 
-    pub offer_refused : (r ≡ 0 → ⊥) → NotFree r ≡ free_slot b q
+    pub offer_refused : (r ≡ 0 → ⊥) → Err r ≡ free_slot b q
     unfolding free_slot add_refusal
     offer_refused z = rw (offer_is, ne_eqb r 0 z, ne_eqb r 0 z)
 
-    pub board_full : r ≡ 0 → n ≡ k → NotFree 12 ≡ free_slot b q
+    pub board_full : r ≡ 0 → n ≡ k → Err 12 ≡ free_slot b q
     unfolding free_slot add_refusal
     board_full z g = rw (offer_is, eq-eqb r 0 z, ← o.stored_is, ← o.capacity_is, eq-eqb n k g)
 
-    pub slot_free : r ≡ 0 → (n ≡ k → ⊥) → FreeSlot k n ≡ free_slot b q
+    pub slot_free : r ≡ 0 → (n ≡ k → ⊥) → Ok (record { capacity = k; index = n }) ≡ free_slot b q
     unfolding free_slot add_refusal
     slot_free z g = rw (offer_is, eq-eqb r 0 z, ← o.stored_is, ← o.capacity_is, ne_eqb n k g)

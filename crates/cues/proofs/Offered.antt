@@ -37,18 +37,18 @@ later_is n start f =
     (λ t. let z : n ≡ 0 → ⊥ = eqb-false n 0 t in rw (length_tabulate n f, t, last_at f n (omega arith)))
 
 -- the tests of the code: fits, of the two lengths; later, of the start
-module _ (n : ℕ) (f : ℕ → Cue) (start first second : ℕ) (q : Cue) (a : q.start ≡ start) (b : q.first_length ≡ first) (c : q.second_length ≡ second) where
-  rows_are : (fits x y : Bool) → x ≡ leb first row_size → y ≡ leb second row_size → fits ≡ (x && y) → rows_fit q ≡ fits
+module _ (n : ℕ) (f : ℕ → Cue) (start first second : ℕ) (q : Cue) (a : q.start ≡ start) (b : q.first_length ≡ first) (c : q.second_length ≡ second) (fits : Bool) (g : fits ≡ (leb first row_size && leb second row_size)) where
+  rows_are : rows_fit q ≡ fits
   unfolding rows_fit
-  rows_are fits x y d e g = rw (b, c) (sym (g ∙ rw (d, e)))
+  rows_are = rw (b, c) (sym g)
 
-  pub offered_long : (fits x y : Bool) → x ≡ leb first row_size → y ≡ leb second row_size → fits ≡ (x && y) → fits ≡ false → 10 ≡ line_refusal (tabulate n f ++ (q ∷ []))
+  pub offered_long : fits ≡ false → 10 ≡ line_refusal (tabulate n f ++ (q ∷ []))
   unfolding line_refusal
-  offered_long fits x y d e g z = rw (fit_snoc (tabulate n f) q ∙ and_no (all_rows_fit (tabulate n f)) (rows_fit q) (rows_are fits x y d e g ∙ z))
+  offered_long z = rw (fit_snoc (tabulate n f) q ∙ and_no (all_rows_fit (tabulate n f)) (rows_fit q) (rows_are ∙ z))
 
-  module _ (fits x y : Bool) (d : x ≡ leb first row_size) (e : y ≡ leb second row_size) (g : fits ≡ (x && y)) (z : fits ≡ true) (r : ℕ) (s : r ≡ line_refusal (tabulate n f)) where
+  module _ (z : fits ≡ true) (r : ℕ) (s : r ≡ line_refusal (tabulate n f)) where
     fit_with : all_rows_fit (tabulate n f ++ (q ∷ [])) ≡ (all_rows_fit (tabulate n f) && true)
-    fit_with = fit_snoc (tabulate n f) q ∙ ap (λ (t : Bool). all_rows_fit (tabulate n f) && t) (rows_are fits x y d e g ∙ z)
+    fit_with = fit_snoc (tabulate n f) q ∙ ap (λ (t : Bool). all_rows_fit (tabulate n f) && t) (rows_are ∙ z)
 
     pub stored_refused : (r ≡ 0 → ⊥) → r ≡ line_refusal (tabulate n f ++ (q ∷ []))
     unfolding line_refusal

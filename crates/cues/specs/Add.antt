@@ -1,10 +1,9 @@
 -- Adding a cue: its refusal, and every byte of the board after. Assumes nothing.
-use Rattle.std.specs.Prelude.{ℕ, ◌+◌, List, [], ◌∷◌, ◌++◌, eqb, if◌then◌else◌}
+use Rattle.std.specs.Prelude.{Result, Ok, Err, ℕ, ◌+◌, List, [], ◌∷◌, ◌++◌, eqb, if◌then◌else◌}
 use Rattle.board.specs.Board.{Cue, capacity, stored, put_number, cues}
 use Rattle.slots.specs.Slots.{put_cue}
 use Rattle.cue_line.specs.Line.{board_refusal}
-use Rattle.cues.specs.declared.Free.{Free}
-use Rattle.cues.specs.declared.Free.TheVariants.{Refused, Slot}
+use Rattle.cues.specs.declared.Slot.{Slot}
 
 pub record Added : Type 0 where
   pub refusal : ℕ
@@ -20,8 +19,8 @@ add_refusal b q =
     if eqb r 0 then (if eqb (stored b) (capacity b) then 12 else 0) else r
 
 -- the refusal, or the board's capacity and its first free slot
-unfoldable pub free_slot : List ℕ → Cue → Free
-free_slot b q = if eqb (add_refusal b q) 0 then Slot (capacity b) (stored b) else Refused (add_refusal b q)
+unfoldable pub free_slot : List ℕ → Cue → Result Slot ℕ
+free_slot b q = if eqb (add_refusal b q) 0 then Ok (record { capacity = capacity b; index = stored b }) else Err (add_refusal b q)
 
 -- q in the first free slot, and one more stored
 unfoldable pub with_cue : List ℕ → Cue → List ℕ

@@ -3,109 +3,86 @@
 
 ghost use Rattle.std.specs.Prelude.{◌≡◌, [], ◌∷◌, ◌++◌, ◌+◌, ◌<◌, ◌≤◌, length};
 ghost use Rattle.columns.specs.Common.{tabulate};
-ghost use Rattle.board.specs.Board.{Board, Cue, row_size, offered, cue_at, put_number};
-ghost use Rattle.slots.specs.Slots.{put_cue};
+ghost use Rattle.board.specs.Board.{Board, row_size, refusal_of, numbered, cue_at, put_number};
+ghost use Rattle.slots.specs.Slots.{cue_of, put_cue};
 ghost use Rattle.cue_line.specs.Line.{line_refusal};
 ghost use Rattle.cues.specs.Add.{free_slot, added, add};
 ghost use Rattle.cues.specs.Due.{next_due};
 
-use board::Sizes;
+use board::Refusal;
+use slots::Offer;
 
-// What offering a cue comes to: a refusal, or the board's capacity and its first free slot.
+// A place on a board: how many cues the board holds, and the number of one.
 #[derive(Clone, Copy)]
-pub enum Free {
-    Refused(u64),
-    Slot(usize, usize),
+pub struct Slot {
+    pub capacity: usize,
+    pub index: usize,
 }
 
-// What asking at a time comes to: a refusal, no cue, or the board's capacity and the slot of one.
-#[derive(Clone, Copy)]
-pub enum Due {
-    Refused(u64),
-    Nothing,
-    Slot(usize, usize),
-}
-
-// Refusals 10 and 11 of n stored cues and one that is offered.
-fn offered_refusal(b: &[u8], k: usize, n: usize, start: u64, first: u64, second: u64) -> u64
+// Of n stored cues and one that is offered.
+fn check_offered(b: &[u8], k: usize, n: usize, q: Offer) -> Result<(), Refusal>
     requires board { Board k b.now }
     requires n_le_k { n ≤ k }
-    ensures { (q : Cue) → q.start ≡ start → q.first_length ≡ first → q.second_length ≡ second → result ≡ line_refusal (tabulate n (cue_at k b.now) ++ (q ∷ [])) }
+    ensures { refusal_of result ≡ line_refusal (tabulate n (cue_at k b.now) ++ (cue_of q.entry ∷ [])) }
 {
-    if !numbers::both(cue_line::row_fits(first), cue_line::row_fits(second)) {
-        return 10;
+    let first = numbers::word(q.first.len());
+    let second = numbers::word(q.second.len());
+    if !cue_line::lengths_fit(first, second) {
+        return Err(Refusal::LongRow);
     }
-    let number = cue_line::stored_refusal(b, k, n);
-    if number != 0 {
-        return number;
+    cue_line::check_stored(b, k, n)?;
+    if !cue_line::starts_later(b, k, n, q.start) {
+        return Err(Refusal::EarlyStart);
     }
-    if !cue_line::starts_later(b, k, n, start) {
-        return 11;
-    }
-    0
+    Ok(())
 }
 
-fn free_slot(b: &[u8], start: u64, first: u64, second: u64) -> Free
-    ensures { (q : Cue) → q.start ≡ start → q.first_length ≡ first → q.second_length ≡ second → result ≡ free_slot b.now q }
+// The first free slot, for that cue.
+fn free_slot(b: &[u8], q: Offer) -> Result<Slot, Refusal>
+    ensures { numbered result ≡ free_slot b.now (cue_of q.entry) }
 {
-    let s = board::sizes_of(b);
-    let Sizes::Right(k, n, _) = s else {
-        return Free::Refused(1);
-    };
-    let refusal = offered_refusal(b, k, n, start, first, second);
-    if refusal != 0 {
-        return Free::Refused(refusal);
+    let s = board::sizes_of(b)?;
+    check_offered(b, s.capacity, s.stored, q)?;
+    if s.stored == s.capacity {
+        return Err(Refusal::FullBoard);
     }
-    if n == k {
-        return Free::Refused(12);
-    }
-    Free::Slot(k, n)
+    Ok(Slot {
+        capacity: s.capacity,
+        index: s.stored,
+    })
 }
 
-pub fn next_due(b: &[u8], time: u64) -> Due
-    ensures { result ≡ next_due b.now time }
+// The slot of the cue that is due at that time, if one is.
+pub fn next_due(b: &[u8], time: u64) -> Result<Option<Slot>, Refusal>
+    ensures { numbered result ≡ next_due b.now time }
 {
-    let s = board::sizes_of(b);
-    let Sizes::Right(k, n, h) = s else {
-        return Due::Refused(1);
-    };
-    let number = cue_line::stored_refusal(b, k, n);
-    if number != 0 {
-        return Due::Refused(number);
+    let s = board::sizes_of(b)?;
+    cue_line::check_stored(b, s.capacity, s.stored)?;
+    if s.stored <= s.handed_out {
+        return Ok(None);
     }
-    if n <= h {
-        return Due::Nothing;
+    if time < board::start_at(b, s.capacity, s.handed_out) {
+        return Ok(None);
     }
-    if time < board::start_at(b, k, h) {
-        return Due::Nothing;
-    }
-    Due::Slot(k, h)
+    Ok(Some(Slot {
+        capacity: s.capacity,
+        index: s.handed_out,
+    }))
 }
 
-fn store(b: &mut [u8], k: usize, n: usize, start: u64, writer: u64, first: &[u8], second: &[u8])
-    requires board { Board k b.old }
-    requires n_lt_k { (n < k) × (length first.now ≤ row_size) × (length second.now ≤ row_size) }
-    ensures { b.new ≡ put_number (put_cue k b.old n (offered start writer first.now second.now)) 8 (n + 1) }
+fn store(b: &mut [u8], s: Slot, q: Offer)
+    requires board { Board s.capacity b.old }
+    requires n_lt_k { (s.index < s.capacity) × (length q.first.now ≤ row_size) × (length q.second.now ≤ row_size) }
+    ensures { b.new ≡ put_number (put_cue s.capacity b.old s.index (cue_of q.entry)) 8 (s.index + 1) }
 {
-    slots::put_cue(b, k, n, start, writer, first, second);
-    board::put_number(b, board::places::STORED, numbers::word(n + 1));
+    slots::put_cue(b, s.capacity, s.index, q);
+    board::put_number(b, board::places::STORED, numbers::word(s.index + 1));
 }
 
-// 0, or the refusal.
-pub fn add(b: &mut [u8], start: u64, writer: u64, first: &[u8], second: &[u8]) -> u64
-    ensures { added result b.new ≡ add b.old (offered start writer first.now second.now) }
+pub fn add(b: &mut [u8], q: Offer) -> Result<(), Refusal>
+    ensures { added (refusal_of result) b.new ≡ add b.old (cue_of q.entry) }
 {
-    let f = free_slot(
-        b,
-        start,
-        numbers::word(first.len()),
-        numbers::word(second.len()),
-    );
-    match f {
-        Free::Refused(number) => number,
-        Free::Slot(k, n) => {
-            store(b, k, n, start, writer, first, second);
-            0
-        }
-    }
+    let s = free_slot(b, q)?;
+    store(b, s, q);
+    Ok(())
 }

@@ -1,6 +1,6 @@
 // The words of an input, 64 bits each, lowest byte first.
 ghost use Rattle.std.specs.Prelude.{◌≡◌, ◌+◌, ◌*◌, ◌≤◌, length};
-ghost use Rattle.decide.specs.Input.{half_at, word_at, head_of, image_words, max_byte, max_half, GivesOver};
+ghost use Rattle.decide.specs.Input.{word_at, head_of, image_words, GivesOver};
 
 use std::io::Read;
 
@@ -12,46 +12,32 @@ pub struct Head {
     pub context: u64,
 }
 
-fn wide(b: u8) -> u64
-    ensures { (result ≡ b) × (result ≤ max_byte) }
-{
-    b as u64
-}
-
-fn half(s: &[u8], at: usize) -> u64
-    requires { at + 4 ≤ length s.now }
-    ensures { (result ≡ half_at s.now at) × (result ≤ max_half) }
-{
-    let a = wide(s[at]);
-    let b = wide(s[at + 1]);
-    let c = wide(s[at + 2]);
-    let d = wide(s[at + 3]);
-    a + 256 * b + 65536 * c + 16777216 * d
-}
-
 fn word(s: &[u8], i: usize) -> u64
     requires { 8 * i + 8 ≤ length s.now }
     ensures { result ≡ word_at s.now i }
 {
     let at = 8 * i;
-    let low = half(s, at);
-    let high = half(s, at + 4);
-    low + 4294967296 * high
+    u64::from_le_bytes([
+        s[at],
+        s[at + 1],
+        s[at + 2],
+        s[at + 3],
+        s[at + 4],
+        s[at + 5],
+        s[at + 6],
+        s[at + 7],
+    ])
 }
 
 pub fn load_head(s: &[u8]) -> Head
     requires { 32 ≤ length s.now }
     ensures { result ≡ head_of s.now }
 {
-    let operation = word(s, 0);
-    let cpu = word(s, 1);
-    let time = word(s, 2);
-    let context = word(s, 3);
     Head {
-        operation,
-        cpu,
-        time,
-        context,
+        operation: word(s, 0),
+        cpu: word(s, 1),
+        time: word(s, 2),
+        context: word(s, 3),
     }
 }
 
@@ -60,10 +46,8 @@ pub fn load_image(s: &[u8], image: &mut [u64])
     requires { 32 + 8 * length image.old ≤ length s.now }
     ensures { image.new ≡ image_words s.now (length image.old) }
 {
-    let mut i = 0;
-    while i < image.len() {
-        image[i] = word(s, i + 4);
-        i += 1;
+    for (i, w) in image.iter_mut().enumerate() {
+        *w = word(s, i + 4);
     }
 }
 
@@ -73,6 +57,7 @@ pub fn read_on<R: Read>(reader: &mut R, space: &mut [u8]) -> usize
     ensures bytes { GivesOver (R.remaining reader.old) (R.remaining reader.new) result }
 {
     let mut over = 0;
+    // a reader may give bytes without end, so the turns are counted
     for _ in 0..u64::MAX {
         let got = reading::read_full(reader, space);
         if got == 0 {

@@ -37,6 +37,7 @@ fn run(
 }
 
 fn main(rt: HostRuntime) -> io::Result<()> {
+    // fixed memory: of an input of any length the first bytes are kept, the rest is only counted
     let mut bytes = [0u8; SPACE];
     let mut space = [0u8; SPACE];
     let mut image = [0u64; machine::MAX_IMAGE_SIZE + 1];

@@ -1,5 +1,5 @@
 // What the program prints, of a call and of an input: the five numbers that asking gives.
-ghost use Rattle.std.specs.Prelude.{◌≡◌, ◌+◌, ◌*◌, ◌≤◌, min, length};
+ghost use Rattle.std.specs.Prelude.{◌≡◌, ◌+◌, ◌*◌, ◌≤◌, length};
 ghost use Rattle.decide.specs.Input.{head_of, image_words};
 ghost use Rattle.decide.specs.Line.{call_line, line};
 ghost use Rattle.machine.specs.Encode.{max_image_size};
@@ -25,15 +25,6 @@ fn of_words(s: &[u8], image: &mut [u64]) -> Asked
     of_call(image, input::load_head(s))
 }
 
-fn least(a: usize, b: usize) -> usize
-    ensures { (result ≡ min a b) × (result ≤ a) × (result ≤ b) }
-{
-    if a < b {
-        return a;
-    }
-    b
-}
-
 // An image that is longer than any legal one is cut where it is still too long: its length refuses it.
 pub fn of_input(s: &[u8], over: usize, image: &mut [u64]) -> Asked
     requires { (over ≤ 7) × (max_image_size + 1 ≤ length image.old) }
@@ -46,6 +37,6 @@ pub fn of_input(s: &[u8], over: usize, image: &mut [u64]) -> Asked
     if (len % 8 + over) % 8 != 0 {
         return asked::refused(1);
     }
-    let n = least(len / 8 - 4, machine::MAX_IMAGE_SIZE + 1);
+    let n = (len / 8 - 4).min(machine::MAX_IMAGE_SIZE + 1);
     of_words(s, &mut image[0..n])
 }

@@ -3,22 +3,41 @@ use mathlib.Core.Path.{◌≡◌, refl}
 use mathlib.Core.Bool.{Bool, true, false, ◌&&◌, ◌||◌}
 use Prim.Native.Nat.{ℕ, ◌≤◌}
 use native.Mathlib.Omega.{arith}
+use Rattle.std.proofs.lemmas.Bool.Decides.{nat_tests}
+use Rattle.std.specs.Prelude.{Option, Some}
+use Rattle.std.specs.Ordering.{is_some_and, is_lt, partial_ordering_then}
+use Rattle.std.specs.declared.cmp.Ordering.{Ordering}
+use Rattle.std.specs.declared.cmp.Ordering.TheVariants.{Less, Equal, Greater}
+use mathlib.Core.Bool.{cond}
 use lib.Dec.{ltb, eqb}
 use borrow.Author.Tests.{ltb-true, eqb-true, lt-ltb, le-ltb, eq-eqb, ne_eqb}
 use Rattle.entries.specs.declared.Key.{Key}
 use Rattle.entries.specs.declared.Timer.{Timer}
 use Rattle.entries.specs.Order.{before, sooner}
 
--- `less || (same && next)`: where the first numbers are the same the rest decides, else they do
-pub rise_same : (x y : ℕ) (p : Bool) → x ≡ y → (ltb x y || (eqb x y && p)) ≡ p
-rise_same x y p h = rw (le-ltb x y (omega arith), eq-eqb x y h)
+-- what the library's order of rows of numbers says: where the first are the same the rest decides, else they do
+abbrev compared : Bool → Bool → Option Ordering
+compared less same = Some (cond less Less (cond same Equal Greater))
 
-pub fall_same : (x y : ℕ) (p : Bool) → x ≡ y → (ltb y x || (eqb x y && p)) ≡ p
-fall_same x y p h = rw (le-ltb y x (omega arith), eq-eqb x y h)
+last_lt : (l e : Bool) → is_some_and is_lt (compared l e) ≡ l
+last_lt true e = refl
+last_lt false true = refl
+last_lt false false = refl
 
-pub lex_apart : (l e p : Bool) → e ≡ false → (l || (e && p)) ≡ l
-lex_apart true e p h = refl
-lex_apart false e p h = rw h
+pub lt_of_two : (l e m f : Bool) → is_some_and is_lt (partial_ordering_then (compared l e) (compared m f)) ≡ (l || (e && m))
+lt_of_two true e m f = refl
+lt_of_two false true m f = last_lt m f
+lt_of_two false false m f = refl
+
+pub lt_of_three : (l e m f n g : Bool) → is_some_and is_lt (partial_ordering_then (partial_ordering_then (compared l e) (compared m f)) (compared n g)) ≡ (l || (e && (m || (f && n))))
+lt_of_three true e m f n g = refl
+lt_of_three false true true f n g = refl
+lt_of_three false true false true n g = last_lt n g
+lt_of_three false true false false n g = refl
+lt_of_three false false m f n g = refl
+
+pub same_swapped : (x y : ℕ) → eqb x y ≡ eqb y x
+same_swapped x y = grind (arith, nat_tests)
 
 lex_asym : (l l' e e' p p' : Bool) → (l ≡ true → (l' ≡ false) × (e' ≡ false)) → (e ≡ true → l' ≡ false) → (p ≡ true → p' ≡ false) → (l || (e && p)) ≡ true → (l' || (e' && p')) ≡ false
 lex_asym true l' e e' p p' f g k h = rw ((f refl).0, (f refl).1)

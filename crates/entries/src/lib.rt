@@ -19,7 +19,7 @@ pub struct Entry {
     pub context_ref: u64,
 }
 
-#[derive(Clone, Copy)]
+#[derive(Clone, Copy, PartialEq, Eq, PartialOrd, Ord)]
 pub struct Timer {
     pub wake: u64,
     pub context_ref: u64,
@@ -30,13 +30,7 @@ impl Key {
     pub fn before(self, other: Key) -> bool
         ensures { result ≡ before self other }
     {
-        if self.vd == other.vd {
-            if self.rem_slice == other.rem_slice {
-                return self.ctxt_id < other.ctxt_id;
-            }
-            return other.rem_slice < self.rem_slice;
-        }
-        self.vd < other.vd
+        (self.vd, other.rem_slice, self.ctxt_id) < (other.vd, self.rem_slice, other.ctxt_id)
     }
 }
 
@@ -45,19 +39,13 @@ impl Timer {
     pub fn sooner(self, other: Timer) -> bool
         ensures { result ≡ sooner self other }
     {
-        if self.wake == other.wake {
-            return self.context_ref < other.context_ref;
-        }
-        self.wake < other.wake
+        self < other
     }
 
     // The other one is of the same context and has another wake.
     pub fn supersedes(self, other: Timer) -> bool
         ensures { result ≡ superseded self other }
     {
-        if other.context_ref == self.context_ref {
-            return other.wake != self.wake;
-        }
-        false
+        other.context_ref == self.context_ref && other.wake != self.wake
     }
 }

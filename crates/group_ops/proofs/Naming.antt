@@ -1,5 +1,5 @@
 -- The refusal of a set of names, from the loop over its mask. Assumes nothing.
-use Rattle.std.specs.Prelude.{if◌then◌else◌}
+use Rattle.std.specs.Prelude.{None, Option, Some, Result}
 use mathlib.Core.Path.{◌≡◌, refl, sym, ap, ◌∙◌}
 use mathlib.Core.List.{List, [], ◌∷◌}
 use Prim.Native.Nat.{ℕ, ◌<◌, ◌≤◌}
@@ -9,20 +9,13 @@ use lib.ListN.{length}
 use borrow.Author.Tests.{eq-eqb, ne_eqb, lt-ltb, le-ltb, eqb-true, eqb-false}
 use Rattle.columns.specs.Common.{fold, All}
 use Rattle.columns.proofs.Tests.{by_test}
-use Rattle.cpu_set.specs.Members.{members, next_cpu, rest_cpus}
-use Rattle.cpu_set.proofs.Members.{members_step, members_none}
-use Rattle.machine.specs.declared.Lookup.{Lookup}
-use Rattle.machine.specs.declared.Lookup.TheVariants.{Live, Gone}
-use Rattle.machine.specs.declared.CpuLookup.{CpuLookup}
-use Rattle.machine.specs.declared.CpuLookup.TheVariants.{Present, Absent}
+use Rattle.cpu_set.specs.Members.{members}
 use Rattle.machine.specs.Machine.{Machine}
 use Rattle.machine.specs.Encode.{encode}
 use Rattle.machine.specs.LookUp.{look_up, get_percpu_block}
 use Rattle.machine.specs.Shape.{Fits, Image}
 use Rattle.machine.proofs.LookUps.{live}
-use Rattle.context_ops.specs.declared.named.Named.{Named}
 use Rattle.context_ops.specs.Named.{named, named_on, named_context}
-use Rattle.numbers.specs.Limits.{max_word}
 use Rattle.group_ops.specs.Group.{first_check, name_refusal, names_refusal}
 
 abbrev pub next_name : Machine → ℕ → ℕ → ℕ → ℕ
@@ -33,24 +26,18 @@ module _ (M : Machine) (cpu mask : ℕ) where
   abbrev pub Comes : (first rest : ℕ) → Type 0
   Comes first rest = fold (next_name M cpu) first (members rest) ≡ names_refusal M cpu (members mask)
 
-  pub names_start : Comes 0 mask
+  pub names_start : (rest : ℕ) → rest ≡ mask → Comes 0 rest
   unfolding names_refusal
-  names_start = refl
+  names_start rest e = ap (λ (y : ℕ). fold (next_name M cpu) 0 (members y)) e
 
-  pub names_next : (first rest x r first' rest' : ℕ) (who : Named) → 0 < rest → rest ≤ max_word → x ≡ next_cpu rest → who ≡ named M cpu x → r ≡ name_refusal who → first' ≡ first_check first r
-      → rest' ≡ rest_cpus rest → Comes first rest → Comes first' rest'
-  names_next first rest x r first' rest' who p b hx hw hr hf hs e =
-      let s = members_step rest p (omega arith)
-      in let f : first' ≡ next_name M cpu first (next_cpu rest) = hf ∙ ap (first_check first) (hr ∙ ap name_refusal (hw ∙ ap (named M cpu) hx))
-      in rw (f, hs) (sym (ap (fold (next_name M cpu) first) s) ∙ e)
+  pub names_next : (first rest x r first' rest' : ℕ) (who : Result (ℕ × ℕ) ℕ) → members rest ≡ x ∷ members rest' → who ≡ named M cpu x → r ≡ name_refusal who → first' ≡ first_check first r
+      → Comes first rest → Comes first' rest'
+  names_next first rest x r first' rest' who s hw hr hf e =
+      let f : first' ≡ next_name M cpu first x = hf ∙ ap (first_check first) (hr ∙ ap name_refusal hw)
+      in rw f (sym (ap (fold (next_name M cpu) first) s) ∙ e)
 
-  pub names_end : (first rest : ℕ) → rest ≡ 0 → Comes first rest → first ≡ names_refusal M cpu (members mask)
-  names_end first rest z e = sym (ap (fold (next_name M cpu) first) (ap members z ∙ members_none)) ∙ e
-
--- the loop over the mask: `rest` is left of it
-pub record NamesLeft (c n cpu mask first rest : ℕ) (m : List ℕ) : Type 0 where
-  pub few : rest ≤ mask
-  pub comes : (M : Machine) → m ≡ encode M → Fits c n M → Comes M cpu mask first rest
+  pub names_end : (first rest : ℕ) → members rest ≡ [] → Comes first rest → first ≡ names_refusal M cpu (members mask)
+  names_end first rest z e = sym (ap (fold (next_name M cpu) first) z) ∙ e
 
 -- the refusal that is checked first, as the code finds it
 module _ (a b : ℕ) where
@@ -79,15 +66,15 @@ neither a b e =
     (λ u. by_test (ltb a b) (λ v. absurd (eqb-false a 0 t (rw (t, u, v) at e))) (λ v. absurd (eqb-false b 0 u (rw (t, u, v) at e)))))
 
 -- a context without refusal is one of the machine's
-context_below : (M : Machine) (context k : ℕ) (l : Lookup) → l ≡ look_up M context → name_refusal (named_context M k l) ≡ 0 → context < length M.contexts
+context_below : (M : Machine) (context k : ℕ) (l : Option ℕ) → l ≡ look_up M context → name_refusal (named_context M k l) ≡ 0 → context < length M.contexts
 unfolding named_context name_refusal
-context_below M context k Gone e z = absurd (omega arith)
-context_below M context k (Live x) e z = let t = live M context x e in omega (arith, t.is, t.below)
+context_below M context k None e z = absurd (omega arith)
+context_below M context k (Some x) e z = let t = live M context x e in omega (arith, t.is, t.below)
 
-name_below : (M : Machine) (context : ℕ) (p : CpuLookup) → name_refusal (named_on M context p) ≡ 0 → context < length M.contexts
+name_below : (M : Machine) (context : ℕ) (p : Option ℕ) → name_refusal (named_on M context p) ≡ 0 → context < length M.contexts
 unfolding named_on name_refusal
-name_below M context Absent z = absurd (omega arith)
-name_below M context (Present k) z = context_below M context k (look_up M context) refl z
+name_below M context None z = absurd (omega arith)
+name_below M context (Some k) z = context_below M context k (look_up M context) refl z
 
 below_all : (M : Machine) (cpu r : ℕ) (xs : List ℕ) → fold (next_name M cpu) r xs ≡ 0 → (r ≡ 0) × All (λ (x : ℕ). x < length M.contexts) xs
 unfolding named

@@ -1,4 +1,5 @@
 -- Where every wake-up list has room for all names of a set, the set is woken. Assumes nothing.
+use Rattle.std.specs.Prelude.{None, Option, Some}
 use mathlib.Core.Path.{◌≡◌, refl, sym, ap, ◌∙◌}
 use mathlib.Core.Bool.{Bool, true, false, ◌||◌}
 use mathlib.Core.List.{List, [], ◌∷◌, ◌++◌}
@@ -16,8 +17,6 @@ use Rattle.cpu_set.specs.Members.{members}
 use Rattle.context.specs.Block.{unblocked}
 use Rattle.percpu.specs.Cpu.{Cpu}
 use Rattle.percpu.specs.Places.{local_count, ipi_count}
-use Rattle.machine.specs.declared.CpuLookup.{CpuLookup}
-use Rattle.machine.specs.declared.CpuLookup.TheVariants.{Present, Absent}
 use Rattle.machine.specs.Machine.{Machine, cpu_at, set_context, no_cpu}
 use Rattle.machine.specs.Encode.{encode, cpu_place}
 use Rattle.machine.specs.Outcome.{Outcome}
@@ -43,14 +42,14 @@ record Went (count : ℕ) (o : Outcome) : Type 0 where
 less_room : (count : ℕ) (p : Cpu) → HasRoom (suc count) p → HasRoom count p
 less_room count p h = record { local = omega (arith, h.local); ipi = omega (arith, h.ipi) }
 
-woken_goes : (count k x r : ℕ) (M : Machine) (p : CpuLookup) → Roomy (suc count) M → Went count (wakeup_on k x r M p)
+woken_goes : (count k x r : ℕ) (M : Machine) (p : Option ℕ) → Roomy (suc count) M → Went count (wakeup_on k x r M p)
 unfolding wakeup_on push_local push_ipi cpu_at
-woken_goes count k x r M Absent h =
+woken_goes count k x r M None h =
     record {
       room = lt-leb 64 (length (cpu_at M k).local_wakeup_list) (omega (arith, (h k).local));
       more = λ t. get_d_set M.cpus k t _ no_cpu (HasRoom count) (record { local = rw length-append (omega (arith, (h k).local)); ipi = omega (arith, (h k).ipi) }) (less_room count (cpu_at M t) (h t));
     }
-woken_goes count k x r M (Present u) h =
+woken_goes count k x r M (Some u) h =
     record {
       room = lt-leb 64 (length (cpu_at M u).ipi_context_wakeup_list) (omega (arith, (h u).ipi));
       more = λ t. get_d_set M.cpus u t _ no_cpu (HasRoom count) (record { local = omega (arith, (h u).local); ipi = rw length-append (omega (arith, (h u).ipi)) }) (less_room count (cpu_at M t) (h t));

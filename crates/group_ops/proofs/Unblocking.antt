@@ -1,5 +1,5 @@
 -- Unblocking one context, and one context more. Assumes nothing.
-use Rattle.std.specs.Prelude.{if◌then◌else◌}
+use Rattle.std.specs.Prelude.{if◌then◌else◌, None, Option, Some}
 use mathlib.Core.Path.{◌≡◌, refl, sym, ap, ◌∙◌}
 use mathlib.Core.Bool.{Bool, true, false, ◌||◌}
 use mathlib.Core.List.{List, [], ◌∷◌}
@@ -13,8 +13,6 @@ use Rattle.columns.proofs.Tests.{by_test}
 use Rattle.context.specs.declared.Context.{Context}
 use Rattle.context.specs.Status.{is_runnable}
 use Rattle.context.specs.Block.{unblocked}
-use Rattle.machine.specs.declared.CpuLookup.{CpuLookup}
-use Rattle.machine.specs.declared.CpuLookup.TheVariants.{Present, Absent}
 use Rattle.machine.specs.Machine.{Machine, context_at, cpu_at, set_context}
 use Rattle.machine.specs.Encode.{encode}
 use Rattle.machine.specs.LookUp.{get_percpu_block}
@@ -45,20 +43,20 @@ module _ (P : Outcome → Type 0) (k x : ℕ) (M : Machine) where
   by_unblock f g h =
       by_test (unblocked q).done (λ t. rw t f) (λ t. by_test (is_runnable q.status) (λ u. rw (t, u) g) (λ u. rw (t, u) h))
 
-woken_result : (k x r : ℕ) (M : Machine) (p : CpuLookup) → (wakeup_on k x r M p).result ≡ r
+woken_result : (k x r : ℕ) (M : Machine) (p : Option ℕ) → (wakeup_on k x r M p).result ≡ r
 unfolding wakeup_on
-woken_result k x r M Absent = refl
-woken_result k x r M (Present t) = refl
+woken_result k x r M None = refl
+woken_result k x r M (Some t) = refl
 
 pub result_small : (k x : ℕ) (M : Machine) → (unblock_context k x M).result ≤ 1
 unfolding wakeup_context
 result_small k x M =
     by_unblock (λ (o : Outcome). o.result ≤ 1) k x M (rw (woken_result k x 1) (omega arith)) (rw (woken_result k x 0) (omega arith)) (omega arith)
 
-woken_rule : (k x r : ℕ) (M : Machine) (p : CpuLookup) → (wakeup_on k x r M p).rule ≡ 0
+woken_rule : (k x r : ℕ) (M : Machine) (p : Option ℕ) → (wakeup_on k x r M p).rule ≡ 0
 unfolding wakeup_on
-woken_rule k x r M Absent = refl
-woken_rule k x r M (Present t) = refl
+woken_rule k x r M None = refl
+woken_rule k x r M (Some t) = refl
 
 -- nothing is decided
 pub unblock_rule : (k x : ℕ) (M : Machine) → (unblock_context k x M).rule ≡ 0
@@ -66,21 +64,21 @@ unfolding wakeup_context
 unblock_rule k x M = by_unblock (λ (o : Outcome). o.rule ≡ 0) k x M (woken_rule k x 1 _ _) (woken_rule k x 0 _ _) refl
 
 -- the CPU of a record's CPU word is one of the machine's
-other_below : {c n : ℕ} (k w t : ℕ) (M : Machine) → Fits c n M → Present t ≡ other_cpu k w M → t < c
+other_below : {c n : ℕ} (k w t : ℕ) (M : Machine) → Fits c n M → Some t ≡ other_cpu k w M → t < c
 unfolding other_cpu
 other_below {c} k w t M o e =
     by_test (eqb w 0) (λ f. no (rw f at e)) (λ f. by_test (eqb (w - 1) k) (λ g. no (rw (f, g) at e)) (λ g. below (rw (f, g) at e)))
   where
-    no : Present t ≡ Absent → t < c
+    no : Some t ≡ None → t < c
     no z = let y : ◌≡◌ {A = ℕ} 0 1 = cc in absurd (omega arith)
 
-    below : Present t ≡ get_percpu_block M (w - 1) → t < c
+    below : Some t ≡ get_percpu_block M (w - 1) → t < c
     below z = let p = present M (w - 1) t z in omega (arith, p.is, p.below, o.cpus)
 
-woken_fits : {c n : ℕ} (k x r w : ℕ) (M : Machine) (p : CpuLookup) → Fits c n M → k < c → x < n → p ≡ other_cpu k w M → (wakeup_on k x r M p).no_room ≡ false → Fits c n (wakeup_on k x r M p).machine
+woken_fits : {c n : ℕ} (k x r w : ℕ) (M : Machine) (p : Option ℕ) → Fits c n M → k < c → x < n → p ≡ other_cpu k w M → (wakeup_on k x r M p).no_room ≡ false → Fits c n (wakeup_on k x r M p).machine
 unfolding wakeup_on push_local push_ipi
-woken_fits {n = n} k x r w M Absent o h b e z = fits_cpu M k _ o (fits_local n x (cpu_at M k) b (leb-false 64 _ z) (o.cpu k h))
-woken_fits {n = n} k x r w M (Present t) o h b e z =
+woken_fits {n = n} k x r w M None o h b e z = fits_cpu M k _ o (fits_local n x (cpu_at M k) b (leb-false 64 _ z) (o.cpu k h))
+woken_fits {n = n} k x r w M (Some t) o h b e z =
     fits_cpu M t _ o (fits_ipi n x (cpu_at M t) b (leb-false 64 _ z) (o.cpu t (other_below k w t M o e)))
 
 pub unblock_fits : {c n : ℕ} (k x : ℕ) (M : Machine) → Fits c n M → k < c → x < n → (unblock_context k x M).no_room ≡ false → Fits c n (unblock_context k x M).machine

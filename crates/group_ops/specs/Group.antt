@@ -1,16 +1,12 @@
 -- `unblock_group`: operation 4 for every context of a set, or for none. Assumes nothing.
-use Rattle.std.specs.Prelude.{◌≡◌, Bool, true, false, ◌||◌, List, ℕ, ◌+◌, ltb, eqb, if◌then◌else◌}
+use Rattle.std.specs.Prelude.{◌≡◌, Bool, true, false, ◌||◌, List, ℕ, ◌+◌, ltb, eqb, if◌then◌else◌, None, Option, Some, Err, Ok, Result}
 use Rattle.columns.specs.Common.{mark, fold}
 use Rattle.cpu_set.specs.Members.{members}
 use Rattle.answer.specs.declared.Answer.{Answer}
-use Rattle.machine.specs.declared.CpuLookup.{CpuLookup}
-use Rattle.machine.specs.declared.CpuLookup.TheVariants.{Present, Absent}
 use Rattle.machine.specs.Machine.{Machine}
 use Rattle.machine.specs.Encode.{encode}
 use Rattle.machine.specs.LookUp.{get_percpu_block}
 use Rattle.machine.specs.Outcome.{Outcome, finished}
-use Rattle.context_ops.specs.declared.named.Named.{Named}
-use Rattle.context_ops.specs.declared.named.Named.TheVariants.{Refused, Found}
 use Rattle.context_ops.specs.Named.{named}
 use Rattle.context_ops.specs.Operations.{unblock_context}
 use Rattle.context_ops.specs.Reply.{Reply, refuse, replied}
@@ -22,9 +18,9 @@ first_check a b =
     if eqb b 0 then a else
     if ltb a b then a else b
 
-unfoldable pub name_refusal : Named → ℕ
-name_refusal (Refused r) = r
-name_refusal (Found k x) = 0
+unfoldable pub name_refusal : Result (ℕ × ℕ) ℕ → ℕ
+name_refusal (Err r) = r
+name_refusal (Ok (k, x)) = 0
 
 -- by the check first, by the context second: 5 if any of them is gone or not below N, else 6 if any is locked
 unfoldable pub names_refusal : Machine → (cpu : ℕ) → List ℕ → ℕ
@@ -45,9 +41,9 @@ also_unblock k o x =
 unfoldable pub unblock_each : (k : ℕ) → List ℕ → Machine → Outcome
 unblock_each k xs M = fold (also_unblock k) (finished 0 M) xs
 
-unfoldable pub group_on : List ℕ → Machine → (cpu : ℕ) → List ℕ → CpuLookup → Reply
-group_on m M cpu xs Absent = refuse 5 m
-group_on m M cpu xs (Present k) =
+unfoldable pub group_on : List ℕ → Machine → (cpu : ℕ) → List ℕ → Option ℕ → Reply
+group_on m M cpu xs None = refuse 5 m
+group_on m M cpu xs (Some k) =
     if eqb (names_refusal M cpu xs) 0 then replied m (unblock_each k xs M) else refuse (names_refusal M cpu xs) m
 
 -- the contexts that the mask names, by rising number

@@ -12,10 +12,10 @@ ghost use Rattle.machine.specs.Encode.{encode};
 ghost use Rattle.machine.specs.Shape.{Image, Fits};
 ghost use Rattle.context_ops.specs.Reply.{reply, replied};
 ghost use Rattle.group_ops.specs.Group.{first_check, name_refusal, names_refusal, unblock_each, unblock_group, Unblocked};
+ghost use Rattle.refusal.specs.Number.{numbered};
 
 use answer::Answer;
-use context_ops::Named;
-use machine::CpuLookup;
+use refusal::{Refusal, refused};
 
 fn first_check(a: u64, b: u64) -> u64
     ensures { result ≡ first_check a b }
@@ -32,12 +32,12 @@ fn first_check(a: u64, b: u64) -> u64
     b
 }
 
-fn name_refusal(who: Named) -> u64
-    ensures { result ≡ name_refusal who }
+fn name_refusal(who: Result<(usize, usize), Refusal>) -> u64
+    ensures { result ≡ name_refusal (numbered who) }
 {
     match who {
-        Named::Refused(number) => number,
-        Named::Found(_, _) => 0,
+        Err(refusal) => refusal.into(),
+        Ok((_, _)) => 0,
     }
 }
 
@@ -47,11 +47,9 @@ fn names_refusal(m: &[u64], c: usize, n: usize, cpu: u64, mask: u64) -> u64
     ensures { (M : Machine) → m.now ≡ encode M → Fits c n M → result ≡ names_refusal M cpu (members mask) }
 {
     let mut first = 0;
-    let mut rest = mask;
-    while rest != 0 {
-        let who = context_ops::resolve(m, c, n, cpu, cpu_set::next(rest));
+    for x in cpu_set::iter(mask) {
+        let who = context_ops::resolve(m, c, n, cpu, x);
         first = first_check(first, name_refusal(who));
-        rest = cpu_set::rest(rest);
     }
     first
 }
@@ -64,16 +62,14 @@ fn unblock_each(m: &mut [u64], c: usize, n: usize, k: usize, mask: u64) -> Answe
     ensures { (M : Machine) → m.old ≡ encode M → Fits c n M → Unblocked m.new result (unblock_each k (members mask) M) }
 {
     let mut count = 0;
-    let mut interrupt = 0;
-    let mut rest = mask;
-    while rest != 0 {
-        let a = context_ops::unblock(m, c, n, k, numbers::index(cpu_set::next(rest)));
+    let mut interrupt = 0u64;
+    for x in cpu_set::iter(mask) {
+        let a = context_ops::unblock(m, c, n, k, numbers::index(x));
         if a.refusal != 0 {
             return a;
         }
         count += a.result;
-        interrupt = numbers::max(interrupt, a.interrupt);
-        rest = cpu_set::rest(rest);
+        interrupt = interrupt.max(a.interrupt);
     }
     Answer {
         refusal: 0,
@@ -96,7 +92,7 @@ fn with_copy(m: &mut [u64], c: usize, n: usize, k: usize, mask: u64) -> Answer
     let a = unblock_each(m, c, n, k, mask);
     if a.refusal != 0 {
         words::copy(&saved, m, len);
-        return answer::refused(9);
+        return refused(Refusal::NoRoom);
     }
     a
 }
@@ -106,8 +102,8 @@ pub fn unblock_group(m: &mut [u64], c: usize, n: usize, cpu: u64, mask: u64) -> 
     ensures { (M : Machine) → m.old ≡ encode M → Fits c n M → reply result m.new ≡ unblock_group m.old M cpu mask }
 {
     let p = machine::get_percpu_block(m, c, n, cpu);
-    let CpuLookup::Present(k) = p else {
-        return answer::refused(5);
+    let Some(k) = p else {
+        return refused(Refusal::Name);
     };
     let number = names_refusal(m, c, n, cpu, mask);
     if number != 0 {

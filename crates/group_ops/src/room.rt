@@ -12,14 +12,12 @@ pub fn has_room(m: &[u64], c: usize, n: usize, count: u64) -> bool
     requires count_bound { count ≤ 64 }
     ensures { (M : Machine) → m.now ≡ encode M → Fits c n M → result ≡ true → (t : ℕ) → HasRoom count (cpu_at M t) }
 {
-    let mut t = 0;
-    while t < c {
+    for t in 0..c {
         let at = machine::cpu_place(n, t);
-        let most = numbers::max(m[at + places::LOCAL_COUNT], m[at + places::IPI_COUNT]);
+        let most = m[at + places::LOCAL_COUNT].max(m[at + places::IPI_COUNT]);
         if 64 < most + count {
             return false;
         }
-        t += 1;
     }
     true
 }

@@ -1,6 +1,6 @@
 -- What a decision adds to what grows up to the stealing. Assumes nothing.
+use Rattle.std.specs.Prelude.{None, Option, Some}
 use mathlib.Core.Path.{◌≡◌, refl}
-use mathlib.Core.Option.{Option, none, some}
 use Prim.Native.Nat.{ℕ, ◌+◌, ◌<◌, ◌≤◌}
 use native.Mathlib.Omega.{arith}
 use Rattle.percpu.specs.With.{cpu_v}
@@ -54,8 +54,8 @@ before_low time s f l = times_low time _ (served_low time (on_cpu count_switch s
 
 -- the scan, the clean-up and the choice
 taken_published : (w : Option ℕ) (s : State) → (taken_out w s).cpu.block.published_weight ≡ s.cpu.block.published_weight
-taken_published none s = refl
-taken_published (some x) s =
+taken_published None s = refl
+taken_published (Some x) s =
     pick (λ (u : State). u.cpu.block.published_weight ≡ s.cpu.block.published_weight) (at s x).has_queue_key (λ e. refl) (λ e. refl)
 
 chosen_published : {n t b : ℕ} (w : Choice) (f : Scan) (s : State) → Low n t b s → (chosen w f s).cpu.block.published_weight ≤ b

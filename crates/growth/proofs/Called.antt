@@ -1,5 +1,5 @@
 -- What an operation leaves of an image that is known to pass: the image as it was, or that of a machine of which P holds. Assumes nothing.
-use Rattle.std.specs.Prelude.{if◌then◌else◌}
+use Rattle.std.specs.Prelude.{if◌then◌else◌, None, Option, Some}
 use mathlib.Core.Path.{◌≡◌, refl}
 use mathlib.Core.Logic.{◌⊎◌, inl, inr}
 use mathlib.Core.Bool.{Bool, true, false}
@@ -12,10 +12,6 @@ use borrow.Author.Tests.{eqb-true}
 use Rattle.columns.proofs.Tests.{by_test}
 use Rattle.context.specs.declared.Status.{Status}
 use Rattle.context.specs.declared.Status.TheVariants.{Blocked, Stopped}
-use Rattle.machine.specs.declared.Lookup.{Lookup}
-use Rattle.machine.specs.declared.Lookup.TheVariants.{Live, Gone}
-use Rattle.machine.specs.declared.CpuLookup.{CpuLookup}
-use Rattle.machine.specs.declared.CpuLookup.TheVariants.{Present, Absent}
 use Rattle.machine.specs.Machine.{Machine, context_at, cpu_at}
 use Rattle.machine.specs.Encode.{encode}
 use Rattle.machine.specs.LookUp.{look_up, get_percpu_block}
@@ -58,10 +54,10 @@ module _ (P : Machine → Type 0) (c n : ℕ) (m : List ℕ) (M : Machine) (lc :
     below : cpu < c
     present : (cpu_at M cpu).block.present ≡ true
 
-  here : (k : ℕ) → Present k ≡ get_percpu_block M cpu → Here k
+  here : (k : ℕ) → Some k ≡ get_percpu_block M cpu → Here k
   here k h = let i = present M cpu k h in record { is = i.is; below = omega (arith, i.below); present = i.present }
 
-  live_name : (x : ℕ) → Live x ≡ look_up M context → LiveName n M.contexts x
+  live_name : (x : ℕ) → Some x ≡ look_up M context → LiveName n M.contexts x
   live_name x h = let i = live M context x h in rw i.is (record { below = omega (arith, i.below); live = i.alive })
 
   decided : operation < 4 → (call : Call) → TargetFormed n M.contexts call → (k : ℕ) → Here k → Leaves (decide_on m M k time call)
@@ -72,33 +68,33 @@ module _ (P : Machine → Type 0) (c n : ℕ) (m : List ℕ) (M : Machine) (lc :
       (λ y. rw y (after (outcome call cpu time M) (p.on_decision call o h.below h.present t (eqb-true (refusal call M cpu time) 0 y))))
       (λ y. rw y (inl refl)))
 
-  by : operation < 4 → (call : Call) → TargetFormed n M.contexts call → (l : CpuLookup) → l ≡ get_percpu_block M cpu → Leaves (decide_by m M time call l)
+  by : operation < 4 → (call : Call) → TargetFormed n M.contexts call → (l : Option ℕ) → l ≡ get_percpu_block M cpu → Leaves (decide_by m M time call l)
   unfolding decide_by
-  by o call t Absent h = inl refl
-  by o call t (Present k) h = decided o call t k (here k h)
+  by o call t None h = inl refl
+  by o call t (Some k) h = decided o call t k (here k h)
 
-  directly : operation < 4 → (l : Lookup) → l ≡ look_up M context → Leaves (direct_switch_by m M cpu time l)
+  directly : operation < 4 → (l : Option ℕ) → l ≡ look_up M context → Leaves (direct_switch_by m M cpu time l)
   unfolding direct_switch_by
-  directly o Gone h = inl refl
-  directly o (Live x) h = by o (by_direct_switch x) (live_name x h) (get_percpu_block M cpu) refl
+  directly o None h = inl refl
+  directly o (Some x) h = by o (by_direct_switch x) (live_name x h) (get_percpu_block M cpu) refl
 
-  on : (l : CpuLookup) → l ≡ get_percpu_block M cpu → Leaves (reply_on m (λ (k : ℕ). drain_ipi_context_wakeups k M) l)
+  on : (l : Option ℕ) → l ≡ get_percpu_block M cpu → Leaves (reply_on m (λ (k : ℕ). drain_ipi_context_wakeups k M) l)
   unfolding reply_on
-  on Absent h = inl refl
-  on (Present k) h = let i = here k h in rw i.is (after (drain_ipi_context_wakeups cpu M) (p.on_drain i.below i.present))
+  on None h = inl refl
+  on (Some k) h = let i = here k h in rw i.is (after (drain_ipi_context_wakeups cpu M) (p.on_drain i.below i.present))
 
   -- f: operation 4, 6 or 7
   module _ (f : ℕ → ℕ → Outcome) (g : (x : ℕ) → cpu < c → (cpu_at M cpu).block.present ≡ true → LiveName n M.contexts x → (f cpu x).no_room ≡ false → P (f cpu x).machine) where
-    to_context : (k : ℕ) → Here k → (l : Lookup) → l ≡ look_up M context → Leaves (reply_to m f (named_context M k l))
+    to_context : (k : ℕ) → Here k → (l : Option ℕ) → l ≡ look_up M context → Leaves (reply_to m f (named_context M k l))
     unfolding named_context reply_to
-    to_context k i Gone h = inl refl
-    to_context k i (Live x) h =
+    to_context k i None h = inl refl
+    to_context k i (Some x) h =
         rw i.is (by_test (eqb (context_at M.contexts x).lock 0) (λ t. rw t (after (f cpu x) (g x i.below i.present (live_name x h)))) (λ t. rw t (inl refl)))
 
-    to_cpu : (l : CpuLookup) → l ≡ get_percpu_block M cpu → Leaves (reply_to m f (named_on M context l))
+    to_cpu : (l : Option ℕ) → l ≡ get_percpu_block M cpu → Leaves (reply_to m f (named_on M context l))
     unfolding named_on reply_to
-    to_cpu Absent h = inl refl
-    to_cpu (Present k) h = to_context k (here k h) (look_up M context) refl
+    to_cpu None h = inl refl
+    to_cpu (Some k) h = to_context k (here k h) (look_up M context) refl
 
     to : Leaves (reply_to m f (named M cpu context))
     unfolding named

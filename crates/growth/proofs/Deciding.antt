@@ -1,9 +1,9 @@
 -- What a decision adds to what grows from the choice on. Assumes nothing.
+use Rattle.std.specs.Prelude.{None, Option, Some}
 use mathlib.Core.Path.{◌≡◌, refl, sym, subst}
 use mathlib.Core.Logic.{◌≢◌, ◌⊎◌, inl, inr}
 use mathlib.Core.Bool.{Bool, true, false}
 use mathlib.Core.List.{List}
-use mathlib.Core.Option.{Option, none, some}
 use Prim.Native.Nat.{ℕ, ◌+◌, ◌<◌, ◌≤◌}
 use native.Mathlib.Omega.{arith}
 use lib.Dec.{ltb, eqb}
@@ -66,8 +66,8 @@ none_published = refl
 -- whatever follows a state without room, the call finds none
 picked_full : (k time : ℕ) (was : Bool) (rule : Rule) (cpus : List Cpu) (o : Option ℕ) (s : State) → Full s → (after_schedule k time (picked_as time was rule cpus o s)).no_room ≡ true
 unfolding after_schedule picked_as switch_as hand_over
-picked_full k time was rule cpus none s h = h
-picked_full k time was rule cpus (some x) s h =
+picked_full k time was rule cpus None s h = h
+picked_full k time was rule cpus (Some x) s h =
     pick Full (eqb (hand_over time was x s).cpu.block.current_ctxt x) (λ t. h) (λ t. switch_to_full k time x (hand_over time was x s) h)
 
 module _ (c n : ℕ) (M : Machine) (W : WellFormed c n M) (F : Fits c n M) (k time : ℕ) (here : k < c) (is_present : (cpu_at M k).block.present ≡ true) (soon : time ≤ max_number)
@@ -113,7 +113,7 @@ module _ (c n : ℕ) (M : Machine) (W : WellFormed c n M) (F : Fits c n M) (k ti
   switched : (t' b' rule : ℕ) (s : State) (cpus : List Cpu) (w : Option ℕ) → length cpus ≡ c → Others c k t' b' cpus → WinnerFormed c n M.contexts w → Good s → Low n t' b' s
       → Ends (t' + time) b' (switch_as k time rule s cpus w)
   unfolding switch_as
-  switched t' b' rule s cpus none l o w g a =
+  switched t' b' rule s cpus None l o w g a =
       finished (t' + time) b' rule cpus 2 _ l (others_more (omega arith) (omega arith) o) (marked s (low_more (omega arith) (omega arith) a))
     where
       marked : (u : State) → Low n (t' + time) b' u → Low n (t' + time) b' (on_cpu (λ (p : Cpu). cpu_stats (stats_state Idle p.block.stats) p) u)
@@ -139,7 +139,7 @@ module _ (c n : ℕ) (M : Machine) (W : WellFormed c n M) (F : Fits c n M) (k ti
             };
             published = a.published;
           }
-  switched t' b' rule s cpus (some x) l o w g a =
+  switched t' b' rule s cpus (Some x) l o w g a =
       finished (t' + time) b' rule cpus 1 _ l (others_more (omega arith) (omega arith) o)
       (pick (Low n (t' + time) b') (eqb s.cpu.block.current_ctxt x) (λ z. low_more (omega arith) (omega arith) a)
       (λ z. switch_to_low n t' b' time k x s g.cpu.scalars.current.below w.below a))
@@ -147,10 +147,10 @@ module _ (c n : ℕ) (M : Machine) (W : WellFormed c n M) (F : Fits c n M) (k ti
   picked : (t' b' : ℕ) (was : Bool) (rule : Rule) (cpus : List Cpu) (w : Option ℕ) (s : State) → length cpus ≡ c → Others c k t' b' cpus → WinnerFormed c n M.contexts w → Good s → Low n t' b' s
       → Ends (t' + time + time) b' (after_schedule k time (picked_as time was rule cpus w s))
   unfolding after_schedule picked_as
-  picked t' b' was rule cpus none s l o w g a =
-      switched (t' + time) b' (rule_number rule) s cpus none l (others_more (omega arith) (omega arith) o) w g (low_more (omega arith) (omega arith) a)
-  picked t' b' was rule cpus (some x) s l o w g a =
-      switched (t' + time) b' (rule_number rule) (hand_over time was x s) cpus (some x) l (others_more (omega arith) (omega arith) o) w (hand_over_kept c n M.contexts time soon was x s w g)
+  picked t' b' was rule cpus None s l o w g a =
+      switched (t' + time) b' (rule_number rule) s cpus None l (others_more (omega arith) (omega arith) o) w g (low_more (omega arith) (omega arith) a)
+  picked t' b' was rule cpus (Some x) s l o w g a =
+      switched (t' + time) b' (rule_number rule) (hand_over time was x s) cpus (Some x) l (others_more (omega arith) (omega arith) o) w (hand_over_kept c n M.contexts time soon was x s w g)
       (hand_over_low n t' b' time was x s g.cpu.scalars.sched.below w.below a)
 
   -- whether it may be a stealing turn, by the words of the state s that no stage before the stealing changes

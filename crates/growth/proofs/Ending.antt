@@ -1,7 +1,7 @@
 -- What the end of a decision adds to what grows: the slice changes hands, the CPU switches. Assumes nothing.
+use Rattle.std.specs.Prelude.{None, Option, Some}
 use mathlib.Core.Path.{subst}
 use mathlib.Core.Bool.{Bool, true, false}
-use mathlib.Core.Option.{Option, none, some}
 use Prim.Native.Nat.{ℕ, ◌+◌, ◌<◌, ◌≤◌}
 use native.Mathlib.Omega.{arith}
 use lib.Dec.{eqb}
@@ -160,8 +160,8 @@ module _ (n t b time : ℕ) where
 
   -- a direct switch, if one is made
   abbrev pub MaybeLow : Option State → Type 0
-  MaybeLow none = Unit {0}
-  MaybeLow (some s) = Low n (t + time) b s
+  MaybeLow None = Unit {0}
+  MaybeLow (Some s) = Low n (t + time) b s
 
   module _ {c : ℕ} (k x : ℕ) (s : State) (f : s.cpu.block.current_ctxt < n) (i : x < n) (g : ContextFits c (at s x)) (l : Low n t b s) where
     by_result : (v : UpdateResult) → Good c t b v → MaybeLow (direct_switch_by k time x s v)

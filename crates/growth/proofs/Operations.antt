@@ -1,18 +1,17 @@
 -- Operations 4 to 7 add nothing to what grows. Assumes nothing.
+use Rattle.std.specs.Prelude.{None, Option, Some}
 use mathlib.Core.Path.{◌≡◌, refl, sym}
 use Prim.Native.Nat.{ℕ, ◌<◌, ◌≤◌}
 use native.Mathlib.Omega.{arith}
 use lib.ListN.{length}
 use Rattle.context.specs.declared.Context.{Context}
-use Rattle.context.specs.declared.Changed.{Changed}
+use Rattle.context.specs.Block.{Changed}
 use Rattle.context.specs.declared.Status.{Status}
 use Rattle.context.specs.declared.Status.TheVariants.{Runnable}
 use Rattle.context.specs.Status.{is_runnable, is_soft_blocked}
 use Rattle.context.specs.Block.{blocked_as, unblocked}
 use Rattle.context.specs.With.{with_status}
 use Rattle.percpu.specs.Cpu.{Cpu}
-use Rattle.machine.specs.declared.CpuLookup.{CpuLookup}
-use Rattle.machine.specs.declared.CpuLookup.TheVariants.{Present, Absent}
 use Rattle.machine.specs.Machine.{Machine, context_at, cpu_at, set_context, set_cpu, no_context, no_cpu}
 use Rattle.machine.specs.Outcome.{Outcome}
 use Rattle.machine.proofs.Steps.{get_d_set}
@@ -103,10 +102,10 @@ module _ (c n : ℕ) (b : Bounds) where
   unfolding drain_ipi_context_wakeups
   drain_within k M h r = lists_within k _ M h (record { block = refl; queue = refl; timers = refl }) r
 
-  wakeup_by : (k x r : ℕ) (M : Machine) → k < c → In M → (l : CpuLookup) → ((t : ℕ) → l ≡ Present t → t < c) → In (wakeup_on k x r M l).machine
+  wakeup_by : (k x r : ℕ) (M : Machine) → k < c → In M → (l : Option ℕ) → ((t : ℕ) → l ≡ Some t → t < c) → In (wakeup_on k x r M l).machine
   unfolding wakeup_on push_local push_ipi
-  wakeup_by k x r M h a Absent f = lists_within k _ M h (record { block = refl; queue = refl; timers = refl }) a
-  wakeup_by k x r M h a (Present t) f = lists_within t _ M (f t refl) (record { block = refl; queue = refl; timers = refl }) a
+  wakeup_by k x r M h a None f = lists_within k _ M h (record { block = refl; queue = refl; timers = refl }) a
+  wakeup_by k x r M h a (Some t) f = lists_within t _ M (f t refl) (record { block = refl; queue = refl; timers = refl }) a
 
   wakeup_within : (k x r : ℕ) (M : Machine) → length M.cpus ≡ c → k < c → In M → In (wakeup_context k x r M).machine
   unfolding wakeup_context

@@ -1,13 +1,12 @@
 -- What the advance of V and the holder's way back add to what grows. Assumes nothing.
-use Rattle.std.specs.Prelude.{if◌then◌else◌}
+use Rattle.std.specs.Prelude.{if◌then◌else◌, Option, is_some}
 use mathlib.Core.Path.{◌≡◌, refl}
 use mathlib.Core.Bool.{Bool, not, ◌&&◌, ◌||◌}
-use mathlib.Core.Option.{Option}
 use Prim.Native.Nat.{ℕ, ◌+◌, ◌<◌, ◌≤◌}
 use native.Mathlib.Omega.{arith}
 use native.Mathlib.Nat.{div-le_self}
 use lib.Dec.{eqb}
-use Rattle.model.specs.State.{State, on_cpu, is_some}
+use Rattle.model.specs.State.{State, on_cpu}
 use Rattle.model.specs.Steal.{Stealing, mark_stealable}
 use Rattle.model.specs.Handover.{advance, requeue, settled}
 use Rattle.model.proofs.Cases.{pick}

@@ -1,8 +1,8 @@
 -- What an operation of 1 to 3 adds to what grows. Assumes nothing.
+use Rattle.std.specs.Prelude.{None, Option, Some}
 use mathlib.Core.Path.{◌≡◌, refl}
 use mathlib.Core.Logic.{◌⊎◌}
 use mathlib.Core.Bool.{Bool, true, false}
-use mathlib.Core.Option.{Option, none, some}
 use Prim.Native.Nat.{ℕ, ◌+◌, ◌*◌, ◌<◌, ◌≤◌}
 use native.Mathlib.Omega.{arith}
 use lib.Dec.{ltb, eqb}
@@ -92,8 +92,8 @@ module _ (c n : ℕ) (M : Machine) (W : WellFormed c n M) (F : Fits c n M) (k ti
 
       inner_by : (d : Option State) → MaybeLow n t₁ b time d → Ends T B (switch_inner_by k time M.cpus s d)
       unfolding switch_inner_by
-      inner_by none d = scheduled
-      inner_by (some u) d = ended u d
+      inner_by None d = scheduled
+      inner_by (Some u) d = ended u d
 
       inner : Ends T B (switch_inner k time M.cpus s)
       unfolding switch_inner
@@ -103,8 +103,8 @@ module _ (c n : ℕ) (M : Machine) (W : WellFormed c n M) (F : Fits c n M) (k ti
 
       direct_or : (d : Option State) → MaybeLow n t₁ b time d → Ends T B (direct_switch_or k time M.cpus s d)
       unfolding direct_switch_or
-      direct_or none d = inner
-      direct_or (some u) d = ended u d
+      direct_or None d = inner
+      direct_or (Some u) d = ended u d
 
     ticked_low : Low n (t + 1) b (ticked (state_of k M))
     ticked_low =

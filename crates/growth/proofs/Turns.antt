@@ -1,16 +1,15 @@
 -- The bound of a turn, from the words that it is worked out by. Assumes nothing.
-use Rattle.std.specs.Prelude.{if◌then◌else◌}
+use Rattle.std.specs.Prelude.{if◌then◌else◌, Option, is_some}
 use mathlib.Core.Path.{◌≡◌, refl, ap, ◌∙◌}
 use mathlib.Core.Logic.{◌⊎◌, inl, inr}
 use mathlib.Core.Bool.{Bool, true, false, not, ◌&&◌}
-use mathlib.Core.Option.{Option}
 use Prim.Native.Nat.{ℕ, ◌-◌, ◌%◌, ◌<◌, ◌≤◌}
 use native.Mathlib.Omega.{arith}
 use lib.Dec.{ltb, eqb}
 use borrow.Author.Tests.{ltb-false, eqb-false, ne_eqb}
 use Rattle.ticks.specs.Ticks.{ticks, max_remainder}
 use Rattle.machine.specs.Machine.{Machine, context_at, cpu_at}
-use Rattle.model.specs.State.{State, state_of, is_some}
+use Rattle.model.specs.State.{State, state_of}
 use Rattle.model.specs.Steal.{idle_steal_interval, steal_interval, should_steal}
 use Rattle.model.specs.Accepted.{Call, by_tick, by_switch, by_direct_switch}
 use Rattle.model.proofs.Cases.{by_test, past}

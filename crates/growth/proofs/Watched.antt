@@ -1,8 +1,7 @@
 -- What a decision does not touch before the stealing: the words that a stealing turn goes by, and the weight that the CPU publishes up to the choice. Assumes nothing.
-use Rattle.std.specs.Prelude.{if◌then◌else◌}
+use Rattle.std.specs.Prelude.{if◌then◌else◌, None, Option, Some}
 use mathlib.Core.Path.{◌≡◌}
 use mathlib.Core.Bool.{Bool, true, false}
-use mathlib.Core.Option.{Option, none, some}
 use Prim.Native.Nat.{ℕ, ◌+◌, ◌≤◌, max}
 use native.Mathlib.Omega.{arith}
 use Rattle.weights.specs.Weights.{weight}
@@ -31,8 +30,8 @@ module _ (v : Watched) where
   Same s = watched s ≡ v
 
   back_same : (o : Option ℕ) (x : ℕ) (s : State) → Same s → Same (put_back o x s)
-  back_same none x s h = h
-  back_same (some t) x s h = h
+  back_same None x s h = h
+  back_same (Some t) x s h = h
 
   wake_same : (s : State) (w : Wakeup) (r : WakeupResult) → Same s → Same (wake_as s w r)
   unfolding wake_as enter
@@ -55,8 +54,8 @@ module _ (v : Watched) where
       pick Same (is_idle s) (λ t. h) (λ t. pick Same (is_runnable (holder s).status) (λ u. h) (λ u. pick Same (holder s).has_wake (λ w. h) (λ w. h)))
 
   taken_same : (o : Option ℕ) (s : State) → Same s → Same (taken_out o s)
-  taken_same none s h = h
-  taken_same (some x) s h = pick Same (at s x).has_queue_key (λ t. h) (λ t. h)
+  taken_same None s h = h
+  taken_same (Some x) s h = pick Same (at s x).has_queue_key (λ t. h) (λ t. h)
 
   pub chosen_same : (w : Choice) (f : Scan) (s : State) → Same s → Same (chosen w f s)
   unfolding chosen cleaned_up
@@ -68,8 +67,8 @@ module _ (b : ℕ) where
   Publishes s = s.cpu.block.published_weight ≤ max b s.cpu.block.total_weight
 
   back_publishes : (o : Option ℕ) (x : ℕ) (s : State) → Publishes s → Publishes (put_back o x s)
-  back_publishes none x s h = h
-  back_publishes (some t) x s h = h
+  back_publishes None x s h = h
+  back_publishes (Some t) x s h = h
 
   -- whether the context was active
   entered_publishes : (active : Bool) (p t n : ℕ) → p ≤ max b t → (if active then p else n) ≤ max b (if active then t else n)

@@ -115,6 +115,6 @@ pub fn call_bounds(
         return b;
     }
     let p = stages::load_block(m, c, n, k);
-    let elapsed = capped(numbers::saturating_sub(time, p.schedule_time));
+    let elapsed = capped(time.saturating_sub(p.schedule_time));
     after_turn(b, time, elapsed, may_steal(c, p))
 }

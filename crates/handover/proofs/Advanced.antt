@@ -1,7 +1,7 @@
 -- Virtual time, the stealable word and who comes next, in the code's words. Assumes nothing.
+use Rattle.std.specs.Prelude.{None, Option, Some, is_some}
 use mathlib.Core.Path.{◌≡◌, refl, subst}
 use mathlib.Core.Bool.{Bool, true, false, not, ◌&&◌, ◌||◌}
-use mathlib.Core.Option.{Option, none, some}
 use mathlib.Core.List.{List, [], ◌∷◌}
 use Prim.Native.Nat.{ℕ, ◌+◌, ◌/◌, ◌<◌, ◌≤◌}
 use native.Mathlib.Omega.{arith}
@@ -17,7 +17,7 @@ use Rattle.percpu.specs.With.{block_v, block_stealable, cpu_block}
 use Rattle.machine.specs.Machine.{Machine, cpu_at}
 use Rattle.machine.specs.Encode.{encode}
 use Rattle.machine.specs.Shape.{Fits}
-use Rattle.model.specs.State.{State, state_of, on_cpu, is_some}
+use Rattle.model.specs.State.{State, state_of, on_cpu}
 use Rattle.model.specs.Steal.{mark_stealable}
 use Rattle.stages.specs.Stage.{Staged, Ranged}
 use Rattle.stages.specs.Read.{BlockFits}
@@ -55,36 +55,36 @@ module _ {c n : ℕ} {m : List ℕ} (k : ℕ) (b : PercpuBlock) (hb : (M : Machi
   advanced_stored somebody ticks e t = stage_as t (λ M z o. (rw (e, hb M z o) (at_block somebody ticks (state_of k M)), λ a d. refl))
 
   -- the holder keeps the slice, or the idle context gets it
-  pub next_idle : (M : Machine) → m ≡ encode M → Fits c n M → (runs : Bool) → runs ≡ false → b.sched_ctxt ≡ b.idle_ctxt → none ≡ next_context runs none (state_of k M)
+  pub next_idle : (M : Machine) → m ≡ encode M → Fits c n M → (runs : Bool) → runs ≡ false → b.sched_ctxt ≡ b.idle_ctxt → None ≡ next_context runs None (state_of k M)
   unfolding next_context
   next_idle M z o runs e d =
       let y : eqb (cpu_at M k).block.sched_ctxt (cpu_at M k).block.idle_ctxt ≡ true = eq-eqb _ _ (rw (hb M z o) at d)
       in rw (e, y)
 
-  pub next_from : (x : ℕ) (M : Machine) → m ≡ encode M → Fits c n M → (runs : Bool) → runs ≡ false → (b.sched_ctxt ≡ b.idle_ctxt → ⊥) → x ≡ b.idle_ctxt → some x ≡ next_context runs none (state_of k M)
+  pub next_from : (x : ℕ) (M : Machine) → m ≡ encode M → Fits c n M → (runs : Bool) → runs ≡ false → (b.sched_ctxt ≡ b.idle_ctxt → ⊥) → x ≡ b.idle_ctxt → Some x ≡ next_context runs None (state_of k M)
   unfolding next_context
   next_from x M z o runs e d f =
       let y : eqb (cpu_at M k).block.sched_ctxt (cpu_at M k).block.idle_ctxt ≡ false = ne_eqb _ _ (rw (hb M z o) at d)
       in let w : x ≡ (cpu_at M k).block.idle_ctxt = rw (hb M z o) at f
       in rw (e, y, w)
 
-pub next_runs : (runs : Bool) (s : State) → runs ≡ true → none ≡ next_context runs none s
+pub next_runs : (runs : Bool) (s : State) → runs ≡ true → None ≡ next_context runs None s
 unfolding next_context
 next_runs runs s e = rw e
 
-pub next_won : (runs : Bool) (x : ℕ) (s : State) → some x ≡ next_context runs (some x) s
+pub next_won : (runs : Bool) (x : ℕ) (s : State) → Some x ≡ next_context runs (Some x) s
 unfolding next_context
 next_won runs x s = refl
 
 -- x is below n if the winner is
-pub next_below : {c n : ℕ} (M : Machine) (k : ℕ) → Fits c n M → k < c → (runs : Bool) (w : Option ℕ) → ((y : ℕ) → w ≡ some y → y < n) → (x : ℕ) → next_context runs w (state_of k M) ≡ some x → x < n
+pub next_below : {c n : ℕ} (M : Machine) (k : ℕ) → Fits c n M → k < c → (runs : Bool) (w : Option ℕ) → ((y : ℕ) → w ≡ Some y → y < n) → (x : ℕ) → next_context runs w (state_of k M) ≡ Some x → x < n
 unfolding next_context
-next_below M k o h runs (some y) f x e = f x e
-next_below {n = n} M k o h runs none f x e =
+next_below M k o h runs (Some y) f x e = f x e
+next_below {n = n} M k o h runs None f x e =
     by_test (runs || eqb (cpu_at M k).block.sched_ctxt (cpu_at M k).block.idle_ctxt) (λ t. f x (rw t at e))
     (λ t. subst (λ (j : ℕ). j < n) (same (rw t at e)) (o.cpu k h).idle)
   where
-    same : ◌≡◌ {A = Option ℕ} (some (cpu_at M k).block.idle_ctxt) (some x) → (cpu_at M k).block.idle_ctxt ≡ x
+    same : ◌≡◌ {A = Option ℕ} (Some (cpu_at M k).block.idle_ctxt) (Some x) → (cpu_at M k).block.idle_ctxt ≡ x
     same z = cc
 
 -- another CPU may steal where the queue has an entry

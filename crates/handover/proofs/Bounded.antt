@@ -1,8 +1,7 @@
 -- What the advance, the holder's way back and the hand-over add to what grows. Assumes nothing.
-use Rattle.std.specs.Prelude.{if◌then◌else◌}
+use Rattle.std.specs.Prelude.{if◌then◌else◌, Option, is_some}
 use mathlib.Core.Path.{◌≡◌, refl, sym, ap, ◌∙◌, subst}
 use mathlib.Core.Bool.{Bool, true, false, not, ◌&&◌, ◌||◌}
-use mathlib.Core.Option.{Option}
 use Prim.Native.Nat.{ℕ, ◌+◌, ◌-◌, ◌*◌, ◌/◌, ◌<◌, ◌≤◌}
 use native.Mathlib.Omega.{arith}
 use native.Mathlib.Nat.{div-le_self}
@@ -12,7 +11,7 @@ use Rattle.weights.specs.Weights.{weight}
 use Rattle.percpu.specs.Cpu.{Cpu}
 use Rattle.percpu.specs.With.{cpu_sched_ctxt}
 use Rattle.machine.specs.Shape.{CpuFits}
-use Rattle.model.specs.State.{State, at, put_context, on_cpu, remove_key, is_some, holder}
+use Rattle.model.specs.State.{State, at, put_context, on_cpu, remove_key, holder}
 use Rattle.model.specs.Steal.{mark_stealable}
 use Rattle.model.proofs.Cases.{pick}
 use Rattle.stages.specs.Stage.{ContextBelow, CpuBelow, StateBelow}

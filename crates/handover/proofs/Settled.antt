@@ -1,14 +1,13 @@
 -- Advance, way back and stealable word together, in the code's words. Assumes nothing.
-use Rattle.std.specs.Prelude.{if◌then◌else◌}
+use Rattle.std.specs.Prelude.{if◌then◌else◌, None, Option, is_some}
 use mathlib.Core.Path.{◌≡◌, refl, sym, ap, ◌∙◌, subst}
 use mathlib.Core.Bool.{Bool, true, false, not, ◌&&◌, ◌||◌}
 use mathlib.Core.List.{List}
-use mathlib.Core.Option.{Option, none}
 use Prim.Native.Nat.{ℕ, ◌+◌, ◌<◌, ◌≤◌}
 use native.Mathlib.Omega.{arith}
 use lib.Dec.{eqb}
 use Rattle.machine.specs.Shape.{CpuFits, Image}
-use Rattle.model.specs.State.{State, on_cpu, is_some}
+use Rattle.model.specs.State.{State, on_cpu}
 use Rattle.model.specs.Steal.{Stealing, mark_stealable}
 use Rattle.model.proofs.Cases.{pick}
 use Rattle.stages.specs.Stage.{Staged, StateBelow}
@@ -76,7 +75,7 @@ module _ {n t b : ℕ} (won runs : Bool) (ticks : ℕ) (s : State) (l : ticks �
 
   moved_below : StateBelow n t (b + max_gain) moved
   unfolding advance
-  moved_below = advance_below (won || runs) none ticks s l o
+  moved_below = advance_below (won || runs) None ticks s l o
 
   pub settled_below : StateBelow n t (b + max_gain) (settled_by won runs ticks s)
   settled_below =

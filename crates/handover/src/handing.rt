@@ -20,7 +20,7 @@ fn give_up(mut q: Context, time: u64, was_idle: bool) -> Context
     if was_idle {
         return q;
     }
-    let elapsed = numbers::saturating_sub(time, q.schedule_time);
+    let elapsed = time.saturating_sub(q.schedule_time);
     q.sched_cpu_time = q.sched_cpu_time + elapsed;
     q
 }

@@ -1,5 +1,5 @@
 // A runnable holder that lost goes back to the queue.
-ghost use Rattle.std.specs.Prelude.{◌≡◌, Bool, false, ℕ, ◌<◌, ◌≤◌};
+ghost use Rattle.std.specs.Prelude.{◌≡◌, Bool, false, ℕ, ◌<◌, ◌≤◌, is_err};
 ghost use Rattle.weights.specs.Weights.{weight};
 ghost use Rattle.machine.specs.Shape.{ContextFits, EntryFits, Image};
 ghost use Rattle.model.specs.State.{State};
@@ -10,6 +10,7 @@ ghost use Rattle.model.specs.Handover.{requeue};
 
 use context::Context;
 use entries::Entry;
+use stages::NoRoom;
 
 fn entry_of(x: usize, q: Context) -> Entry
     requires { q.prio < 40 }
@@ -32,12 +33,19 @@ fn take_out(m: &mut [u64], c: usize, n: usize, k: usize, q: Context)
     }
 }
 
-// True if there is no room in the queue.
-fn requeue_context(m: &mut [u64], c: usize, n: usize, k: usize, x: usize, q: Context) -> bool
+// There may be no room in the queue.
+fn requeue_context(
+    m: &mut [u64],
+    c: usize,
+    n: usize,
+    k: usize,
+    x: usize,
+    q: Context,
+) -> Result<(), NoRoom>
     requires image { Image c n m.old }
     requires k_lt_c { (k < c) × (x < n) }
     requires context_fits { ContextFits c q }
-    ensures { Staged c n k m.old m.new result (λ (s : State). requeued_by x q s) }
+    ensures { Staged c n k m.old m.new (is_err result) (λ (s : State). requeued_by x q s) }
 {
     take_out(m, c, n, k, q);
     let after = q.with_new_key();
@@ -46,11 +54,11 @@ fn requeue_context(m: &mut [u64], c: usize, n: usize, k: usize, x: usize, q: Con
     stages::insert_entry(m, c, n, k, e)
 }
 
-// True if there is no room in the queue.
-pub fn requeue(m: &mut [u64], c: usize, n: usize, k: usize) -> bool
+// There may be no room in the queue.
+pub fn requeue(m: &mut [u64], c: usize, n: usize, k: usize) -> Result<(), NoRoom>
     requires image { Image c n m.old }
     requires k_lt_c { k < c }
-    ensures { Staged c n k m.old m.new result (λ (s : State). requeue s) }
+    ensures { Staged c n k m.old m.new (is_err result) (λ (s : State). requeue s) }
 {
     let b = stages::load_block(m, c, n, k);
     let x = numbers::index(b.sched_ctxt);

@@ -1,4 +1,5 @@
 -- The answer, from what the check, the look-ups and the search said. Assumes nothing.
+use Rattle.std.specs.Prelude.{Err, Ok, Result}
 use mathlib.Core.Path.{◌≡◌, refl, sym, ap, ◌∙◌, subst}
 use mathlib.Core.Bool.{true, false}
 use mathlib.Core.List.{List}
@@ -11,10 +12,6 @@ use Rattle.machine.specs.Shape.{Fits, Image}
 use Rattle.machine.proofs.Steps.{sized}
 use Rattle.image.specs.Refusal.{size_c, size_n, image_refusal}
 use Rattle.image.proofs.Admitted.{passed, decoded, decoded_fits, admitted}
-use Rattle.context_ops.specs.declared.named.Named.{Named}
-use Rattle.context_ops.specs.declared.named.Named.TheVariants.{Refused, Found}
-use Rattle.calls.specs.declared.Checked.{Checked}
-use Rattle.calls.specs.declared.Checked.TheVariants as checks
 use Rattle.calls.specs.Call.{check}
 use Rattle.calls.proofs.Called.{is_passed}
 use Rattle.candidate.specs.Candidate.{candidate}
@@ -26,7 +23,7 @@ use Rattle.humblest.specs.Humblest.{refused, priorities, greatest, humblest_of, 
 
 -- what `Found` says of an image that passed
 pub ready_for : {c n k x : ℕ} (m : List ℕ) (time cpu context : ℕ) → image_refusal time m ≡ 0 → c ≡ size_c m → n ≡ size_n m
-    → Found k x ≡ candidate (decode m) cpu context → Ready m c n k time x
+    → Ok (k, x) ≡ candidate (decode m) cpu context → Ready m c n k time x
 ready_for {c} {n} {k} {x} m time cpu context z hc hn e =
     let o = is_candidate (decode m) cpu context k x e in
     let f = decoded_fits m (passed time m z) in
@@ -49,15 +46,15 @@ module _ {c n : ℕ} (m : List ℕ) (time : ℕ) (p : (image_refusal time m ≡ 
   fits_longest = let s = sized checked_image in omega (arith, s.size, s.cpus, s.contexts)
 
   -- w: the CPU and the context, as the code found them
-  module _ (cpu context : ℕ) (w : Named) (f : (M : Machine) → m ≡ encode M → Fits c n M → w ≡ candidate M cpu context) where
+  module _ (cpu context : ℕ) (w : Result (ℕ × ℕ) ℕ) (f : (M : Machine) → m ≡ encode M → Fits c n M → w ≡ candidate M cpu context) where
     here : w ≡ candidate (decode m) cpu context
     here = let o = passed time m p.0 in f (decode m) (decoded m o) (rw (p.1, p.2) (decoded_fits m o))
 
-    pub not_candidate : (r : ℕ) → w ≡ Refused r → {a : Humblest} → a ≡ refused r → a ≡ humblest_of m time (candidate (decode m) cpu context)
+    pub not_candidate : (r : ℕ) → w ≡ Err r → {a : Humblest} → a ≡ refused r → a ≡ humblest_of m time (candidate (decode m) cpu context)
     unfolding humblest_of
     not_candidate r e g = rw (← here, e) g
 
-    module _ (k x : ℕ) (e : w ≡ Found k x) where
+    module _ (k x : ℕ) (e : w ≡ Ok (k, x)) where
       pub ready : Ready m c n k time x
       ready = ready_for m time cpu context p.0 p.1 p.2 (sym e ∙ here)
 
@@ -66,15 +63,15 @@ module _ {c n : ℕ} (m : List ℕ) (time : ℕ) (p : (image_refusal time m ≡ 
       searched g = rw (← here, e) g
 
 -- w: what the code's check gave
-pub check_passed : (m : List ℕ) (time : ℕ) (w : Checked) → w ≡ check m time → (c n : ℕ) → w ≡ checks.Passed c n
+pub check_passed : (m : List ℕ) (time : ℕ) (w : Result (ℕ × ℕ) ℕ) → w ≡ check m time → (c n : ℕ) → w ≡ Ok (c, n)
     → (image_refusal time m ≡ 0) × (c ≡ size_c m) × (n ≡ size_n m)
 check_passed m time w e c n f = let p = is_passed m time c n (sym f ∙ e) in (p.none, p.cpus, p.names)
 
-module _ (m : List ℕ) (cpu time context : ℕ) (w : Checked) (e : w ≡ check m time) where
-  pub check_refused : (r : ℕ) → w ≡ checks.Refused r → {a : Humblest} → a ≡ refused r → a ≡ humblest m cpu time context
+module _ (m : List ℕ) (cpu time context : ℕ) (w : Result (ℕ × ℕ) ℕ) (e : w ≡ check m time) where
+  pub check_refused : (r : ℕ) → w ≡ Err r → {a : Humblest} → a ≡ refused r → a ≡ humblest m cpu time context
   unfolding humblest_by
   check_refused r f g = rw (← e, f) g
 
-  pub check_found : (c n : ℕ) → w ≡ checks.Passed c n → {a : Humblest} → a ≡ humblest_of m time (candidate (decode m) cpu context) → a ≡ humblest m cpu time context
+  pub check_found : (c n : ℕ) → w ≡ Ok (c, n) → {a : Humblest} → a ≡ humblest_of m time (candidate (decode m) cpu context) → a ≡ humblest m cpu time context
   unfolding humblest_by
   check_found c n f g = rw (← e, f) g

@@ -1,4 +1,5 @@
 -- What the answer promises, of any words, CPU, time and context. Assumes nothing.
+use Rattle.std.specs.Prelude.{Err, Ok, Result}
 use mathlib.Core.Path.{◌≡◌, refl, sym, ap, ◌∙◌, subst}
 use mathlib.Core.Bool.{Bool, true, false}
 use mathlib.Core.List.{List}
@@ -9,10 +10,6 @@ use borrow.Author.Tests.{ltb-true, ltb-false}
 use Rattle.columns.proofs.Tests.{by_test, clash}
 use Rattle.machine.specs.Encode.{decode}
 use Rattle.image.specs.Refusal.{image_refusal}
-use Rattle.context_ops.specs.declared.named.Named.{Named}
-use Rattle.context_ops.specs.declared.named.Named.TheVariants.{Refused, Found}
-use Rattle.calls.specs.declared.Checked.{Checked}
-use Rattle.calls.specs.declared.Checked.TheVariants as checks
 use Rattle.calls.specs.Call.{check}
 use Rattle.calls.proofs.Called.{is_refused, is_passed}
 use Rattle.candidate.specs.Candidate.{candidate}
@@ -42,25 +39,25 @@ greatest_says f (suc b) =
 
 -- which answer a call gets: the check's refusal; 5; or, of a CPU that is present and a context that is on no CPU, which numbers work
 pub data Ways (m : List ℕ) (cpu time context : ℕ) (a : Humblest) : Type 0 where
-  unchecked : (r : ℕ) → checks.Refused r ≡ check m time → a ≡ refused r → Ways m cpu time context a
+  unchecked : (r : ℕ) → Err r ≡ check m time → a ≡ refused r → Ways m cpu time context a
   no_candidate : image_refusal time m ≡ 0 → a ≡ refused 5 → Ways m cpu time context a
   tried : (k x : ℕ) → image_refusal time m ≡ 0 → IsCandidate (decode m) cpu context k x → Says (works m cpu time context) priorities a → Ways m cpu time context a
 
 module _ (m : List ℕ) (cpu time context : ℕ) where
-  of_named : (w : Named) → w ≡ candidate (decode m) cpu context → image_refusal time m ≡ 0 → Ways m cpu time context (humblest_of m time w)
+  of_named : (w : Result (ℕ × ℕ) ℕ) → w ≡ candidate (decode m) cpu context → image_refusal time m ≡ 0 → Ways m cpu time context (humblest_of m time w)
   unfolding humblest_of
-  of_named (Refused r) e z = no_candidate z (ap refused (refused_five (decode m) cpu context r e))
-  of_named (Found k x) e z =
+  of_named (Err r) e z = no_candidate z (ap refused (refused_five (decode m) cpu context r e))
+  of_named (Ok (k, x)) e z =
       let o = is_candidate (decode m) cpu context k x e in
       let s : Says (works m k time x) priorities (greatest (works m k time x) priorities) = greatest_says (works m k time x) priorities in
       let t : Says (works m cpu time x) priorities (greatest (works m k time x) priorities)
       = subst (λ (j : ℕ). Says (works m j time x) priorities (greatest (works m k time x) priorities)) o.cpu_is.is s in
       tried k x z o (subst (λ (y : ℕ). Says (works m cpu time y) priorities (greatest (works m k time x) priorities)) o.context_is.is t)
 
-  of_checked : (w : Checked) → w ≡ check m time → Ways m cpu time context (humblest_by m cpu time context w)
+  of_checked : (w : Result (ℕ × ℕ) ℕ) → w ≡ check m time → Ways m cpu time context (humblest_by m cpu time context w)
   unfolding humblest_by
-  of_checked (checks.Refused r) e = unchecked r e refl
-  of_checked (checks.Passed c n) e = of_named (candidate (decode m) cpu context) refl (is_passed m time c n e).none
+  of_checked (Err r) e = unchecked r e refl
+  of_checked (Ok (c, n)) e = of_named (candidate (decode m) cpu context) refl (is_passed m time c n e).none
 
   pub ways : Ways m cpu time context (humblest m cpu time context)
   ways = of_checked (check m time) refl
@@ -71,22 +68,22 @@ module _ (m : List ℕ) (cpu time context : ℕ) where
     pub works_with : works m cpu time context a.priority ≡ true
     pub larger_fail : (p : ℕ) → a.priority < p → p < priorities → works m cpu time context p ≡ false
 
-  abbrev Result : Humblest → Type 0
-  Result a =
+  abbrev Promised : Humblest → Type 0
+  Promised a =
       (a.found ≡ 1 → Right a)
       × ((a.refusal ≡ 0) → (p : ℕ) → p < priorities → works m cpu time context p ≡ true → a.found ≡ 1)
       × ((a.refusal ≡ 0 → ⊥) → a ≡ refused a.refusal)
 
-  result_refused : (r : ℕ) → (r ≡ 0 → ⊥) → (a : Humblest) → a ≡ refused r → Result a
+  result_refused : (r : ℕ) → (r ≡ 0 → ⊥) → (a : Humblest) → a ≡ refused r → Promised a
   result_refused r n a e =
-      subst Result (sym e) (λ z. absurd (omega arith), λ z. absurd (n z), λ z. refl)
+      subst Promised (sym e) (λ z. absurd (omega arith), λ z. absurd (n z), λ z. refl)
 
-  result_says : (a : Humblest) → Says (works m cpu time context) priorities a → Result a
-  result_says a (nobody e h) = subst Result (sym e) (λ z. absurd (omega arith), λ z p l w. clash w (h p l), λ z. refl)
+  result_says : (a : Humblest) → Says (works m cpu time context) priorities a → Promised a
+  result_says a (nobody e h) = subst Promised (sym e) (λ z. absurd (omega arith), λ z p l w. clash w (h p l), λ z. refl)
   result_says a (this p e l w h) =
-      subst Result (sym e) (λ z. record { below = l; works_with = w; larger_fail = h }, λ z q i v. refl, λ z. absurd (z refl))
+      subst Promised (sym e) (λ z. record { below = l; works_with = w; larger_fail = h }, λ z q i v. refl, λ z. absurd (z refl))
 
-  result : (a : Humblest) → Ways m cpu time context a → Result a
+  result : (a : Humblest) → Ways m cpu time context a → Promised a
   result a (unchecked r e g) = result_refused r (is_refused m time r e) a g
   result a (no_candidate z g) = result_refused 5 (λ y. omega arith) a g
   result a (tried k x z o s) = result_says a s

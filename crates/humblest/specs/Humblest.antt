@@ -1,10 +1,6 @@
 -- The humblest priority that still gets the CPU (document 02, No. 12). Assumes nothing.
-use Rattle.std.specs.Prelude.{Bool, true, false, ℕ, zero, suc, List, if◌then◌else◌}
+use Rattle.std.specs.Prelude.{Bool, true, false, ℕ, zero, suc, List, if◌then◌else◌, Err, Ok, Result}
 use Rattle.machine.specs.Encode.{decode}
-use Rattle.context_ops.specs.declared.named.Named.{Named}
-use Rattle.context_ops.specs.declared.named.Named.TheVariants.{Refused, Found}
-use Rattle.calls.specs.declared.Checked.{Checked}
-use Rattle.calls.specs.declared.Checked.TheVariants as checks
 use Rattle.calls.specs.Call.{check}
 use Rattle.candidate.specs.Candidate.{candidate}
 use Rattle.priority_trial.specs.Works.{works}
@@ -29,14 +25,14 @@ greatest f zero = none
 greatest f (suc p) = if f p then found p else greatest f p
 
 -- refusal 5, or the search
-unfoldable pub humblest_of : List ℕ → (time : ℕ) → Named → Humblest
-humblest_of m time (Refused r) = refused r
-humblest_of m time (Found k x) = greatest (works m k time x) priorities
+unfoldable pub humblest_of : List ℕ → (time : ℕ) → Result (ℕ × ℕ) ℕ → Humblest
+humblest_of m time (Err r) = refused r
+humblest_of m time (Ok (k, x)) = greatest (works m k time x) priorities
 
 -- refusals 1 to 4 come first
-unfoldable pub humblest_by : List ℕ → (cpu time context : ℕ) → Checked → Humblest
-humblest_by m cpu time context (checks.Refused r) = refused r
-humblest_by m cpu time context (checks.Passed c n) = humblest_of m time (candidate (decode m) cpu context)
+unfoldable pub humblest_by : List ℕ → (cpu time context : ℕ) → Result (ℕ × ℕ) ℕ → Humblest
+humblest_by m cpu time context (Err r) = refused r
+humblest_by m cpu time context (Ok (c, n)) = humblest_of m time (candidate (decode m) cpu context)
 
 abbrev pub humblest : List ℕ → (cpu time context : ℕ) → Humblest
 humblest m cpu time context = humblest_by m cpu time context (check m time)

@@ -8,11 +8,11 @@ ghost use Rattle.candidate.specs.Candidate.{candidate};
 ghost use Rattle.priority_trial.specs.Ready.{Ready};
 ghost use Rattle.priority_trial.specs.Works.{works};
 ghost use Rattle.humblest.specs.Humblest.{refused, found, priorities, greatest, humblest_of, humblest};
+ghost use Rattle.refusal.specs.Number.{refusal_number};
 
-use calls::Checked;
-use context_ops::Named;
+use refusal::Refusal;
 
-// 0 or the number of its refusal, 1 if some priority gets the CPU, and the largest that does
+// 0 or the number of its refusal, 1 if some priority gets the CPU, and the largest that does: numbers, since C is handed them
 #[repr(C)]
 #[derive(Clone, Copy)]
 pub struct Humblest {
@@ -21,12 +21,17 @@ pub struct Humblest {
     pub priority: u64,
 }
 
-// With 0 it is not refused, and there is no such priority.
-fn refused(number: u64) -> Humblest
-    ensures { result ≡ refused number }
+const NOT_FOUND: Humblest = Humblest {
+    refusal: 0,
+    found: 0,
+    priority: 0,
+};
+
+fn refused(refusal: Refusal) -> Humblest
+    ensures { result ≡ refused (refusal_number refusal) }
 {
     Humblest {
-        refusal: number,
+        refusal: refusal.into(),
         found: 0,
         priority: 0,
     }
@@ -46,9 +51,7 @@ fn search(
     requires copy_len { length copy.old ≡ length image.now }
     ensures { result ≡ greatest (works image.now k time x) priorities }
 {
-    let mut b = 40;
-    while 0 < b {
-        let p = b - 1;
+    for p in (0..40).rev() {
         if priority_trial::works(image, copy, c, n, k, time, x, p) {
             return Humblest {
                 refusal: 0,
@@ -56,9 +59,8 @@ fn search(
                 priority: p,
             };
         }
-        b = p;
     }
-    refused(0)
+    NOT_FOUND
 }
 
 // On an image that was checked.
@@ -68,8 +70,8 @@ fn humblest_on(image: &[u64], c: usize, n: usize, cpu: u64, time: u64, context: 
 {
     let who = candidate::candidate(image, c, n, cpu, context);
     match who {
-        Named::Refused(number) => refused(number),
-        Named::Found(k, x) => {
+        Err(refusal) => refused(refusal),
+        Ok((k, x)) => {
             let mut copy = [0u64; machine::MAX_IMAGE_SIZE];
             let len = image.len();
             search(image, &mut copy[0..len], c, n, k, time, x)
@@ -82,7 +84,7 @@ pub fn find(image: &[u64], cpu: u64, time: u64, context: u64) -> Humblest
 {
     let checked = calls::check(image, time);
     match checked {
-        Checked::Refused(number) => refused(number),
-        Checked::Passed(c, n) => humblest_on(image, c, n, cpu, time, context),
+        Err(refusal) => refused(refusal),
+        Ok((c, n)) => humblest_on(image, c, n, cpu, time, context),
     }
 }

@@ -4,6 +4,9 @@
 ghost use Rattle.std.specs.Prelude.{◌≡◌, Bool, true, false, ℕ, ◌+◌, ◌*◌, ◌<◌, ◌≤◌, length, get_or};
 ghost use Rattle.image.specs.Refusal.{in_bounds, ranges, sized_refusal, image_refusal};
 ghost use Rattle.machine.specs.Encode.{cpu_place};
+ghost use Rattle.refusal.specs.Number.{refusal_of};
+
+use refusal::Refusal;
 
 fn in_bounds(size: u64, greatest: u64) -> bool
     ensures { result ≡ in_bounds size greatest }
@@ -32,36 +35,36 @@ fn in_ranges(m: &[u64], time: u64) -> bool
 }
 
 // Refusals 2 to 4, of an image whose sizes are in their bounds.
-fn sized_refusal(m: &[u64], time: u64) -> u64
+fn check_sized(m: &[u64], time: u64) -> Result<(), Refusal>
     requires { (2 ≤ length m.now) × (get_or m.now 0 0 ≤ 4) × (1 ≤ get_or m.now 1 0) × (get_or m.now 1 0 ≤ 64) }
-    ensures { result ≡ sized_refusal time m.now }
+    ensures { refusal_of result ≡ sized_refusal time m.now }
 {
     let c = numbers::index(m[0]);
     let n = numbers::index(m[1]);
     if m.len() != machine::cpu_place(n, c) {
-        return 2;
+        return Err(Refusal::Length);
     }
     if !in_ranges(m, time) {
-        return 3;
+        return Err(Refusal::Range);
     }
     if !image_structure::structure(m, c, n) {
-        return 4;
+        return Err(Refusal::Structure);
     }
-    0
+    Ok(())
 }
 
-// 0, or the refusal of an image and a call's time.
-pub fn refusal(m: &[u64], time: u64) -> u64
-    ensures { result ≡ image_refusal time m.now }
+// An image and a call's time.
+pub fn check(m: &[u64], time: u64) -> Result<(), Refusal>
+    ensures { refusal_of result ≡ image_refusal time m.now }
 {
     if m.len() < 2 {
-        return 1;
+        return Err(Refusal::Size);
     }
     if !in_bounds(m[0], 4) {
-        return 1;
+        return Err(Refusal::Size);
     }
     if !in_bounds(m[1], 64) {
-        return 1;
+        return Err(Refusal::Size);
     }
-    sized_refusal(m, time)
+    check_sized(m, time)
 }

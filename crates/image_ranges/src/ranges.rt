@@ -29,26 +29,21 @@ pub fn within(table: &[u64], w: &[u64], k: usize) -> bool
     requires { (k ≤ length table.now) × (k ≤ length w.now) }
     ensures { result ≡ within table.now w.now k }
 {
-    let mut i = 0;
-    while i < k {
+    for i in 0..k {
         if table[i] < w[i] {
             return false;
         }
-        i += 1;
     }
     true
 }
 
 // The words are taken together without leaving early, so that the compiler may take several at a time.
-fn zero_words(w: &[u64], k: usize) -> bool
-    requires { k ≤ length w.now }
-    ensures { result ≡ zero_words w.now k }
+fn zero_words(w: &[u64]) -> bool
+    ensures { result ≡ zero_words w.now (length w.now) }
 {
     let mut all = 0;
-    let mut i = 0;
-    while i < k {
-        all = all | w[i];
-        i += 1;
+    for x in w {
+        all |= *x;
     }
     all == 0
 }
@@ -57,16 +52,11 @@ fn used(a: &[u64], k: usize, low: u64, high: u64) -> bool
     requires { k ≤ length a.now }
     ensures { result ≡ used a.now k low high }
 {
-    let mut i = 0;
-    while i < k {
+    for i in 0..k {
         let x = a[i];
-        if x < low {
+        if x < low || high < x {
             return false;
         }
-        if high < x {
-            return false;
-        }
-        i += 1;
     }
     true
 }
@@ -75,13 +65,7 @@ fn unused(a: &[u64], k: usize) -> bool
     requires { (length a.now ≡ 64) × (k ≤ 64) }
     ensures { result ≡ unused a.now k }
 {
-    let mut all = 0;
-    let mut i = 0;
-    while i < 64 - k {
-        all = all | a[k + i];
-        i += 1;
-    }
-    all == 0
+    zero_words(&a[k..])
 }
 
 fn counter_of(j: usize) -> usize
@@ -125,12 +109,10 @@ fn arrays_in_range(b: &[u64], n: u64) -> bool
     let high = [
         MAX_NUMBER, FULL_SLICE, MAX_ID, MAX_NUMBER, MAX_WEIGHT, last, MAX_NUMBER, last, last, last,
     ];
-    let mut j = 0;
-    while j < 10 {
+    for j in 0..10 {
         if !array_in_range(b, n, j, high[j]) {
             return false;
         }
-        j += 1;
     }
     true
 }
@@ -141,7 +123,7 @@ pub fn block_in_range(b: &[u64], n: u64) -> bool
     ensures { result ≡ block_in_range n b.now }
 {
     if b[0] == 0 {
-        return zero_words(b, places::BLOCK_SIZE);
+        return zero_words(b);
     }
     let last = n - 1;
     let front = [
@@ -163,14 +145,12 @@ pub fn blocks_in_range(m: &[u64], c: usize, n: usize) -> bool
     ensures { result ≡ blocks_in_range c n m.now }
 {
     let names = numbers::word(n);
-    let mut k = 0;
-    while k < c {
+    for k in 0..c {
         let at = machine::cpu_place(n, k);
         let end = at + places::BLOCK_SIZE;
         if !block_in_range(&m[at..end], names) {
             return false;
         }
-        k += 1;
     }
     true
 }

@@ -14,59 +14,37 @@ const GONE_MOST: [u64; RECORD_SIZE] = [
     1, MAX_ID, 0, 0, 0, 0, 0, 0, 0, 0, 0, 0, 0, 0, 0, 0, 0, 0, 0, 0, 0, 0, 0, 0, 0, 0,
 ];
 
+#[tactic(auto, unfolding(crate::specs::Ranges::wake_marked))]
 fn wake_marked(w: &[u64]) -> bool
     requires { length w.now ≡ record_size }
     ensures { result ≡ wake_marked w.now }
 {
-    if w[12] == 1 {
-        return true;
-    }
-    w[13] == 0
+    w[12] == 1 || w[13] == 0
 }
 
+#[tactic(auto, unfolding(crate::specs::Ranges::key_marked))]
 fn key_marked(w: &[u64]) -> bool
     requires { length w.now ≡ record_size }
     ensures { result ≡ key_marked w.now }
 {
-    if w[21] == 1 {
-        return true;
-    }
-    if w[22] == 0 {
-        return w[23] == 0;
-    }
-    false
+    w[21] == 1 || (w[22] == 0 && w[23] == 0)
 }
 
 // Words with a bound of their own.
+#[tactic(auto, unfolding(crate::specs::Singles::single_words))]
 fn single_words(w: &[u64], c: u64) -> bool
     requires { length w.now ≡ record_size }
     ensures { result ≡ single_words c w.now }
 {
-    if MAX_ID < w[1] {
-        return false;
-    }
-    if 5 < w[2] {
-        return false;
-    }
-    if c < w[5] {
-        return false;
-    }
-    if MAX_WORD < w[10] {
-        return false;
-    }
-    if 39 < w[16] {
-        return false;
-    }
-    if FULL_SLICE < w[19] {
-        return false;
-    }
-    if FULL_SLICE < w[23] {
-        return false;
-    }
-    if 2 < w[24] {
-        return false;
-    }
-    w[25] <= 2
+    w[1] <= MAX_ID
+        && w[2] <= 5
+        && w[5] <= c
+        && w[10] <= MAX_WORD
+        && w[16] <= 39
+        && w[19] <= FULL_SLICE
+        && w[23] <= FULL_SLICE
+        && w[24] <= 2
+        && w[25] <= 2
 }
 
 // Words that share a bound of all ones are taken together: none is above it if all of them together are not.
@@ -106,14 +84,12 @@ pub fn contexts_in_range(m: &[u64], c: u64, n: usize) -> bool
     requires { (context_place n ≤ length m.now) × (n ≤ 64) }
     ensures { result ≡ contexts_in_range c n m.now }
 {
-    let mut x = 0;
-    while x < n {
+    for x in 0..n {
         let at = machine::context_place(x);
         let end = at + RECORD_SIZE;
         if !context_in_range(&m[at..end], c) {
             return false;
         }
-        x += 1;
     }
     true
 }

@@ -18,12 +18,10 @@ fn is_new(m: &[u64], y: usize) -> bool
     ensures { result ≡ is_new m.now y }
 {
     let id = id_of(m, y);
-    let mut x = 0;
-    while x < y {
+    for x in 0..y {
         if id_of(m, x) == id {
             return false;
         }
-        x += 1;
     }
     true
 }
@@ -46,15 +44,13 @@ pub fn ids_differ(m: &[u64], n: usize) -> bool
     ensures { result ≡ ids_differ m.now n }
 {
     let mut seen = [0u8; 64];
-    let mut y = 0;
-    while y < n {
+    for y in 0..n {
         let id = id_of(m, y);
         let h = numbers::index(id % 64);
         if !is_new_if(m, y, seen[h] != 0) {
             return false;
         }
         seen[h] = 1;
-        y += 1;
     }
     true
 }

@@ -9,9 +9,11 @@ ghost use Rattle.image_ranges.specs.Ranges.{block_in_range, blocks_in_range};
 ghost use Rattle.image_structure.specs.Structure.{is_live, names_live, entry_ids, timers_differ, block_structure, structure};
 ghost use Rattle.context.specs.Words.{record_size};
 ghost use Rattle.percpu.specs.Places.{block_size};
+ghost use Rattle.table.specs.Keys.{LieIn};
 ghost use Rattle.machine.specs.Encode.{context_place, cpu_place};
 
 use percpu::places;
+use table::{KeyColumns, QUEUE_KEYS, TIMER_KEYS};
 
 fn is_live(m: &[u64], x: u64) -> bool
     requires { (context_place x + record_size ≤ length m.now) × (x < 64) }
@@ -22,20 +24,18 @@ fn is_live(m: &[u64], x: u64) -> bool
     m[at] == 0
 }
 
-// Of k rows whose keys lie in the columns at s, t and u each stands before the next.
-fn rises(b: &[u64], s: usize, t: usize, u: usize, k: usize) -> bool
-    requires { (s + 64 ≤ length b.now) × (t + 64 ≤ length b.now) × (u + 64 ≤ length b.now) × (k ≤ 64) }
-    ensures { result ≡ rises b.now s t u k }
+// Of k rows each key stands before the next.
+fn rises(b: &[u64], keys: KeyColumns, k: usize) -> bool
+    requires { LieIn keys b.now × (k ≤ 64) }
+    ensures { result ≡ rises b.now keys.vd keys.rem_slice keys.ctxt_id k }
 {
-    let mut last = table::key(b, s, t, u, 0);
-    let mut i = 0;
-    while i + 1 < k {
-        let next = table::key(b, s, t, u, i + 1);
+    let mut last = keys.key(b, 0);
+    for i in 0..k.saturating_sub(1) {
+        let next = keys.key(b, i + 1);
         if !last.before(next) {
             return false;
         }
         last = next;
-        i += 1;
     }
     true
 }
@@ -60,13 +60,11 @@ fn entry_ids(m: &[u64], b: &[u64], n: u64) -> bool
     ensures { result ≡ entry_ids m.now b.now }
 {
     let k = numbers::index(b[places::QUEUE_COUNT]);
-    let mut i = 0;
-    while i < k {
+    for i in 0..k {
         let x = numbers::index(b[places::ENTRY_CONTEXT_REF + i]);
         if b[places::KEY_CTXT_ID + i] != ids::id_of(m, x) {
             return false;
         }
-        i += 1;
     }
     true
 }
@@ -79,14 +77,12 @@ fn timers_differ(b: &[u64], n: u64) -> bool
 {
     let k = numbers::index(b[places::TIMERS_COUNT]);
     let mut seen = [0u8; 64];
-    let mut i = 0;
-    while i < k {
+    for i in 0..k {
         let x = numbers::index(b[places::TIMER_CONTEXT_REF + i]);
         if seen[x] != 0 {
             return false;
         }
         seen[x] = 1;
-        i += 1;
     }
     true
 }
@@ -106,24 +102,11 @@ fn block_structure(m: &[u64], b: &[u64], n: u64) -> bool
         return false;
     }
     let entries = numbers::index(b[places::QUEUE_COUNT]);
-    if !rises(
-        b,
-        places::KEY_VD,
-        places::KEY_REM_SLICE,
-        places::KEY_CTXT_ID,
-        entries,
-    ) {
+    if !rises(b, QUEUE_KEYS, entries) {
         return false;
     }
-    // a timer's key is its wake, twice, and its context
     let timers = numbers::index(b[places::TIMERS_COUNT]);
-    if !rises(
-        b,
-        places::TIMER_WAKE,
-        places::TIMER_WAKE,
-        places::TIMER_CONTEXT_REF,
-        timers,
-    ) {
+    if !rises(b, TIMER_KEYS, timers) {
         return false;
     }
     timers_differ(b, n)
@@ -138,14 +121,12 @@ pub fn structure(m: &[u64], c: usize, n: usize) -> bool
         return false;
     }
     let names = numbers::word(n);
-    let mut k = 0;
-    while k < c {
+    for k in 0..c {
         let at = machine::cpu_place(n, k);
         let end = at + places::BLOCK_SIZE;
         if !block_structure(m, &m[at..end], names) {
             return false;
         }
-        k += 1;
     }
     true
 }

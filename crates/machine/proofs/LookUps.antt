@@ -1,4 +1,5 @@
 -- Looking up a context or a CPU, from what the code's tests said. Assumes nothing.
+use Rattle.std.specs.Prelude.{None, Option, Some}
 use mathlib.Core.Path.{◌≡◌, refl, sym, ap, ◌∙◌}
 use mathlib.Core.Bool.{Bool, true, false}
 use Prim.Native.Nat.{ℕ, ◌+◌, ◌*◌, ◌<◌, ◌≤◌}
@@ -16,10 +17,6 @@ use Rattle.cpu_stats.specs.Words.{stats_words}
 use Rattle.context.specs.Words.{context_words, record_size}
 use Rattle.percpu.specs.Words.{block_words}
 use Rattle.percpu.specs.Layout.{cpu_words, counts}
-use Rattle.machine.specs.declared.Lookup.{Lookup}
-use Rattle.machine.specs.declared.Lookup.TheVariants.{Live, Gone}
-use Rattle.machine.specs.declared.CpuLookup.{CpuLookup}
-use Rattle.machine.specs.declared.CpuLookup.TheVariants.{Present, Absent}
 use Rattle.machine.specs.Machine.{Machine, context_at, cpu_at, no_context}
 use Rattle.machine.specs.Encode.{encode, context_place, cpu_place}
 use Rattle.machine.specs.Shape.{Fits, Image}
@@ -56,7 +53,7 @@ module _ {c n : ℕ} (m : List ℕ) (x : ℕ) (M : Machine) (e : m ≡ encode M)
 
   -- i: x, as the code has it
   module _ (i : ℕ) (q : i ≡ x) where
-    pub look_far : n ≤ i → Gone ≡ look_up M x
+    pub look_far : n ≤ i → None ≡ look_up M x
     unfolding look_up
     look_far h = rw (le-leb (length M.contexts) x (omega (arith, o.contexts)))
 
@@ -64,17 +61,17 @@ module _ {c n : ℕ} (m : List ℕ) (x : ℕ) (M : Machine) (e : m ≡ encode M)
     near h = lt-leb (length M.contexts) x (omega (arith, o.contexts))
 
     -- at: where the record of i stands
-    pub look_gone : {at : ℕ} → at ≡ context_place i → i < n → get_or m at 0 ≡ 1 → Gone ≡ look_up M x
+    pub look_gone : {at : ℕ} → at ≡ context_place i → i < n → get_or m at 0 ≡ 1 → None ≡ look_up M x
     unfolding look_up
     look_gone p h t = rw (near h, mark_true (context_at M.contexts x).gone (sym (gone_word (rw q at h)) ∙ rw (p, q) at t))
 
-    pub look_live : {at : ℕ} → at ≡ context_place i → i < n → (get_or m at 0 ≡ 1 → ⊥) → Live i ≡ look_up M x
+    pub look_live : {at : ℕ} → at ≡ context_place i → i < n → (get_or m at 0 ≡ 1 → ⊥) → Some i ≡ look_up M x
     unfolding look_up
     look_live p h t =
         rw (near h, mark_false (context_at M.contexts x).gone (λ z. t (ap (λ (j : ℕ). get_or m j 0) (p ∙ ap context_place q) ∙ gone_word (rw q at h) ∙ z)))
-        (ap Live q)
+        (ap Some q)
 
-    pub cpu_far : c ≤ i → Absent ≡ get_percpu_block M x
+    pub cpu_far : c ≤ i → None ≡ get_percpu_block M x
     unfolding get_percpu_block
     cpu_far h = rw (le-leb (length M.cpus) x (omega (arith, o.cpus)))
 
@@ -82,11 +79,11 @@ module _ {c n : ℕ} (m : List ℕ) (x : ℕ) (M : Machine) (e : m ≡ encode M)
     close h = lt-leb (length M.cpus) x (omega (arith, o.cpus))
 
     -- at: where the block of i stands
-    pub cpu_present : {at : ℕ} → at ≡ cpu_place n i → i < c → get_or m at 0 ≡ 1 → Present i ≡ get_percpu_block M x
+    pub cpu_present : {at : ℕ} → at ≡ cpu_place n i → i < c → get_or m at 0 ≡ 1 → Some i ≡ get_percpu_block M x
     unfolding get_percpu_block
-    cpu_present p h t = rw (close h, mark_true (cpu_at M x).block.present (sym (present_word (rw q at h)) ∙ rw (p, q) at t)) (ap Present q)
+    cpu_present p h t = rw (close h, mark_true (cpu_at M x).block.present (sym (present_word (rw q at h)) ∙ rw (p, q) at t)) (ap Some q)
 
-    pub cpu_absent : {at : ℕ} → at ≡ cpu_place n i → i < c → (get_or m at 0 ≡ 1 → ⊥) → Absent ≡ get_percpu_block M x
+    pub cpu_absent : {at : ℕ} → at ≡ cpu_place n i → i < c → (get_or m at 0 ≡ 1 → ⊥) → None ≡ get_percpu_block M x
     unfolding get_percpu_block
     cpu_absent p h t =
         rw (close h, mark_false (cpu_at M x).block.present (λ z. t (ap (λ (j : ℕ). get_or m j 0) (p ∙ ap (cpu_place n) q) ∙ present_word (rw q at h) ∙ z)))
@@ -97,11 +94,11 @@ pub record IsLive (M : Machine) (x i : ℕ) : Type 0 where
   pub below : x < length M.contexts
   pub alive : (context_at M.contexts x).gone ≡ false
 
-pub live : (M : Machine) (x i : ℕ) → Live i ≡ look_up M x → IsLive M x i
+pub live : (M : Machine) (x i : ℕ) → Some i ≡ look_up M x → IsLive M x i
 unfolding look_up
 live M x i e = by_test (leb (length M.contexts) x) far (λ f. by_test (context_at M.contexts x).gone (dead f) (λ g. found f g (rw (f, g) at e)))
   where
-    never : Live i ≡ Gone → IsLive M x i
+    never : Some i ≡ None → IsLive M x i
     never z = let w : ◌≡◌ {A = ℕ} 0 1 = cc in absurd (omega arith)
 
     far : leb (length M.contexts) x ≡ true → IsLive M x i
@@ -110,7 +107,7 @@ live M x i e = by_test (leb (length M.contexts) x) far (λ f. by_test (context_a
     dead : leb (length M.contexts) x ≡ false → (context_at M.contexts x).gone ≡ true → IsLive M x i
     dead f g = never (rw (f, g) at e)
 
-    found : leb (length M.contexts) x ≡ false → (context_at M.contexts x).gone ≡ false → Live i ≡ Live x → IsLive M x i
+    found : leb (length M.contexts) x ≡ false → (context_at M.contexts x).gone ≡ false → Some i ≡ Some x → IsLive M x i
     found f g z = record { is = cc; below = leb-false _ _ f; alive = g }
 
 pub record IsPresent (M : Machine) (k i : ℕ) : Type 0 where
@@ -118,11 +115,11 @@ pub record IsPresent (M : Machine) (k i : ℕ) : Type 0 where
   pub below : k < length M.cpus
   pub present : (cpu_at M k).block.present ≡ true
 
-pub present : (M : Machine) (k i : ℕ) → Present i ≡ get_percpu_block M k → IsPresent M k i
+pub present : (M : Machine) (k i : ℕ) → Some i ≡ get_percpu_block M k → IsPresent M k i
 unfolding get_percpu_block
 present M k i e = by_test (leb (length M.cpus) k) far (λ f. by_test (cpu_at M k).block.present (λ g. found f g (rw (f, g) at e)) (dead f))
   where
-    never : Present i ≡ Absent → IsPresent M k i
+    never : Some i ≡ None → IsPresent M k i
     never z = let w : ◌≡◌ {A = ℕ} 0 1 = cc in absurd (omega arith)
 
     far : leb (length M.cpus) k ≡ true → IsPresent M k i
@@ -131,5 +128,5 @@ present M k i e = by_test (leb (length M.cpus) k) far (λ f. by_test (cpu_at M k
     dead : leb (length M.cpus) k ≡ false → (cpu_at M k).block.present ≡ false → IsPresent M k i
     dead f g = never (rw (f, g) at e)
 
-    found : leb (length M.cpus) k ≡ false → (cpu_at M k).block.present ≡ true → Present i ≡ Present k → IsPresent M k i
+    found : leb (length M.cpus) k ≡ false → (cpu_at M k).block.present ≡ true → Some i ≡ Some k → IsPresent M k i
     found f g z = record { is = cc; below = leb-false _ _ f; present = g }

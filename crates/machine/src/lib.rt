@@ -12,20 +12,6 @@ use context::Context;
 use context::places::RECORD_SIZE;
 use percpu::places::BLOCK_SIZE;
 
-// A context by its number.
-#[derive(Clone, Copy)]
-pub enum Lookup {
-    Live(usize),
-    Gone,
-}
-
-// A CPU by its number.
-#[derive(Clone, Copy)]
-pub enum CpuLookup {
-    Present(usize),
-    Absent,
-}
-
 // the words of the longest image: 64 contexts and 4 CPUs
 pub const MAX_IMAGE_SIZE: usize = 2 + RECORD_SIZE * 64 + BLOCK_SIZE * 4;
 
@@ -66,34 +52,34 @@ pub fn store(m: &mut [u64], c: usize, n: usize, x: usize, q: Context)
     context::store_context(&mut m[at..end], q);
 }
 
-// Gone too if there are no more than x contexts.
-pub fn look_up(m: &[u64], c: usize, n: usize, x: u64) -> Lookup
+// Context x, if it is alive; there may be no more than x contexts.
+pub fn look_up(m: &[u64], c: usize, n: usize, x: u64) -> Option<usize>
     requires { Image c n m.now }
     ensures { (M : Machine) → m.now ≡ encode M → Fits c n M → result ≡ look_up M x }
 {
     let i = numbers::index(x);
     if n <= i {
-        return Lookup::Gone;
+        return None;
     }
     let at = context_place(i);
     if m[at] == 1 {
-        return Lookup::Gone;
+        return None;
     }
-    Lookup::Live(i)
+    Some(i)
 }
 
-// Absent too if there are no more than k CPUs.
-pub fn get_percpu_block(m: &[u64], c: usize, n: usize, k: u64) -> CpuLookup
+// CPU k, if it is present; there may be no more than k CPUs.
+pub fn get_percpu_block(m: &[u64], c: usize, n: usize, k: u64) -> Option<usize>
     requires { Image c n m.now }
     ensures { (M : Machine) → m.now ≡ encode M → Fits c n M → result ≡ get_percpu_block M k }
 {
     let i = numbers::index(k);
     if c <= i {
-        return CpuLookup::Absent;
+        return None;
     }
     let at = cpu_place(n, i);
     if m[at] == 1 {
-        return CpuLookup::Present(i);
+        return Some(i);
     }
-    CpuLookup::Absent
+    None
 }

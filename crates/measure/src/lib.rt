@@ -26,10 +26,8 @@ fn greatest(m: &[u64], from: usize, to: usize, most: u64) -> u64
     ensures { Greatest m.now from to most result }
 {
     let mut top = most;
-    let mut i = from;
-    while i < to {
-        top = numbers::max(top, m[i]);
-        i += 1;
+    for i in from..to {
+        top = top.max(m[i]);
     }
     top
 }
@@ -107,10 +105,8 @@ fn records(m: &[u64], n: usize) -> Bounds
         times: 0,
         virtual_times: 0,
     };
-    let mut x = 0;
-    while x < n {
+    for x in 0..n {
         b = of_record(m, machine::context_place(x), b);
-        x += 1;
     }
     b
 }
@@ -120,14 +116,12 @@ fn blocks(m: &[u64], c: usize, n: usize, most: Bounds) -> Bounds
     ensures { BlocksMeasured m.now c n most result }
 {
     let mut b = most;
-    let mut k = 0;
-    while k < c {
+    for k in 0..c {
         let at = machine::cpu_place(n, k);
         b = Bounds {
             times: block_times(m, at, b.times),
             virtual_times: block_virtual_times(m, at, b.virtual_times),
         };
-        k += 1;
     }
     b
 }

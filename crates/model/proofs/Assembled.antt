@@ -1,8 +1,8 @@
 -- A whole decision: its stages put together, and who is in charge at its end.
+use Rattle.std.specs.Prelude.{None, Option, Some}
 use mathlib.Core.Path.{◌≡◌, refl, subst, sym, ap, ◌∙◌}
 use mathlib.Core.Bool.{Bool, true, false, not}
 use mathlib.Core.List.{List}
-use mathlib.Core.Option.{Option, none, some}
 use mathlib.Core.Logic.{◌≢◌}
 use Prim.Native.Nat.{ℕ, ◌-◌, ◌<◌}
 use lib.ListN.{length}
@@ -136,28 +136,28 @@ module _ (turn : Turn) where
   finished : (was : Bool) (rule : Rule) (b : Bool) (w : Option ℕ) → runs ≡ b → l.winner ≡ w
       → Finished k time s (successor k M b w) l.cpus (after_schedule k time (picked_as time was rule l.cpus (next_context b w s) s)).machine
   unfolding next_context
-  finished was rule b (some x) p q =
+  finished was rule b (Some x) p q =
       finished_some k time was rule l.cpus x s (rw (is_settled.inv.count, ← kept.inv.count) (kept.winner x q).range) sched_range
-  finished was rule true none p q =
-      subst (λ y. Finished k time s y l.cpus (after_schedule k time (picked_as time was rule l.cpus none s)).machine) s_sched
+  finished was rule true None p q =
+      subst (λ y. Finished k time s y l.cpus (after_schedule k time (picked_as time was rule l.cpus None s)).machine) s_sched
       (finished_none k time was rule l.cpus s sched_marked)
-  finished was rule false none p q =
+  finished was rule false None p q =
       pick (λ o. Finished k time s (cpu_at M k).block.idle_ctxt l.cpus (after_schedule k time (picked_as time was rule l.cpus o s)).machine) (is_idle s)
-      (λ t. subst (λ y. Finished k time s y l.cpus (after_schedule k time (picked_as time was rule l.cpus none s)).machine) (eqb-true _ _ t ∙ s_idle)
+      (λ t. subst (λ y. Finished k time s y l.cpus (after_schedule k time (picked_as time was rule l.cpus None s)).machine) (eqb-true _ _ t ∙ s_idle)
       (finished_none k time was rule l.cpus s sched_marked))
-      (λ t. subst (λ y. Finished k time s y l.cpus (after_schedule k time (picked_as time was rule l.cpus (some s.cpu.block.idle_ctxt) s)).machine) s_idle
+      (λ t. subst (λ y. Finished k time s y l.cpus (after_schedule k time (picked_as time was rule l.cpus (Some s.cpu.block.idle_ctxt) s)).machine) s_idle
       (finished_some k time was rule l.cpus s.cpu.block.idle_ctxt s (rw (is_settled.inv.count, s_idle) (S.idle_is k P)) sched_range))
 
   -- c is in charge of no other CPU, and idle only at home
   elsewhere : (b : Bool) (w : Option ℕ) → l.winner ≡ w → (j : ℕ) → Present M j → j ≢ k → successor k M b w ≢ (cpu_at M j).block.sched_ctxt
-  elsewhere b (some x) q j p o m = (kept.winner x q).free.not_in_charge j p m
-  elsewhere true none q j p o m = o (sym (T.one_in_charge k j P p m))
-  elsewhere false none q j p o m = o (T.idle_at_home j k p P (sym m))
+  elsewhere b (Some x) q j p o m = (kept.winner x q).free.not_in_charge j p m
+  elsewhere true None q j p o m = o (sym (T.one_in_charge k j P p m))
+  elsewhere false None q j p o m = o (T.idle_at_home j k p P (sym m))
 
   at_home : (b : Bool) (w : Option ℕ) → l.winner ≡ w → (j : ℕ) → Present M j → successor k M b w ≡ (cpu_at M j).block.idle_ctxt → k ≡ j
-  at_home b (some x) q j p m = absurd ((kept.winner x q).free.not_idle j p m)
-  at_home true none q j p m = T.idle_at_home k j P p m
-  at_home false none q j p m = T.one_idle k j P p m
+  at_home b (Some x) q j p m = absurd ((kept.winner x q).free.not_idle j p m)
+  at_home true None q j p m = T.idle_at_home k j P p m
+  at_home false None q j p m = T.one_idle k j P p m
 
   pub ending : Ending k time M S T P in_range c s l.cpus (scheduled_machine k time M)
   unfolding schedule select_next_context selected choose_and_steal before_choice
@@ -174,11 +174,11 @@ module _ (turn : Turn) where
       }
 
   -- where somebody was chosen, that one is in charge
-  pub chosen_in_charge : (x : ℕ) → chose.winner ≡ some x → c ≡ x
+  pub chosen_in_charge : (x : ℕ) → chose.winner ≡ Some x → c ≡ x
   chosen_in_charge x z = ap (successor k M runs) (kept.keeps x z)
 
   -- where nobody was chosen and the holder runs, the holder is
-  pub holder_in_charge : chose.winner ≡ none → runs ≡ true → c ≡ (cpu_at M k).block.sched_ctxt
+  pub holder_in_charge : chose.winner ≡ None → runs ≡ true → c ≡ (cpu_at M k).block.sched_ctxt
   holder_in_charge z t = go stole
     where
       stays : l.winner ≡ chose.winner → c ≡ (cpu_at M k).block.sched_ctxt

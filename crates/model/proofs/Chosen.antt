@@ -1,9 +1,8 @@
 -- The choice follows the written rule.
-use Rattle.std.specs.Prelude.{if◌then◌else◌}
+use Rattle.std.specs.Prelude.{if◌then◌else◌, None, Option, Some}
 use mathlib.Core.Path.{◌≡◌, refl, subst, sym, ◌∙◌}
 use mathlib.Core.Bool.{Bool, true, false, not, ◌&&◌, ◌||◌}
 use mathlib.Core.List.{List, [], ◌∷◌}
-use mathlib.Core.Option.{Option, none, some}
 use mathlib.Core.Logic.{◌⊎◌, inl, inr}
 use Prim.Native.Nat.{ℕ, ◌<◌, ◌≤◌}
 use native.Mathlib.Omega.{arith}
@@ -60,18 +59,18 @@ module _ (k time : ℕ) (d : State) where
 
   -- who wins or stays, V, and why
   pub data Follows (w : Choice) : Type 0 where
-    entry_first : (e : Entry) → FirstOnTime e → (prev_is_eligible d ≡ true → before_key (holder d) e.key ≡ false) → w.winner ≡ some e.context_ref
+    entry_first : (e : Entry) → FirstOnTime e → (prev_is_eligible d ≡ true → before_key (holder d) e.key ≡ false) → w.winner ≡ Some e.context_ref
         → w.v ≡ d.cpu.block.v → Follows w
-    holder_kept : (e : Entry) → FirstOnTime e → prev_is_eligible d ≡ true → before_key (holder d) e.key ≡ true → w.winner ≡ none → w.v ≡ d.cpu.block.v
+    holder_kept : (e : Entry) → FirstOnTime e → prev_is_eligible d ≡ true → before_key (holder d) e.key ≡ true → w.winner ≡ None → w.v ≡ d.cpu.block.v
         → Follows w
-    holder_alone : ((e : Entry) → In e d.cpu.queue → is_on_time e ≡ false) → prev_is_eligible d ≡ true → w.winner ≡ none → w.v ≡ d.cpu.block.v → Follows w
+    holder_alone : ((e : Entry) → In e d.cpu.queue → is_on_time e ≡ false) → prev_is_eligible d ≡ true → w.winner ≡ None → w.v ≡ d.cpu.block.v → Follows w
     holder_least : NobodyOnTime → prev_runnable d ≡ true
-        → ((e : Entry) → In e d.cpu.queue → is_waiting e ≡ true → (holder d).vtime ≤ e.vtime) → w.winner ≡ none → w.v ≡ (holder d).vtime → Follows w
+        → ((e : Entry) → In e d.cpu.queue → is_waiting e ≡ true → (holder d).vtime ≤ e.vtime) → w.winner ≡ None → w.v ≡ (holder d).vtime → Follows w
     holder_by_deadline : NobodyOnTime → prev_runnable d ≡ true → (e : Entry) → FirstLate e → e.vtime < (holder d).vtime → (holder d).vd ≤ e.key.vd
-        → w.winner ≡ none → w.v ≡ e.vtime → Follows w
+        → w.winner ≡ None → w.v ≡ e.vtime → Follows w
     entry_least : NobodyOnTime → (e : Entry) → FirstLate e
-        → (prev_runnable d ≡ true → (e.vtime < (holder d).vtime) × (e.key.vd < (holder d).vd)) → w.winner ≡ some e.context_ref → w.v ≡ e.vtime → Follows w
-    nobody_waits : ((e : Entry) → In e d.cpu.queue → is_waiting e ≡ false) → prev_runnable d ≡ false → w.winner ≡ none → w.v ≡ d.cpu.block.v → Follows w
+        → (prev_runnable d ≡ true → (e.vtime < (holder d).vtime) × (e.key.vd < (holder d).vd)) → w.winner ≡ Some e.context_ref → w.v ≡ e.vtime → Follows w
+    nobody_waits : ((e : Entry) → In e d.cpu.queue → is_waiting e ≡ false) → prev_runnable d ≡ false → w.winner ≡ None → w.v ≡ d.cpu.block.v → Follows w
 
 pub and_no : (a b : Bool) → a ≡ true → (a && b) ≡ false → b ≡ false
 and_no true b p q = q
@@ -99,7 +98,7 @@ module _ (F : ℕ → Type 0) (cs₀ : List Context) (k time : ℕ) (R : ℕ →
       (gone_of (z.inv.same e.context_ref ∙ sym (n.same e.context_ref)) ∙ ready_alive k time d.cpu (at d e.context_ref) e t)
 
   -- an eligible entry was found
-  with_best : (e : Entry) → s.eligible_best ≡ some e → Follows k time d (against d s e)
+  with_best : (e : Entry) → s.eligible_best ≡ Some e → Follows k time d (against d s e)
   unfolding s
   with_best e b =
       pick (Follows k time d) (prev_is_eligible d && goes_before (holder d) (context_at s.contexts e.context_ref))
@@ -113,7 +112,7 @@ module _ (F : ℕ → Type 0) (cs₀ : List Context) (k time : ℕ) (R : ℕ →
       same = let a = found_agrees e lead.is_in (and_both (is_waiting k time d e) _ lead.passes).0 in rw (a.vd, a.rem_slice)
 
   -- none was found
-  module _ (b : s.eligible_best ≡ none) where
+  module _ (b : s.eligible_best ≡ None) where
     none_on_time : (e : Entry) → In e d.cpu.queue → is_on_time k time d e ≡ false
     unfolding s
     none_on_time = first_none _ d.cpu.queue (sym (scan_best k time d.cpu (ineligible_holder d) d.contexts d.cpu.queue separate) ∙ b)
@@ -130,7 +129,7 @@ module _ (F : ℕ → Type 0) (cs₀ : List Context) (k time : ℕ) (R : ℕ →
         go true false z = refl
         go false o z = refl
 
-    late_of : s.ineligible_best ≡ least (ineligible_holder d) late_one none d.cpu.queue
+    late_of : s.ineligible_best ≡ least (ineligible_holder d) late_one None d.cpu.queue
     unfolding s
     late_of = scan_late k time d.cpu (ineligible_holder d) d.contexts d.cpu.queue separate b
 
@@ -142,12 +141,12 @@ module _ (F : ℕ → Type 0) (cs₀ : List Context) (k time : ℕ) (R : ℕ →
             holder = λ r. leb-false _ _ (and_no (prev_runnable d) _ r t);
           }
 
-      holder_late_is : (r : Bool) → prev_runnable d ≡ r → ineligible_holder d ≡ if r then some (holder d).vtime else none
+      holder_late_is : (r : Bool) → prev_runnable d ≡ r → ineligible_holder d ≡ if r then Some (holder d).vtime else None
       holder_late_is true r = rw (t, r)
       holder_late_is false r = rw r
 
       -- nobody waits, or only the holder
-      without : s.ineligible_best ≡ none → Follows k time d (nobody d none)
+      without : s.ineligible_best ≡ None → Follows k time d (nobody d None)
       without l =
           by_test (prev_runnable d)
           (λ r. holder_least nobody_on_time r (λ e i w. ltb-false _ _ (rw (holder_late_is true r) at (left e i w))) refl (rw r))
@@ -156,7 +155,7 @@ module _ (F : ℕ → Type 0) (cs₀ : List Context) (k time : ℕ) (R : ℕ →
           left : (e : Entry) → In e d.cpu.queue → is_waiting k time d e ≡ true → below (ineligible_holder d) e.vtime ≡ false
           left e i w = least_none (ineligible_holder d) late_one d.cpu.queue (sym late_of ∙ l) e i (late_is e i ∙ w)
 
-      with_late : (e : Entry) → s.ineligible_best ≡ some e → Follows k time d (nobody d (some e))
+      with_late : (e : Entry) → s.ineligible_best ≡ Some e → Follows k time d (nobody d (Some e))
       with_late e l =
           pick (Follows k time d) (prev_runnable d && (leb (holder d).vtime e.vtime || leb (holder d).vd e.key.vd))
           (λ k. let (r, o) = and_both (prev_runnable d) _ k in holder_by_deadline nobody_on_time r e lead (sooner r) (deadline r (or_either (leb (holder d).vtime e.vtime) _ o)) refl refl)
@@ -179,13 +178,13 @@ module _ (F : ℕ → Type 0) (cs₀ : List Context) (k time : ℕ) (R : ℕ →
     without_best = pick (Follows k time d) (prev_is_eligible d) (λ t. holder_alone none_on_time t refl refl) (λ t. go t s.ineligible_best refl)
       where
         go : prev_is_eligible d ≡ false → (o : Option Entry) → s.ineligible_best ≡ o → Follows k time d (nobody d o)
-        go t none l = without t l
-        go t (some e) l = with_late t e l
+        go t None l = without t l
+        go t (Some e) l = with_late t e l
 
   pub choice_follows : Follows k time d (choice d (scanned k time d))
   unfolding choice s
   choice_follows = go s.eligible_best refl
     where
       go : (o : Option Entry) → s.eligible_best ≡ o → Follows k time d (choice_by d s o)
-      go none b = without_best b
-      go (some e) b = with_best e b
+      go None b = without_best b
+      go (Some e) b = with_best e b

@@ -1,7 +1,7 @@
 -- Who is in charge where somebody waits, and where nobody does before the stealing.
+use Rattle.std.specs.Prelude.{None, Some}
 use mathlib.Core.Path.{◌≡◌, ◌∙◌}
 use mathlib.Core.Bool.{true, false}
-use mathlib.Core.Option.{none, some}
 use Prim.Native.Nat.{ℕ, ◌<◌, ◌≤◌}
 use native.Mathlib.Omega.{arith}
 use Rattle.entries.specs.declared.Entry.{Entry}
@@ -69,10 +69,10 @@ module _ (turn : Turn) where
   h = (cpu_at M k).block.sched_ctxt
 
   -- who is in charge: the chosen, or a runnable holder
-  pub won : (x : ℕ) → (chose turn).winner ≡ some x → in_charge k time M M' ≡ x
+  pub won : (x : ℕ) → (chose turn).winner ≡ Some x → in_charge k time M M' ≡ x
   won x z = in_charge_is turn ∙ chosen_in_charge turn x z
 
-  pub stayed : (chose turn).winner ≡ none → prev_runnable here ≡ true → in_charge k time M M' ≡ h
+  pub stayed : (chose turn).winner ≡ None → prev_runnable here ≡ true → in_charge k time M M' ≡ h
   stayed z t = in_charge_is turn ∙ holder_in_charge turn z t
 
   pub runs_if : prev_is_eligible here ≡ true → prev_runnable here ≡ true
@@ -142,7 +142,7 @@ module _ (turn : Turn) where
       go (nobody_waits i r z v) = never (holder_runs k time M S T (waking turn) a.runnable) r
 
   -- nobody won before the stealing, and no holder runs: nobody waits
-  pub none_waits : (chose turn).winner ≡ none → prev_runnable here ≡ false → NobodyWaits k time M
+  pub none_waits : (chose turn).winner ≡ None → prev_runnable here ≡ false → NobodyWaits k time M
   none_waits w r = go (follows turn)
     where
       go : Follows k time here (chose turn) → NobodyWaits k time M
@@ -159,13 +159,13 @@ module _ (turn : Turn) where
           }
 
   -- where nobody waits nobody won before the stealing, and no holder runs
-  pub waits_none : NobodyWaits k time M → ((chose turn).winner ≡ none) × (prev_runnable here ≡ false)
+  pub waits_none : NobodyWaits k time M → ((chose turn).winner ≡ None) × (prev_runnable here ≡ false)
   waits_none a = go (follows turn)
     where
       not_running : prev_runnable here ≡ true → ⊥
       not_running t = a.holder (runs_holder k time M S T (waking turn) t)
 
-      go : Follows k time here (chose turn) → ((chose turn).winner ≡ none) × (prev_runnable here ≡ false)
+      go : Follows k time here (chose turn) → ((chose turn).winner ≡ None) × (prev_runnable here ≡ false)
       go (entry_first e i nb z v) = absurd (a.entries e (least_key k time M S T (waking turn) e i).is_ready)
       go (holder_kept e i o b z v) = absurd (not_running (runs_if o))
       go (holder_alone i o z v) = absurd (not_running (runs_if o))

@@ -1,8 +1,8 @@
 -- Demand 3: what every accepted decision on a tidy machine leaves.
+use Rattle.std.specs.Prelude.{None, Option}
 use mathlib.Core.Path.{◌≡◌, refl, subst, sym, ap, ◌∙◌}
 use mathlib.Core.Bool.{true, false, not, ◌&&◌}
 use mathlib.Core.List.{List}
-use mathlib.Core.Option.{Option, none}
 use Prim.Native.Nat.{ℕ, ◌+◌}
 use lib.Dec.{ltb, leb, eqb}
 use borrow.Author.Tests.{leb-true, le-ltb}
@@ -34,7 +34,7 @@ use Rattle.model.proofs.Assembled.{scheduled_machine}
 use Rattle.model.proofs.Decided.{demanded}
 
 module _ (k time : ℕ) where
-  pub no_direct_switch : (x : ℕ) (s : State) (u : UpdateResult) → can_switch u ≡ false → direct_switch_by k time x s u ≡ none
+  pub no_direct_switch : (x : ℕ) (s : State) (u : UpdateResult) → can_switch u ≡ false → direct_switch_by k time x s u ≡ None
   unfolding direct_switch_by
   no_direct_switch x s Skip t = refl
   no_direct_switch x s Blocked t = refl
@@ -42,10 +42,10 @@ module _ (k time : ℕ) where
 
   no_way_back : (s : State)
       → (not (eqb s.cpu.block.current_ctxt s.cpu.block.sched_ctxt) && can_switch (update_runnable k time true false (at s s.cpu.block.sched_ctxt))) ≡ false
-      → try_direct_switch_back k time s ≡ none
+      → try_direct_switch_back k time s ≡ None
   unfolding try_direct_switch_back
   no_way_back s t =
-      pick (λ (o : Option State). o ≡ none) (eqb s.cpu.block.current_ctxt s.cpu.block.sched_ctxt) (λ a. refl)
+      pick (λ (o : Option State). o ≡ None) (eqb s.cpu.block.current_ctxt s.cpu.block.sched_ctxt) (λ a. refl)
       (λ a. no_direct_switch s.cpu.block.sched_ctxt s (update_runnable k time true false (at s s.cpu.block.sched_ctxt)) (rw a at t))
 
   inner_decides : (cpus : List Cpu) (s : State)

@@ -1,8 +1,8 @@
 -- The winner leaves the queue by its record's key: the state after the choice.
+use Rattle.std.specs.Prelude.{None, Option, Some}
 use mathlib.Core.Path.{◌≡◌, refl, subst, sym, ap, ◌∙◌}
 use mathlib.Core.Bool.{true, false}
 use mathlib.Core.List.{List, []}
-use mathlib.Core.Option.{Option, none, some}
 use mathlib.Core.Logic.{◌⊎◌, inl, inr, ◌≢◌}
 use Prim.Native.Nat.{ℕ, ◌<◌}
 use lib.Dec.{eqb}
@@ -98,8 +98,8 @@ module _ (k time : ℕ) (M : Machine) (S : Sound M) (T : Tidy M) (J : State) (n 
   -- the state after the choice
   pub record AfterChoice (w : Option ℕ) (t : State) : Type 0 where
     pub inv : Inv (Free M) M.contexts t.contexts (on k t.cpu.queue (queues M))
-    pub winner : (x : ℕ) → w ≡ some x → Winner (Free M) M.contexts k (queues M) x t.contexts (on k t.cpu.queue (queues M))
-    pub kept : (y : ℕ) → Has y (on k J.cpu.queue (queues M)) → Has y (on k t.cpu.queue (queues M)) ⊎ (Lost (at t y) ⊎ (w ≡ some y))
+    pub winner : (x : ℕ) → w ≡ Some x → Winner (Free M) M.contexts k (queues M) x t.contexts (on k t.cpu.queue (queues M))
+    pub kept : (y : ℕ) → Has y (on k J.cpu.queue (queues M)) → Has y (on k t.cpu.queue (queues M)) ⊎ (Lost (at t y) ⊎ (w ≡ Some y))
     pub frame : (y : ℕ) → Without y (on k J.cpu.queue (queues M)) → (at t y).status ≡ (at J y).status
     pub roles_kept : roles t.cpu ≡ roles (cpu_at M k)
     pub v : t.cpu.block.v ≡ choice_of.v
@@ -112,7 +112,7 @@ module _ (k time : ℕ) (M : Machine) (S : Sound M) (T : Tidy M) (J : State) (n 
   abbrev pub cleaned : State
   cleaned = on_cpu (cpu_v choice_of.v) (cleaned_up scan_of J)
 
-  after_scan : AfterChoice none cleaned
+  after_scan : AfterChoice None cleaned
   unfolding cleaned_up
   after_scan =
       record {
@@ -125,17 +125,17 @@ module _ (k time : ℕ) (M : Machine) (S : Sound M) (T : Tidy M) (J : State) (n 
       }
     where
       stays : (y : ℕ) → Has y (on k J.cpu.queue (queues M))
-          → Has y (on k cleaned.cpu.queue (queues M)) ⊎ (Lost (at cleaned y) ⊎ (◌≡◌ {A = Option ℕ} none (some y)))
+          → Has y (on k cleaned.cpu.queue (queues M)) ⊎ (Lost (at cleaned y) ⊎ (◌≡◌ {A = Option ℕ} None (Some y)))
       stays y (e, i, g, m) =
           by_test (eqb i k) (λ t. go (kept_scan.lost e (rw t at g))) (λ t. inl (e, i, rw t (rw t at g), m))
         where
           go : In e cleaned.cpu.queue ⊎ Lost (context_at scan_of.contexts e.context_ref)
-              → Has y (on k cleaned.cpu.queue (queues M)) ⊎ (Lost (at cleaned y) ⊎ (◌≡◌ {A = Option ℕ} none (some y)))
+              → Has y (on k cleaned.cpu.queue (queues M)) ⊎ (Lost (at cleaned y) ⊎ (◌≡◌ {A = Option ℕ} None (Some y)))
           go (inl j) = inl (e, k, rw (eq-eqb k k refl) j, m)
           go (inr l) = inr (inl (subst (λ x. Lost (context_at scan_of.contexts x)) m l))
 
   -- a ready entry wins
-  after_entry : (e : Entry) → In e J.cpu.queue → is_waiting k time J e ≡ true → AfterChoice (some e.context_ref) (dequeued e.context_ref cleaned)
+  after_entry : (e : Entry) → In e J.cpu.queue → is_waiting k time J e ≡ true → AfterChoice (Some e.context_ref) (dequeued e.context_ref cleaned)
   unfolding cleaned_up
   after_entry e i t =
       record {
@@ -160,18 +160,18 @@ module _ (k time : ℕ) (M : Machine) (S : Sound M) (T : Tidy M) (J : State) (n 
           (separate (Free M) M.contexts k time (queues M) J n.kept) e i t)
           (gone_of (kept_scan.inv.same e.context_ref ∙ sym (n.kept.same e.context_ref)) ∙ live)
 
-      stays : (y : ℕ) → Has y (on k cleaned.cpu.queue (queues M)) ⊎ (Lost (at cleaned y) ⊎ (◌≡◌ {A = Option ℕ} none (some y)))
-          → Has y (on k u.cpu.queue (queues M)) ⊎ (Lost (at u y) ⊎ (some e.context_ref ≡ some y))
+      stays : (y : ℕ) → Has y (on k cleaned.cpu.queue (queues M)) ⊎ (Lost (at cleaned y) ⊎ (◌≡◌ {A = Option ℕ} None (Some y)))
+          → Has y (on k u.cpu.queue (queues M)) ⊎ (Lost (at u y) ⊎ (Some e.context_ref ≡ Some y))
       stays y (inl h) =
-          by_test (eqb y e.context_ref) (λ z. inr (inr (ap some (sym (eqb-true y e.context_ref z)))))
+          by_test (eqb y e.context_ref) (λ z. inr (inr (ap Some (sym (eqb-true y e.context_ref z)))))
           (λ z. inl (d.has y (eqb-false y e.context_ref z) h))
       stays y (inr (inl (inl g))) = inr (inl (inl (gone_of (d.inv.same y ∙ sym (kept_scan.inv.same y)) ∙ g)))
       stays y (inr (inl (inr g))) = inr (inl (inr (ap is_runnable (d.status y) ∙ g)))
       stays y (inr (inr z)) = absurd (some_none z refl)
 
   -- what is proved of the state after the clean-up, and of it with the entry of a ready one taken out, holds after the choice
-  pub choice_cases : (P : Option ℕ → State → Type 0) → P none cleaned
-      → ((e : Entry) → In e J.cpu.queue → is_waiting k time J e ≡ true → P (some e.context_ref) (dequeued e.context_ref cleaned))
+  pub choice_cases : (P : Option ℕ → State → Type 0) → P None cleaned
+      → ((e : Entry) → In e J.cpu.queue → is_waiting k time J e ≡ true → P (Some e.context_ref) (dequeued e.context_ref cleaned))
       → P choice_of.winner chosen_state
   unfolding chosen
   choice_cases P a b = go (choice_follows (Free M) M.contexts k time (queues M) J n.kept)

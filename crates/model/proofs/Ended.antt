@@ -1,9 +1,8 @@
 -- The slice changes hands and the CPU switches: what that writes, and what it leaves alone.
-use Rattle.std.specs.Prelude.{if◌then◌else◌}
+use Rattle.std.specs.Prelude.{if◌then◌else◌, None, Some}
 use mathlib.Core.Path.{◌≡◌, refl, ap, ◌∙◌}
 use mathlib.Core.Bool.{Bool, true, false, not, ◌&&◌}
 use mathlib.Core.List.{List}
-use mathlib.Core.Option.{none, some}
 use mathlib.Core.Logic.{◌≢◌}
 use Prim.Native.Nat.{ℕ, ◌+◌, ◌-◌, ◌<◌}
 use lib.Dec.{eqb}
@@ -166,7 +165,7 @@ module _ (k time : ℕ) where
     pub cpus_are : M'.cpus ≡ set cpus k state.cpu
 
   pub finished_none : (was : Bool) (rule : Rule) (cpus : List Cpu) (s : State) → (at s s.cpu.block.sched_ctxt).currently_scheduled ≡ true
-      → Finished s s.cpu.block.sched_ctxt cpus (after_schedule k time (picked_as time was rule cpus none s)).machine
+      → Finished s s.cpu.block.sched_ctxt cpus (after_schedule k time (picked_as time was rule cpus None s)).machine
   unfolding after_schedule picked_as switch_as
   finished_none was rule cpus s t =
       record {
@@ -185,7 +184,7 @@ module _ (k time : ℕ) where
       }
 
   pub finished_some : (was : Bool) (rule : Rule) (cpus : List Cpu) (x : ℕ) (s : State) → x < length s.contexts → s.cpu.block.sched_ctxt < length s.contexts
-      → Finished s x cpus (after_schedule k time (picked_as time was rule cpus (some x) s)).machine
+      → Finished s x cpus (after_schedule k time (picked_as time was rule cpus (Some x) s)).machine
   unfolding after_schedule picked_as switch_as
   finished_some was rule cpus x s r q =
       record {

@@ -1,8 +1,8 @@
 -- `first` and `least` find what the rule says. Assumes nothing.
+use Rattle.std.specs.Prelude.{None, Option, Some}
 use mathlib.Core.Path.{◌≡◌, refl, sym, ap, ◌∙◌}
 use mathlib.Core.Bool.{Bool, true, false, ◌&&◌}
 use mathlib.Core.List.{List, [], ◌∷◌}
-use mathlib.Core.Option.{Option, none, some}
 use mathlib.Core.Logic.{◌⊎◌, inl, inr}
 use Prim.Native.Nat.{ℕ, ◌<◌, ◌≤◌}
 use native.Mathlib.Omega.{arith}
@@ -29,13 +29,13 @@ pub record IsLeast (p : Entry → Bool) (q : List Entry) (e : Entry) : Type 0 wh
   pub least_vtime : (f : Entry) → In f q → p f ≡ true → e.vtime ≤ f.vtime
   pub leads : (f : Entry) → In f q → p f ≡ true → f.vtime ≡ e.vtime → (f ≡ e) ⊎ (entry_before e f ≡ true)
 
-pub some_some : {A : Type 0} {a b : A} → some a ≡ some b → a ≡ b
+pub some_some : {A : Type 0} {a b : A} → Some a ≡ Some b → a ≡ b
 some_some e = cc
 
-pub some_none : {A : Type 0} {a : A} {o : Option A} → o ≡ some a → o ≡ none → ⊥
+pub some_none : {A : Type 0} {a : A} {o : Option A} → o ≡ Some a → o ≡ None → ⊥
 some_none p q = let z : ◌≡◌ {A = ℕ} 0 1 = cc in omega arith
 
-pub first_is : (p : Entry → Bool) (q : List Entry) (e : Entry) → Sorted entry_before q → first p q ≡ some e → IsFirst p q e
+pub first_is : (p : Entry → Bool) (q : List Entry) (e : Entry) → Sorted entry_before q → first p q ≡ Some e → IsFirst p q e
 first_is p [] e s h = absurd (some_none h refl)
 first_is p (x ∷ xs) e s h =
     by_test (p x)
@@ -58,7 +58,7 @@ first_is p (x ∷ xs) e s h =
     there r t f (inl m) k = never (rw m at k) t
     there r t f (inr m) k = r.leads f m k
 
-pub first_none : (p : Entry → Bool) (q : List Entry) → first p q ≡ none → (f : Entry) → In f q → p f ≡ false
+pub first_none : (p : Entry → Bool) (q : List Entry) → first p q ≡ None → (f : Entry) → In f q → p f ≡ false
 first_none p [] h f i = absurd i
 first_none p (x ∷ xs) h f i = by_test (p x) (λ t. absurd (some_none (sym (rw t at h)) refl)) (λ t. go t i (first_none p xs (rw t at h)))
   where
@@ -67,24 +67,24 @@ first_none p (x ∷ xs) h f i = by_test (p x) (λ t. absurd (some_none (sym (rw 
     go t (inr m) r = r f m
 
 below_down : (o : Option ℕ) (m n : ℕ) → below o m ≡ true → n < m → below o n ≡ true
-below_down none m n b l = refl
-below_down (some k) m n b l = let j : m < k = ltb-true m k b in lt-ltb n k (omega arith)
+below_down None m n b l = refl
+below_down (Some k) m n b l = let j : m < k = ltb-true m k b in lt-ltb n k (omega arith)
 
 pub below_split : (o : Option ℕ) (m n : ℕ) → below o n ≡ true → below o m ≡ false → n < m
-below_split none m n b c = never refl c
-below_split (some k) m n b c = let i : n < k = ltb-true n k b in let j : k ≤ m = ltb-false m k c in omega arith
+below_split None m n b c = never refl c
+below_split (Some k) m n b c = let i : n < k = ltb-true n k b in let j : k ≤ m = ltb-false m k c in omega arith
 
 module _ (h : Option ℕ) (p : Entry → Bool) where
   -- the best so far stays, or an entry of the list takes its place
   Stays : Option Entry → List Entry → Entry → Type 0
-  Stays l q e = (l ≡ some e) × ((f : Entry) → In f q → p f ≡ true → e.vtime ≤ f.vtime)
+  Stays l q e = (l ≡ Some e) × ((f : Entry) → In f q → p f ≡ true → e.vtime ≤ f.vtime)
 
   Comes : Option Entry → List Entry → Entry → Type 0
   Comes l q e = IsLeast p q e × (below (ineligible_min_vtime l h) e.vtime ≡ true)
 
   -- x takes the place of l: what the rest gives
   taken : (l : Option Entry) (x : Entry) (xs : List Entry) (e : Entry) → Sorted entry_before (x ∷ xs) → p x ≡ true → below (ineligible_min_vtime l h) x.vtime ≡ true
-      → Stays (some x) xs e ⊎ Comes (some x) xs e → Comes l (x ∷ xs) e
+      → Stays (Some x) xs e ⊎ Comes (Some x) xs e → Comes l (x ∷ xs) e
   unfolding Stays Comes
   taken l x xs e s px b (inl (k, r)) =
       (record { is_in = inl (sym i); passes = rw (← i) px; least_vtime = lv; leads = λ f m pf t. rw (← i) (ld f m) }, rw (← i) b)
@@ -141,40 +141,40 @@ module _ (h : Option ℕ) (p : Entry → Bool) where
           absurd (omega arith)
       ld f (inr m) pf t = r.leads f m pf t
 
-  least_is' : (l : Option Entry) (q : List Entry) (e : Entry) → Sorted entry_before q → least h p l q ≡ some e → Stays l q e ⊎ Comes l q e
+  least_is' : (l : Option Entry) (q : List Entry) (e : Entry) → Sorted entry_before q → least h p l q ≡ Some e → Stays l q e ⊎ Comes l q e
   unfolding Stays
   least_is' l [] e s g = inl (g, λ f i. absurd i)
   least_is' l (x ∷ xs) e s g =
       by_test (p x && below (ineligible_min_vtime l h) x.vtime)
-      (λ t. let (px, b) = and_both (p x) _ t in inr (taken l x xs e s px b (least_is' (some x) xs e s.1 (rw t at g))))
+      (λ t. let (px, b) = and_both (p x) _ t in inr (taken l x xs e s px b (least_is' (Some x) xs e s.1 (rw t at g))))
       (λ t. passed l x xs e (not_below t) (least_is' l xs e s.1 (rw t at g)))
     where
       not_below : (p x && below (ineligible_min_vtime l h) x.vtime) ≡ false → p x ≡ true → below (ineligible_min_vtime l h) x.vtime ≡ false
       not_below t px = rw px at t
 
-  pub least_is : (q : List Entry) (e : Entry) → Sorted entry_before q → least h p none q ≡ some e → IsLeast p q e × (below h e.vtime ≡ true)
+  pub least_is : (q : List Entry) (e : Entry) → Sorted entry_before q → least h p None q ≡ Some e → IsLeast p q e × (below h e.vtime ≡ true)
   unfolding Stays Comes
-  least_is q e s g = go (least_is' none q e s g)
+  least_is q e s g = go (least_is' None q e s g)
     where
-      go : Stays none q e ⊎ Comes none q e → IsLeast p q e × (below h e.vtime ≡ true)
+      go : Stays None q e ⊎ Comes None q e → IsLeast p q e × (below h e.vtime ≡ true)
       go (inl (k, r)) = absurd (some_none k refl)
       go (inr r) = r
 
   -- what stands stays, if nobody passes it
-  least_none' : (l : Option Entry) (q : List Entry) → least h p l q ≡ none → (l ≡ none) × ((f : Entry) → In f q → p f ≡ true → below h f.vtime ≡ false)
+  least_none' : (l : Option Entry) (q : List Entry) → least h p l q ≡ None → (l ≡ None) × ((f : Entry) → In f q → p f ≡ true → below h f.vtime ≡ false)
   least_none' l [] g = (g, λ f i. absurd i)
   least_none' l (x ∷ xs) g =
       by_test (p x && below (ineligible_min_vtime l h) x.vtime)
-      (λ t. absurd (some_none refl (least_none' (some x) xs (rw t at g)).0))
+      (λ t. absurd (some_none refl (least_none' (Some x) xs (rw t at g)).0))
       (λ t. let (n, r) = least_none' l xs (rw t at g) in (n, λ f i pf. go n t r f i pf))
     where
-      go : l ≡ none → (p x && below (ineligible_min_vtime l h) x.vtime) ≡ false → ((f : Entry) → In f xs → p f ≡ true → below h f.vtime ≡ false) → (f : Entry)
+      go : l ≡ None → (p x && below (ineligible_min_vtime l h) x.vtime) ≡ false → ((f : Entry) → In f xs → p f ≡ true → below h f.vtime ≡ false) → (f : Entry)
           → (f ≡ x) ⊎ In f xs → p f ≡ true → below h f.vtime ≡ false
       go n t r f (inl m) pf = let px : p x ≡ true = rw m at pf in rw m (rw (px, n) at t)
       go n t r f (inr m) pf = r f m pf
 
-  pub least_none : (q : List Entry) → least h p none q ≡ none → (f : Entry) → In f q → p f ≡ true → below h f.vtime ≡ false
-  least_none q g = (least_none' none q g).1
+  pub least_none : (q : List Entry) → least h p None q ≡ None → (f : Entry) → In f q → p f ≡ true → below h f.vtime ≡ false
+  least_none q g = (least_none' None q g).1
 
 -- a test that agrees with another on the list finds the same
 pub least_agree : (p r : Entry → Bool) (q : List Entry) (e : Entry) → ((f : Entry) → In f q → p f ≡ r f) → IsLeast p q e → IsLeast r q e
@@ -189,8 +189,8 @@ least_agree p r q e a l =
 -- among those that pass, if any does, one is the first of the least vtime
 pub least_exists : (p : Entry → Bool) (q : List Entry) → Sorted entry_before q → (f : Entry) → In f q → p f ≡ true
     → (e : Entry) × IsLeast p q e
-least_exists p q s f i t = go (least none p none q) refl
+least_exists p q s f i t = go (least None p None q) refl
   where
-    go : (o : Option Entry) → least none p none q ≡ o → (e : Entry) × IsLeast p q e
-    go none z = never refl (least_none none p q z f i t)
-    go (some e) z = (e, (least_is none p q e s z).0)
+    go : (o : Option Entry) → least None p None q ≡ o → (e : Entry) × IsLeast p q e
+    go None z = never refl (least_none None p q z f i t)
+    go (Some e) z = (e, (least_is None p q e s z).0)

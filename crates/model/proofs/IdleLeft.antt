@@ -1,7 +1,7 @@
 -- With nobody else the first stolen wins, and idle is in charge exactly if there is none.
+use Rattle.std.specs.Prelude.{None, Option, Some}
 use mathlib.Core.Path.{◌≡◌, refl, sym, ap, ◌∙◌}
 use mathlib.Core.Bool.{Bool, true, false}
-use mathlib.Core.Option.{Option, none, some}
 use mathlib.Core.Logic.{◌⊎◌, inl, inr}
 use Prim.Native.Nat.{ℕ}
 use Rattle.entries.specs.declared.Entry.{Entry}
@@ -51,7 +51,7 @@ module _ (turn : Turn) where
   pub stolen_first : NobodyWaits k time M → (x : ℕ) → Stole k time M M' x → (y : ℕ) × FirstStolen k time M M' y × (in_charge k time M M' ≡ y)
   stolen_first a x y = go (stole turn)
     where
-      none_chosen : (chose turn).winner ≡ none
+      none_chosen : (chose turn).winner ≡ None
       none_chosen = (waits_none turn a).0
 
       fw : first_wins (runs turn) (chose turn).winner ≡ true
@@ -111,21 +111,21 @@ module _ (turn : Turn) where
       is_idle : c turn ≡ idle
       is_idle = sym (in_charge_is turn) ∙ m
 
-      unchosen : (l turn).winner ≡ none → (w : Option ℕ) → (chose turn).winner ≡ w → (chose turn).winner ≡ none
-      unchosen z none p = p
-      unchosen z (some x) p = absurd (some_none ((kept turn).keeps x p) z)
+      unchosen : (l turn).winner ≡ None → (w : Option ℕ) → (chose turn).winner ≡ w → (chose turn).winner ≡ None
+      unchosen z None p = p
+      unchosen z (Some x) p = absurd (some_none ((kept turn).keeps x p) z)
 
       go : (b : Bool) (w : Option ℕ) → runs turn ≡ b → (l turn).winner ≡ w → NobodyWaits k time M × StoleNothing k time M M'
-      go b (some x) p q =
+      go b (Some x) p q =
           absurd (((kept turn).winner x q).free.not_idle k P (sym (ap (successor k M (runs turn)) q) ∙ is_idle))
-      go true none p q =
+      go true None p q =
           absurd (awake turn p
           (sym (ap (λ b. successor k M b (l turn).winner) p ∙ ap (successor k M true) q) ∙ is_idle))
-      go false none p q =
+      go false None p q =
           let z = unchosen q (chose turn).winner refl in
           (none_waits turn z p, λ x y. took z x y (stole turn))
         where
-          took : (chose turn).winner ≡ none → (x : ℕ) → Stole k time M M' x
+          took : (chose turn).winner ≡ None → (x : ℕ) → Stole k time M M' x
               → StealResult k M (runs turn) (locked turn) (chose turn).winner (C turn) (l turn) → ⊥
           took z x y (nothing t) = nothing_stolen turn x y t
           took z x y (robbed d t e es b) = some_none (b.first (rw (z, p))) q

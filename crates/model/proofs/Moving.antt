@@ -1,8 +1,8 @@
 -- A stolen entry goes from the victim's queue to this CPU's, or wins.
+use Rattle.std.specs.Prelude.{Some}
 use mathlib.Core.Path.{◌≡◌, refl, subst, sym, ap, ◌∙◌}
 use mathlib.Core.Bool.{Bool, true, false}
 use mathlib.Core.List.{List, [], ◌∷◌}
-use mathlib.Core.Option.{some}
 use mathlib.Core.Logic.{◌⊎◌, inl, inr, ◌≢◌}
 use Prim.Native.Nat.{ℕ}
 use lib.Dec.{eqb}
@@ -42,9 +42,9 @@ module _ (F : ℕ → Type 0) (cs₀ : List Context) (k t : ℕ) (other : t ≢ 
   pub record Moved (a m : Moving) (all es : List Entry) : Type 0 where
     pub inv : Inv F cs₀ m.state.contexts (all_queues m)
     pub rest : (d : Entry) → In d es → In d m.victim.queue
-    pub winner : (x : ℕ) → m.winner ≡ some x → Winner F cs₀ k R x m.state.contexts (all_queues m)
-    pub keeps : (x : ℕ) → a.winner ≡ some x → m.winner ≡ some x
-    pub has : (y : ℕ) → Has y (all_queues a) → Has y (all_queues m) ⊎ (m.winner ≡ some y)
+    pub winner : (x : ℕ) → m.winner ≡ Some x → Winner F cs₀ k R x m.state.contexts (all_queues m)
+    pub keeps : (x : ℕ) → a.winner ≡ Some x → m.winner ≡ Some x
+    pub has : (y : ℕ) → Has y (all_queues a) → Has y (all_queues m) ⊎ (m.winner ≡ Some y)
     pub status : (y : ℕ) → (at m.state y).status ≡ (at a.state y).status
     pub roles_kept : roles m.state.cpu ≡ roles a.state.cpu
     pub victim_roles : roles m.victim ≡ roles a.victim
@@ -74,7 +74,7 @@ module _ (F : ℕ → Type 0) (cs₀ : List Context) (k t : ℕ) (other : t ≢ 
 
     -- the first stolen wins
     first : first_wins runs m.winner ≡ true → (m' : Moving) → m'.state.contexts ≡ ds → m'.state.cpu.queue ≡ m.state.cpu.queue
-        → m'.victim.queue ≡ left → m'.winner ≡ some e.context_ref → roles m'.state.cpu ≡ roles m.state.cpu → roles m'.victim ≡ roles m.victim
+        → m'.victim.queue ≡ left → m'.winner ≡ Some e.context_ref → roles m'.state.cpu ≡ roles m.state.cpu → roles m'.victim ≡ roles m.victim
         → m'.state.cpu.block.v ≡ m.state.cpu.block.v → Moved a m' all es
     first t₁ m' e₁ e₂ e₃ e₄ e₅ e₆ e₇ =
         record {
@@ -95,9 +95,9 @@ module _ (F : ℕ → Type 0) (cs₀ : List Context) (k t : ℕ) (other : t ≢ 
             rw (e₁, e₂, e₃)
             (record { range = gone_there.range; live = gone_of (gone_there.inv.same e.context_ref) ∙ live; out = gone_there.out; free = n.inv.free e t gone_there.was_in })
 
-        stays : (y : ℕ) → Has y (all_queues m) ⊎ (m.winner ≡ some y) → Has y (all_queues m') ⊎ (m'.winner ≡ some y)
+        stays : (y : ℕ) → Has y (all_queues m) ⊎ (m.winner ≡ Some y) → Has y (all_queues m') ⊎ (m'.winner ≡ Some y)
         stays y (inl h) =
-            by_test (eqb y e.context_ref) (λ z. inr (e₄ ∙ ap some (sym (eqb-true y e.context_ref z))))
+            by_test (eqb y e.context_ref) (λ z. inr (e₄ ∙ ap Some (sym (eqb-true y e.context_ref z))))
             (λ z. inl (rw (e₂, e₃) (gone_there.has y (eqb-false y e.context_ref z) h)))
         stays y (inr z) = never {b = false} (rw z at t₁) refl
 
@@ -147,7 +147,7 @@ module _ (F : ℕ → Type 0) (cs₀ : List Context) (k t : ℕ) (other : t ≢ 
             gone d i (inl (p, z)) u = w.out e t gone_there.was_in (sym (ap (λ (b : Entry). b.context_ref) p) ∙ u)
             gone d i (inr g) u = w.out d i (gone_there.subset d i g) u
 
-        stays : (y : ℕ) → Has y (all_queues m) ⊎ (m.winner ≡ some y) → Has y (on k (queue_insert entry m.state.cpu.queue) (on t left R)) ⊎ (m.winner ≡ some y)
+        stays : (y : ℕ) → Has y (all_queues m) ⊎ (m.winner ≡ Some y) → Has y (on k (queue_insert entry m.state.cpu.queue) (on t left R)) ⊎ (m.winner ≡ Some y)
         stays y (inl h) =
             by_test (eqb y e.context_ref)
             (λ z. inl (subst (λ w. Has w (on k (queue_insert entry m.state.cpu.queue) (on t left R))) (sym (eqb-true y e.context_ref z))

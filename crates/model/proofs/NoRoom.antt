@@ -1,9 +1,8 @@
 -- Once an insertion found no room the mark stays to the end: a call may be refused as soon as it is set.
-use Rattle.std.specs.Prelude.{if◌then◌else◌}
+use Rattle.std.specs.Prelude.{if◌then◌else◌, None, Option, Some, is_some}
 use mathlib.Core.Path.{◌≡◌}
 use mathlib.Core.Bool.{Bool, true, not, ◌&&◌, ◌||◌}
 use mathlib.Core.List.{List, [], ◌∷◌}
-use mathlib.Core.Option.{Option, none, some}
 use Prim.Native.Nat.{ℕ}
 use lib.Dec.{eqb}
 use lib.ListN.{get_or, length}
@@ -14,7 +13,7 @@ use Rattle.weights.specs.Weights.{weight}
 use Rattle.entries.specs.declared.Entry.{Entry}
 use Rattle.percpu.specs.Cpu.{Cpu}
 use Rattle.machine.specs.Machine.{no_cpu}
-use Rattle.model.specs.State.{State, at, on_cpu, put_context, remove_key, insert_entry, is_some, holder, is_idle}
+use Rattle.model.specs.State.{State, at, on_cpu, put_context, remove_key, insert_entry, holder, is_idle}
 use Rattle.model.specs.Wakeup.{Wakeup, put_back, enter, wake_as, serve_wakeup, serve_wakeups, wakeups, drained}
 use Rattle.model.specs.Turn.{count_switch, times, holder_stopped, charge_holder, before_selection, before_choice}
 use Rattle.model.specs.Scan.{Scan}
@@ -32,8 +31,8 @@ abbrev pub Full : State → Type 0
 Full s = s.no_room ≡ true
 
 put_back_full : (o : Option ℕ) (x : ℕ) (s : State) → Full s → Full (put_back o x s)
-put_back_full none x s h = rw h
-put_back_full (some t) x s h = rw h
+put_back_full None x s h = rw h
+put_back_full (Some t) x s h = rw h
 
 pub serve_full : (s : State) (w : Wakeup) → Full s → Full (serve_wakeup s w)
 unfolding serve_wakeup wake_as enter
@@ -55,8 +54,8 @@ unfolding before_choice before_selection
 before_choice_full time s h = charge_full _ (on_cpu (times time) (serve_wakeups time (on_cpu count_switch s))) (serve_wakeups_full time (on_cpu count_switch s) h)
 
 taken_out_full : (o : Option ℕ) (s : State) → Full s → Full (taken_out o s)
-taken_out_full none s h = h
-taken_out_full (some x) s h = pick Full (at s x).has_queue_key (λ t. h) (λ t. h)
+taken_out_full None s h = h
+taken_out_full (Some x) s h = pick Full (at s x).has_queue_key (λ t. h) (λ t. h)
 
 pub chosen_full : (w : Choice) (f : Scan) (s : State) → Full s → Full (chosen w f s)
 unfolding chosen cleaned_up
@@ -120,8 +119,8 @@ switch_to_full k time x s h =
 picked_full : (k time : ℕ) (was : Bool) (rule : Rule) (cpus : List Cpu) (o : Option ℕ) (s : State) → Full s
     → (after_schedule k time (picked_as time was rule cpus o s)).no_room ≡ true
 unfolding after_schedule picked_as switch_as hand_over
-picked_full k time was rule cpus none s h = h
-picked_full k time was rule cpus (some x) s h =
+picked_full k time was rule cpus None s h = h
+picked_full k time was rule cpus (Some x) s h =
     pick Full (eqb (hand_over time was x s).cpu.block.current_ctxt x) (λ t. h) (λ t. switch_to_full k time x (hand_over time was x s) h)
 
 pub schedule_full : (k time : ℕ) (cpus : List Cpu) (s : State) → Full s → (after_schedule k time (schedule k time cpus s)).no_room ≡ true

@@ -1,13 +1,13 @@
 -- Nobody is lost: who was queued or in charge here, and is runnable, is queued or in charge.
+use Rattle.std.specs.Prelude.{None, Option, Some, is_some}
 use mathlib.Core.Path.{◌≡◌, refl, subst, sym, ap, ◌∙◌}
 use mathlib.Core.Bool.{Bool, true, false, not}
-use mathlib.Core.Option.{Option, none, some}
 use mathlib.Core.Logic.{◌⊎◌, inl, inr}
 use Prim.Native.Nat.{ℕ}
 use borrow.Author.Tests.{eqb-true, eq-eqb}
 use Rattle.context.specs.Status.{is_runnable}
 use Rattle.machine.specs.Machine.{Machine, cpu_at}
-use Rattle.model.specs.State.{at, is_some, is_idle}
+use Rattle.model.specs.State.{at, is_idle}
 use Rattle.model.specs.Steal.{Stealing}
 use Rattle.model.specs.Tidy.{Sound, Tidy, Present, Live, Runnable, Queued, Idle, IsContext, context}
 use Rattle.model.specs.Demand3.{in_charge, Kept, queued_once, put_in_charge, QueuedOrInCharge, was_queued, was_in_charge, was_woken}
@@ -85,14 +85,14 @@ module _ (turn : Turn) where
       not_lost (inl g) = never (gone_as ∙ g) live
       not_lost (inr r) = never run (ap is_runnable status_is ∙ r)
 
-      won : steal_of.winner ≡ some x → Kept k time M M' x
+      won : steal_of.winner ≡ Some x → Kept k time M M' x
       won z = kept_in_charge x (in_charge_is turn ∙ ap (successor k M (runs turn)) z)
 
-      later : Has x (on k steal_of.state.cpu.queue (queue_list steal_of.cpus)) ⊎ (steal_of.winner ≡ some x) → Kept k time M M' x
+      later : Has x (on k steal_of.state.cpu.queue (queue_list steal_of.cpus)) ⊎ (steal_of.winner ≡ Some x) → Kept k time M M' x
       later (inl g) = kept_queued x ((is_settled turn).has x g)
       later (inr z) = won z
 
-      after : Has x (on k (C turn).cpu.queue (queues M)) ⊎ (Lost (at (C turn) x) ⊎ ((chose turn).winner ≡ some x)) → Kept k time M M' x
+      after : Has x (on k (C turn).cpu.queue (queues M)) ⊎ (Lost (at (C turn) x) ⊎ ((chose turn).winner ≡ Some x)) → Kept k time M M' x
       after (inl g) = later ((kept turn).has x g)
       after (inr (inl g)) = absurd (not_lost g)
       after (inr (inr z)) = won ((kept turn).keeps x z)
@@ -102,8 +102,8 @@ module _ (turn : Turn) where
 
       -- the holder, by whether it runs and who won
       holder : h ≡ x → (b : Bool) (w : Option ℕ) → runs turn ≡ b → steal_of.winner ≡ w → Kept k time M M' x
-      holder m true none p q = kept_in_charge x (in_charge_is turn ∙ ap (λ b. successor k M b steal_of.winner) p ∙ ap (successor k M true) q ∙ m)
-      holder m true (some y) p q = kept_queued x (subst (λ z. Has z (on k (s turn).cpu.queue (queue_list steal_of.cpus))) m ((is_settled turn).back (ap is_some q) p))
+      holder m true None p q = kept_in_charge x (in_charge_is turn ∙ ap (λ b. successor k M b steal_of.winner) p ∙ ap (successor k M true) q ∙ m)
+      holder m true (Some y) p q = kept_queued x (subst (λ z. Has z (on k (s turn).cpu.queue (queue_list steal_of.cpus))) m ((is_settled turn).back (ap is_some q) p))
       holder m false w p q =
           by_test (is_idle (J turn))
           (λ t. absurd (idle k (record {

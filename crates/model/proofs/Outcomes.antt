@@ -1,16 +1,14 @@
 -- What the decision's end says of V and of what was stolen.
-use Rattle.std.specs.Prelude.{if◌then◌else◌}
+use Rattle.std.specs.Prelude.{if◌then◌else◌, None, Option, Some, is_some}
 use mathlib.Core.Path.{◌≡◌, refl, subst, sym, ap, ◌∙◌}
 use mathlib.Core.Bool.{Bool, true, false, not, ◌&&◌, ◌||◌}
 use mathlib.Core.List.{List, ◌∷◌}
-use mathlib.Core.Option.{Option, none, some}
 use mathlib.Core.Logic.{◌⊎◌, inl, inr, ◌≢◌}
 use Prim.Native.Nat.{ℕ, ◌+◌, ◌/◌}
 use lib.Dec.{eqb}
 use borrow.Author.Tests.{eq-eqb, ne_eqb}
 use Rattle.entries.specs.declared.Entry.{Entry}
 use Rattle.machine.specs.Machine.{Machine, cpu_at}
-use Rattle.model.specs.State.{is_some}
 use Rattle.model.specs.Steal.{Stealing}
 use Rattle.model.specs.Tidy.{Sound, Tidy, Present}
 use Rattle.model.specs.Schedule.{choose_and_steal}
@@ -63,9 +61,9 @@ module _ (turn : Turn) where
 
   idle_test : (b : Bool) (w : Option ℕ) → runs turn ≡ b → steal_of.winner ≡ w
       → eqb (successor k M b w) (cpu_at M k).block.idle_ctxt ≡ not (is_some w || b)
-  idle_test b (some x) p q = ne_eqb x _ (((kept turn).winner x q).free.not_idle k P)
-  idle_test true none p q = ne_eqb _ _ (awake turn p)
-  idle_test false none p q = eq-eqb (cpu_at M k).block.idle_ctxt _ refl
+  idle_test b (Some x) p q = ne_eqb x _ (((kept turn).winner x q).free.not_idle k P)
+  idle_test true None p q = ne_eqb _ _ (awake turn p)
+  idle_test false None p q = eq-eqb (cpu_at M k).block.idle_ctxt _ refl
 
   -- the total weight is what the stealing leaves
   stolen_total : steal_of.state.cpu.block.total_weight ≡ total_weight_here k time M
@@ -110,7 +108,7 @@ module _ (turn : Turn) where
         (sym ((chosen_after turn).inv.one d y.entry k y.cpu (rw (eq-eqb k k refl) i) there (m ∙ sym y.of)).1)
 
     -- and did not win before the stealing
-    not_won : (chose turn).winner ≢ some x
+    not_won : (chose turn).winner ≢ Some x
     not_won z = ((chosen_after turn).winner x z).out y.entry y.cpu there y.of
 
     -- an entry here at the end was there after the stealing
@@ -122,10 +120,10 @@ module _ (turn : Turn) where
         go (inr z) = absurd (not_holder (sym m ∙ z))
 
     -- in charge: it won by being stolen
-    won_since : (b : Bool) (w : Option ℕ) → steal_of.winner ≡ w → successor k M b w ≡ x → steal_of.winner ≡ some x
-    won_since b (some z) q m = q ∙ ap some m
-    won_since true none q m = absurd (not_holder (sym m))
-    won_since false none q m = absurd (not_idle (sym m))
+    won_since : (b : Bool) (w : Option ℕ) → steal_of.winner ≡ w → successor k M b w ≡ x → steal_of.winner ≡ Some x
+    won_since b (Some z) q m = q ∙ ap Some m
+    won_since true None q m = absurd (not_holder (sym m))
+    won_since false None q m = absurd (not_idle (sym m))
 
     -- an unbroken state stole nothing
     pub nothing_stolen : steal_of ≡ start k M (runs turn) (locked turn) (chose turn).winner (C turn) → ⊥
@@ -138,7 +136,7 @@ module _ (turn : Turn) where
     -- it is one of the lot
     pub of_the_lot : (t : ℕ) (e : Entry) (es : List Entry)
         → Robbed k M (runs turn) (locked turn) (chose turn).winner (C turn) steal_of t e es
-        → steal_of.winner ≡ some e.context_ref → In y.entry (e ∷ es) × (y.cpu ≡ t)
+        → steal_of.winner ≡ Some e.context_ref → In y.entry (e ∷ es) × (y.cpu ≡ t)
     of_the_lot t e es b w = go y.is_here
       where
         same : (g : Entry) → In g (e ∷ es) → g.context_ref ≡ x → In y.entry (e ∷ es) × (y.cpu ≡ t)

@@ -1,8 +1,8 @@
 -- Entries of one other CPU are stolen, the first of them winning where nobody else runs.
+use Rattle.std.specs.Prelude.{Option, Some}
 use mathlib.Core.Path.{◌≡◌, refl, subst, sym, ap, ◌∙◌}
 use mathlib.Core.Bool.{Bool, true, false}
 use mathlib.Core.List.{List, [], ◌∷◌}
-use mathlib.Core.Option.{Option, some}
 use mathlib.Core.Logic.{◌⊎◌, inl, inr, ◌≢◌}
 use Prim.Native.Nat.{ℕ, ◌<◌}
 use lib.Dec.{eqb}
@@ -36,10 +36,10 @@ module _ (k : ℕ) (M : Machine) (runs : Bool) (locked : List ℕ) (w : Option �
   -- what holds whoever is robbed
   pub record Kept (l : Stealing) : Type 0 where
     pub inv : Inv (Free M) M.contexts l.state.contexts (on k l.state.cpu.queue (queue_list l.cpus))
-    pub winner : (x : ℕ) → l.winner ≡ some x
+    pub winner : (x : ℕ) → l.winner ≡ Some x
         → Winner (Free M) M.contexts k (queues M) x l.state.contexts (on k l.state.cpu.queue (queue_list l.cpus))
-    pub keeps : (x : ℕ) → w ≡ some x → l.winner ≡ some x
-    pub has : (y : ℕ) → Has y (on k C.cpu.queue (queues M)) → Has y (on k l.state.cpu.queue (queue_list l.cpus)) ⊎ (l.winner ≡ some y)
+    pub keeps : (x : ℕ) → w ≡ Some x → l.winner ≡ Some x
+    pub has : (y : ℕ) → Has y (on k C.cpu.queue (queues M)) → Has y (on k l.state.cpu.queue (queue_list l.cpus)) ⊎ (l.winner ≡ Some y)
     pub status : (y : ℕ) → (at l.state y).status ≡ (at C y).status
     pub roles_kept : roles l.state.cpu ≡ roles C.cpu
     pub v : l.state.cpu.block.v ≡ C.cpu.block.v
@@ -54,7 +54,7 @@ module _ (k : ℕ) (M : Machine) (runs : Bool) (locked : List ℕ) (w : Option �
     pub sorted : Sorted entry_before (e ∷ es)
     pub from : (d : Entry) → In d (e ∷ es) → In d (queues M t)
     pub here : (d : Entry) → In d l.state.cpu.queue → In d C.cpu.queue ⊎ ((g : Entry) × In g (e ∷ es) × (g.context_ref ≡ d.context_ref))
-    pub first : first_wins runs w ≡ true → l.winner ≡ some e.context_ref
+    pub first : first_wins runs w ≡ true → l.winner ≡ Some e.context_ref
     pub second : first_wins runs w ≡ false → l.winner ≡ w
     pub kept : Kept l
 
@@ -63,7 +63,7 @@ module _ (k : ℕ) (M : Machine) (runs : Bool) (locked : List ℕ) (w : Option �
     robbed : l.done ≡ true → (t : ℕ) (e : Entry) (es : List Entry) → Robbed l t e es → StealResult l
 
   module _ (n : Inv (Free M) M.contexts C.contexts (on k C.cpu.queue (queues M)))
-      (win : (x : ℕ) → w ≡ some x → Winner (Free M) M.contexts k (queues M) x C.contexts (on k C.cpu.queue (queues M))) where
+      (win : (x : ℕ) → w ≡ Some x → Winner (Free M) M.contexts k (queues M) x C.contexts (on k C.cpu.queue (queues M))) where
     pub start_kept : Kept start
     unfolding cpu_at
     start_kept =
@@ -157,21 +157,21 @@ module _ (k : ℕ) (M : Machine) (runs : Bool) (locked : List ℕ) (w : Option �
                 (λ u. ap (λ (c : Cpu). c.queue) (get_or-set_other M.cpus t i (mark_stealable (published m.victim)) no_cpu (eqb-false i t u)));
           }
         where
-          back : (y : ℕ) → Has y (on k m.state.cpu.queue (on t m.victim.queue (queues M))) ⊎ (m.winner ≡ some y)
-              → Has y (on k m.state.cpu.queue (queue_list (after_moving t M.cpus m).cpus)) ⊎ (m.winner ≡ some y)
+          back : (y : ℕ) → Has y (on k m.state.cpu.queue (on t m.victim.queue (queues M))) ⊎ (m.winner ≡ Some y)
+              → Has y (on k m.state.cpu.queue (queue_list (after_moving t M.cpus m).cpus)) ⊎ (m.winner ≡ Some y)
           back y (inl (d, i, g, p)) = inl (d, i, rw (is_queue i) g, p)
           back y (inr z) = inr z
 
       -- the first of the lot wins, and stays the winner
-      first_won : first_wins runs w ≡ true → m.winner ≡ some e.context_ref
+      first_won : first_wins runs w ≡ true → m.winner ≡ Some e.context_ref
       unfolding move_entry
       first_won u = winner_stays (move_entry runs m₀ e) es e.context_ref (rw u)
         where
-          winner_stays : (z : Moving) (ds : List Entry) (x : ℕ) → z.winner ≡ some x → (fold (move_entry runs) z ds).winner ≡ some x
+          winner_stays : (z : Moving) (ds : List Entry) (x : ℕ) → z.winner ≡ Some x → (fold (move_entry runs) z ds).winner ≡ Some x
           winner_stays z [] x p = p
           winner_stays z (d ∷ ds) x p =
               winner_stays (move_entry runs z d) ds x
-              (pick (λ (y : Moving). y.winner ≡ some x) (first_wins runs z.winner) (λ q. never {b = false} (rw p at q) refl) (λ q. p))
+              (pick (λ (y : Moving). y.winner ≡ Some x) (first_wins runs z.winner) (λ q. never {b = false} (rw p at q) refl) (λ q. p))
 
       -- where another runs none of the lot wins
       none_won : first_wins runs w ≡ false → m.winner ≡ w

@@ -1,8 +1,8 @@
 -- The scan and the clean-up keep the invariant; what leaves the queue is gone or not runnable.
+use Rattle.std.specs.Prelude.{None, Option}
 use mathlib.Core.Path.{◌≡◌, refl, subst, sym, ap, ◌∙◌}
 use mathlib.Core.Bool.{Bool, true, false, ◌&&◌}
 use mathlib.Core.List.{List, [], ◌∷◌, ◌++◌}
-use mathlib.Core.Option.{Option, none}
 use mathlib.Core.Logic.{◌⊎◌, inl, inr, ◌≢◌}
 use Prim.Native.Nat.{ℕ, ◌<◌}
 use lib.Dec.{eqb}
@@ -159,14 +159,14 @@ module _ (F : ℕ → Type 0) (cs₀ : List Context) (k time : ℕ) (p : Cpu) (h
         (λ d w u. changed d (visited k time p h f e (ready d)) refl refl (rw fr w.same_run) (rw fr w.same_fixed))
 
   -- one entry
-  pub step_scanning : (f : Scan) (e : Entry) (es : List Entry) → f.eligible_best ≡ none → Fresh k time p h cs f e → All (λ d. d.context_ref ≢ e.context_ref) es
+  pub step_scanning : (f : Scan) (e : Entry) (es : List Entry) → f.eligible_best ≡ None → Fresh k time p h cs f e → All (λ d. d.context_ref ≢ e.context_ref) es
       → Scanning f (e ∷ es) → Scanning (scan_step k time p h f e) es
   step_scanning f e es b a d s =
       rw (step_is k time p h cs f e b a)
       (pick (λ v. Scanning (visited k time p h f e v) es) (beyond k time p h f e)
       (λ t. visits_pass f e es s a.0 d (λ u. never {b = false} u refl)) (λ t. visits f e es s a.0 d (λ u. u)))
 
-  scanning : (f : Scan) (es : List Entry) → f.eligible_best ≡ none → Distinct es → All (Fresh k time p h cs f) es → Scanning f es
+  scanning : (f : Scan) (es : List Entry) → f.eligible_best ≡ None → Distinct es → All (Fresh k time p h cs f) es → Scanning f es
       → Scanning (fold (scan_step k time p h) f es) []
   scanning f [] b d a s = s
   scanning f (e ∷ es) b d a s =

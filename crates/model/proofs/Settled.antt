@@ -1,8 +1,7 @@
 -- V advances and a runnable holder that lost goes back to the queue.
-use Rattle.std.specs.Prelude.{if◌then◌else◌}
+use Rattle.std.specs.Prelude.{if◌then◌else◌, None, Option, Some, is_some}
 use mathlib.Core.Path.{◌≡◌, refl, subst, sym, ap, ◌∙◌}
 use mathlib.Core.Bool.{Bool, true, false, not, ◌&&◌, ◌||◌}
-use mathlib.Core.Option.{Option, none, some}
 use mathlib.Core.Logic.{◌⊎◌, inl, inr, ◌≢◌}
 use Prim.Native.Nat.{ℕ, ◌+◌, ◌/◌, ◌<◌}
 use native.Mathlib.Omega.{arith}
@@ -14,7 +13,7 @@ use Rattle.entries.specs.declared.Entry.{Entry}
 use Rattle.entries.specs.Order.{entry_before}
 use Rattle.entries.specs.Queue.{queue_insert}
 use Rattle.machine.specs.Machine.{Machine, context_at, cpu_at}
-use Rattle.model.specs.State.{State, at, on_cpu, holder, is_some}
+use Rattle.model.specs.State.{State, at, on_cpu, holder}
 use Rattle.model.specs.Steal.{Stealing, mark_stealable}
 use Rattle.model.specs.Tidy.{Sound, Tidy, Present}
 use Rattle.model.proofs.Cases.{by_test, never, pick, and_both, and_true}
@@ -37,8 +36,8 @@ module _ (k : ℕ) (M : Machine) where
 
   -- who is in charge afterwards
   abbrev pub successor : Bool → Option ℕ → ℕ
-  successor runs (some x) = x
-  successor runs none = if runs then (cpu_at M k).block.sched_ctxt else (cpu_at M k).block.idle_ctxt
+  successor runs (Some x) = x
+  successor runs None = if runs then (cpu_at M k).block.sched_ctxt else (cpu_at M k).block.idle_ctxt
 
   -- V's own advance
   abbrev pub gain : Bool → Option ℕ → ℕ → ℕ → ℕ
@@ -46,7 +45,7 @@ module _ (k : ℕ) (M : Machine) where
 
 module _ (k : ℕ) (M : Machine) (S : Sound M) (T : Tidy M) (P : Present M k) (runs : Bool) (n : ℕ) (l : Stealing)
     (kept : Inv (Free M) M.contexts l.state.contexts (on k l.state.cpu.queue (queue_list l.cpus)))
-    (win : (x : ℕ) → l.winner ≡ some x → Winner (Free M) M.contexts k (queues M) x l.state.contexts (on k l.state.cpu.queue (queue_list l.cpus)))
+    (win : (x : ℕ) → l.winner ≡ Some x → Winner (Free M) M.contexts k (queues M) x l.state.contexts (on k l.state.cpu.queue (queue_list l.cpus)))
     (roles_are : roles l.state.cpu ≡ roles (cpu_at M k)) (awake : runs ≡ true → (cpu_at M k).block.sched_ctxt ≢ (cpu_at M k).block.idle_ctxt) where
   pub record Settled (s : State) : Type 0 where
     pub inv : Inv (Fit k M (successor k M runs l.winner)) M.contexts s.contexts (on k s.cpu.queue (queue_list l.cpus))
@@ -71,13 +70,13 @@ module _ (k : ℕ) (M : Machine) (S : Sound M) (T : Tidy M) (P : Present M k) (r
 
   -- what is queued may stay queued
   fits : (o : Option ℕ) → l.winner ≡ o → (e : Entry) (i : ℕ) → In e (on k l.state.cpu.queue (queue_list l.cpus) i) → Fit k M (successor k M runs o) e.context_ref
-  fits (some x) z e i h =
+  fits (Some x) z e i h =
       record {
         not_idle = (kept.free e i h).not_idle;
         not_in_charge = (win x z).out e i h;
         not_elsewhere = λ j p o. (kept.free e i h).not_in_charge j p;
       }
-  fits none z e i h =
+  fits None z e i h =
       record {
         not_idle = (kept.free e i h).not_idle;
         not_in_charge = pick (λ c. e.context_ref ≢ c) runs (λ t. (kept.free e i h).not_in_charge k P) (λ t. (kept.free e i h).not_idle k P);
@@ -117,8 +116,8 @@ module _ (k : ℕ) (M : Machine) (S : Sound M) (T : Tidy M) (P : Present M k) (r
 
   -- the holder may be queued where another wins
   holder_fits : (o : Option ℕ) → l.winner ≡ o → is_some o ≡ true → runs ≡ true → Fit k M (successor k M runs o) (cpu_at M k).block.sched_ctxt
-  holder_fits none z t r = never {b = false} t refl
-  holder_fits (some x) z t r =
+  holder_fits None z t r = never {b = false} t refl
+  holder_fits (Some x) z t r =
       record {
         not_idle = λ j p m. awake r (m ∙ ap (λ i. (cpu_at M i).block.idle_ctxt) (sym (T.idle_at_home k j P p m)));
         not_in_charge = λ m. (win x z).free.not_in_charge k P (sym m);

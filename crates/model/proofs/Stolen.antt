@@ -1,8 +1,8 @@
 -- Work stealing: nothing is stolen, or entries of one other CPU are.
+use Rattle.std.specs.Prelude.{Option, Some}
 use mathlib.Core.Path.{◌≡◌, refl, subst, sym}
 use mathlib.Core.Bool.{Bool, true, false, not, ◌||◌}
 use mathlib.Core.List.{List, [], ◌∷◌}
-use mathlib.Core.Option.{Option, some}
 use mathlib.Core.Logic.{◌≢◌}
 use Prim.Native.Nat.{ℕ, ◌<◌}
 use lib.ListN.{length, get_or}
@@ -43,7 +43,7 @@ module _ (k : ℕ) (M : Machine) (runs : Bool) (locked : List ℕ) (w : Option �
   Results x = StealResult k M runs locked w C x
 
   module _ (n : Inv (Free M) M.contexts C.contexts (on k C.cpu.queue (queues M)))
-      (win : (x : ℕ) → w ≡ some x → Winner (Free M) M.contexts k (queues M) x C.contexts (on k C.cpu.queue (queues M))) where
+      (win : (x : ℕ) → w ≡ Some x → Winner (Free M) M.contexts k (queues M) x C.contexts (on k C.cpu.queue (queues M))) where
     -- what is proved where nothing is stolen, and where a lot of entries of one CPU is moved, holds after stealing
     module _ (P : Stealing → Type 0) (base : P begin) (lot : (t : ℕ) (e : Entry) (es : List Entry) → Lot t e es → P (robbing t e es)) where
       data Tried (l : Stealing) : Type 0 where

@@ -1,8 +1,8 @@
 -- The total weight that choosing and stealing leave: clean-up takes away what the scan gave up, and stealing only adds.
+use Rattle.std.specs.Prelude.{None, Option, Some}
 use mathlib.Core.Path.{◌≡◌, refl}
 use mathlib.Core.Bool.{Bool, not, ◌||◌}
 use mathlib.Core.List.{List, [], ◌∷◌}
-use mathlib.Core.Option.{Option, none, some}
 use Prim.Native.Nat.{ℕ, ◌-◌, ◌≤◌}
 use native.Mathlib.Omega.{arith}
 use lib.ListN.{length, get_or}
@@ -33,8 +33,8 @@ abbrev total : State → ℕ
 total s = s.cpu.block.total_weight
 
 taken_out_total : (o : Option ℕ) (s : State) → total (taken_out o s) ≡ total s
-taken_out_total none s = refl
-taken_out_total (some x) s = pick (λ (z : State). total z ≡ total s) (at s x).has_queue_key (λ t. refl) (λ t. refl)
+taken_out_total None s = refl
+taken_out_total (Some x) s = pick (λ (z : State). total z ≡ total s) (at s x).has_queue_key (λ t. refl) (λ t. refl)
 
 chosen_total : (w : Choice) (f : Scan) (s : State) → total (chosen w f s) ≡ total s - f.weight_change
 unfolding chosen cleaned_up

@@ -1,7 +1,7 @@
 -- The cases of a wake-up, with what is known in each.
+use Rattle.std.specs.Prelude.{None, Option, Some}
 use mathlib.Core.Path.{◌≡◌, refl}
 use mathlib.Core.Bool.{true, false, not, ◌&&◌}
-use mathlib.Core.Option.{Option, none, some}
 use Prim.Native.Nat.{ℕ}
 use lib.Dec.{eqb}
 use Rattle.columns.specs.Common.{fold}
@@ -29,12 +29,12 @@ use Rattle.model.proofs.Cases.{pick, and_both, not_is_true, not_is_false}
 use Rattle.model.proofs.Queues.{run, fixed}
 
 pub woken_run : (o : Option ℕ) (c : Context) → run (woken_by o c) ≡ run c
-woken_run none c = refl
-woken_run (some t) c = pick (λ b. run b ≡ run c) (waits_for t c) (λ e. refl) (λ e. refl)
+woken_run None c = refl
+woken_run (Some t) c = pick (λ b. run b ≡ run c) (waits_for t c) (λ e. refl) (λ e. refl)
 
 pub woken_fixed : (o : Option ℕ) (c : Context) → fixed (woken_by o c) ≡ fixed c
-woken_fixed none c = refl
-woken_fixed (some t) c = pick (λ b. fixed b ≡ fixed c) (waits_for t c) (λ e. refl) (λ e. refl)
+woken_fixed None c = refl
+woken_fixed (Some t) c = pick (λ b. fixed b ≡ fixed c) (waits_for t c) (λ e. refl) (λ e. refl)
 
 -- every wake-up is served, in order
 pub every_wakeup : (time : ℕ) (s : State) → serve_wakeups time s ≡ fold serve_wakeup (drained time s) (wakeups time s)

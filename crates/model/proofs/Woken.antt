@@ -1,8 +1,8 @@
 -- Serving wake-ups keeps the invariant, and every entry's context queued.
+use Rattle.std.specs.Prelude.{None, Option, Some}
 use mathlib.Core.Path.{◌≡◌, refl, subst, sym, ap, ◌∙◌}
 use mathlib.Core.Bool.{true, false}
 use mathlib.Core.List.{map}
-use mathlib.Core.Option.{Option, none, some}
 use mathlib.Core.Logic.{◌⊎◌, inl, inr, ◌≢◌}
 use Prim.Native.Nat.{ℕ, ◌<◌}
 use native.Mathlib.Omega.{arith}
@@ -67,8 +67,8 @@ module _ (k time : ℕ) (M : Machine) (S : Sound M) (T : Tidy M) where
           record { range = rw m (S.name_is x k j); served = λ g o n. by_name (rw m j) o }
 
   pub put_back_waking : (o : Option ℕ) (x : ℕ) (s : State) → Waking s → Waking (put_back o x s)
-  put_back_waking none x s n = record { kept = n.kept; roles_kept = n.roles_kept; v = n.v; has = n.has }
-  put_back_waking (some t) x s n = record { kept = n.kept; roles_kept = n.roles_kept; v = n.v; has = n.has }
+  put_back_waking None x s n = record { kept = n.kept; roles_kept = n.roles_kept; v = n.v; has = n.has }
+  put_back_waking (Some t) x s n = record { kept = n.kept; roles_kept = n.roles_kept; v = n.v; has = n.has }
 
   -- no in-charge and no idle context enters
   pub enters_free : (s : State) (x : ℕ) (c : Context) → Waking s → fixed c ≡ fixed (at s x) → Enters c → Free M x

@@ -1,8 +1,8 @@
 -- Every wake-up that can enter the queue does, whatever else is served.
+use Rattle.std.specs.Prelude.{None, Option, Some}
 use mathlib.Core.Path.{◌≡◌, refl, subst, sym, ap, ◌∙◌}
 use mathlib.Core.Bool.{true, false, not, ◌&&◌, ◌||◌}
 use mathlib.Core.List.{List, [], ◌∷◌}
-use mathlib.Core.Option.{Option, none, some}
 use mathlib.Core.Logic.{◌⊎◌, inl, inr, ◌≢◌}
 use Prim.Native.Nat.{ℕ, ◌<◌}
 use lib.Dec.{eqb}
@@ -66,8 +66,8 @@ module _ (k time : ℕ) (M : Machine) (S : Sound M) (T : Tidy M) (own : ServesOw
   now s = on k s.cpu.queue (queues M)
 
   put_back_has : (o : Option ℕ) (z : ℕ) (s : State) (y : ℕ) → Has y (now s) → Has y (now (put_back o z s))
-  put_back_has none z s y h = h
-  put_back_has (some t) z s y h = h
+  put_back_has None z s y h = h
+  put_back_has (Some t) z s y h = h
 
   -- once queued, queued to the end
   serve_has : (s : State) (w : Wakeup) → Named k time M S T w → Waking k time M S T s → Has x (now s) → Has x (now (serve_wakeup s w))
@@ -77,8 +77,8 @@ module _ (k time : ℕ) (M : Machine) (S : Sound M) (T : Tidy M) (own : ServesOw
       (λ a l e. (enter_entered k time M S T own s w n m a l (enters s.cpu w.context_ref (woke s w) e)).has x h) (λ a t. h)
 
   put_back_at : (o : Option ℕ) (z : ℕ) (s : State) (y : ℕ) → at (put_back o z s) y ≡ at s y
-  put_back_at none z s y = refl
-  put_back_at (some t) z s y = refl
+  put_back_at None z s y = refl
+  put_back_at (Some t) z s y = refl
 
   -- a wake-up of another context leaves x's record alone
   serve_other : (s : State) (w : Wakeup) → w.context_ref ≢ x → at (serve_wakeup s w) x ≡ at s x
@@ -112,8 +112,8 @@ module _ (k time : ℕ) (M : Machine) (S : Sound M) (T : Tidy M) (own : ServesOw
 
     same_marks : (o : Option ℕ) (c : Context)
         → ((woken_by o c).currently_scheduled ≡ c.currently_scheduled) × ((woken_by o c).userspace ≡ c.userspace) × ((woken_by o c).running ≡ c.running)
-    same_marks none c = (refl, refl, refl)
-    same_marks (some t) c =
+    same_marks None c = (refl, refl, refl)
+    same_marks (Some t) c =
         pick (λ (d : Context). (d.currently_scheduled ≡ c.currently_scheduled) × (d.userspace ≡ c.userspace) × (d.running ≡ c.running)) (waits_for t c)
         (λ q. (refl, refl, refl)) (λ q. (refl, refl, refl))
 
@@ -124,8 +124,8 @@ module _ (k time : ℕ) (M : Machine) (S : Sound M) (T : Tidy M) (own : ServesOw
 
     -- a record that is not woken is the same
     unwoken : (o : Option ℕ) (c : Context) → is_runnable (woken_by o c).status ≡ false → woken_by o c ≡ c
-    unwoken none c = λ t. refl
-    unwoken (some q) c =
+    unwoken None c = λ t. refl
+    unwoken (Some q) c =
         pick (λ (d : Context). is_runnable d.status ≡ false → d ≡ c) (waits_for q c) (λ e t. never refl t) (λ e t. refl)
 
     result : (P : WakeupResult → Type 0) → (Asked s w → eqb (asked s w).lock 0 ≡ true → may_enter s.cpu w.context_ref (woke s w) ≡ true → P (entered (woke s w)))

@@ -1,6 +1,5 @@
 -- Cleaning up after the scan, and the choice. Assumes nothing.
-use Rattle.std.specs.Prelude.{Bool, not, ◌&&◌, ◌||◌, List, [], ◌∷◌, ℕ, ◌-◌, ltb, leb, eqb, length, if◌then◌else◌}
-use Rattle.std.proofs.Math.Option.{Option, none, some}
+use Rattle.std.specs.Prelude.{Bool, not, ◌&&◌, ◌||◌, List, [], ◌∷◌, ℕ, ◌-◌, ltb, leb, eqb, length, if◌then◌else◌, None, Option, Some}
 use Rattle.columns.specs.Common.{fold}
 use Rattle.context.specs.declared.Context.{Context}
 use Rattle.entries.specs.declared.Key.{Key}
@@ -34,8 +33,8 @@ pub record Choice : Type 0 where
   pub locked : List ℕ
 
 abbrev pub named : Option Entry → List ℕ
-named none = []
-named (some e) = e.context_ref ∷ []
+named None = []
+named (Some e) = e.context_ref ∷ []
 
 -- an earlier deadline, or the same one with more slice left
 abbrev pub goes_before : Context → Context → Bool
@@ -47,33 +46,33 @@ module _ (s : State) where
 
   -- the vtime of a runnable holder that is not eligible
   abbrev pub ineligible_holder : Option ℕ
-  ineligible_holder = if prev_runnable s && not prev_is_eligible then some (holder s).vtime else none
+  ineligible_holder = if prev_runnable s && not prev_is_eligible then Some (holder s).vtime else None
 
   -- an eligible entry was found
   abbrev pub against : Scan → Entry → Choice
   against f e =
       if prev_is_eligible && goes_before (holder s) (context_at f.contexts e.context_ref)
-      then record { winner = none; v = s.cpu.block.v; locked = named f.ineligible_best }
-      else record { winner = some e.context_ref; v = s.cpu.block.v; locked = named f.ineligible_best }
+      then record { winner = None; v = s.cpu.block.v; locked = named f.ineligible_best }
+      else record { winner = Some e.context_ref; v = s.cpu.block.v; locked = named f.ineligible_best }
 
   -- nobody is eligible: V becomes the least vtime
   abbrev pub nobody : Option Entry → Choice
-  nobody none =
-      record { winner = none; v = if prev_runnable s then (holder s).vtime else s.cpu.block.v; locked = [] }
-  nobody (some e) =
+  nobody None =
+      record { winner = None; v = if prev_runnable s then (holder s).vtime else s.cpu.block.v; locked = [] }
+  nobody (Some e) =
       if prev_runnable s && (leb (holder s).vtime e.vtime || leb (holder s).vd e.key.vd)
-      then record { winner = none; v = e.vtime; locked = e.context_ref ∷ [] }
-      else record { winner = some e.context_ref; v = e.vtime; locked = [] }
+      then record { winner = None; v = e.vtime; locked = e.context_ref ∷ [] }
+      else record { winner = Some e.context_ref; v = e.vtime; locked = [] }
 
   abbrev pub without_entry : Scan → Choice
   without_entry f =
       if prev_is_eligible
-      then record { winner = none; v = s.cpu.block.v; locked = named f.ineligible_best }
+      then record { winner = None; v = s.cpu.block.v; locked = named f.ineligible_best }
       else nobody f.ineligible_best
 
   abbrev pub choice_by : Scan → Option Entry → Choice
-  choice_by f none = without_entry f
-  choice_by f (some e) = against f e
+  choice_by f None = without_entry f
+  choice_by f (Some e) = against f e
 
   unfoldable pub choice : Scan → Choice
   choice f = choice_by f f.eligible_best
@@ -85,8 +84,8 @@ dequeued x s =
     if c.has_queue_key then remove_key (queue_key c) (put_context x (without_key c) s) else s
 
 abbrev pub taken_out : Option ℕ → State → State
-taken_out none s = s
-taken_out (some x) s = dequeued x s
+taken_out None s = s
+taken_out (Some x) s = dequeued x s
 
 -- the state after the scan and the choice
 unfoldable pub chosen : Choice → Scan → State → State

@@ -1,11 +1,10 @@
 -- After the choice and the stealing: V advances, a holder that lost goes back to the queue, the slice changes hands. Assumes nothing.
-use Rattle.std.specs.Prelude.{Bool, true, false, not, ◌&&◌, ◌||◌, ℕ, ◌+◌, ◌-◌, ◌/◌, eqb, if◌then◌else◌}
-use Rattle.std.proofs.Math.Option.{Option, none, some}
+use Rattle.std.specs.Prelude.{Bool, true, false, not, ◌&&◌, ◌||◌, ℕ, ◌+◌, ◌-◌, ◌/◌, eqb, if◌then◌else◌, None, Option, Some, is_some}
 use Rattle.context.specs.With.{with_currently_scheduled, with_schedule_time, with_sched_cpu_time}
 use Rattle.context.specs.Key.{queue_key, with_new_key, entry_of}
 use Rattle.weights.specs.Weights.{weight}
 use Rattle.percpu.specs.With.{cpu_sched_ctxt, cpu_v}
-use Rattle.model.specs.State.{State, at, put_context, on_cpu, insert_entry, remove_key, is_some, holder, is_idle}
+use Rattle.model.specs.State.{State, at, put_context, on_cpu, insert_entry, remove_key, holder, is_idle}
 use Rattle.model.specs.Steal.{Stealing, mark_stealable}
 
 -- V gains ticks divided by the total weight, if somebody won or a runnable holder stays
@@ -31,8 +30,8 @@ settled runs n l =
 
 -- who gets the slice; none: the holder keeps it
 unfoldable pub next_context : (runs : Bool) → Option ℕ → State → Option ℕ
-next_context runs (some x) s = some x
-next_context runs none s = if runs || is_idle s then none else some s.cpu.block.idle_ctxt
+next_context runs (Some x) s = Some x
+next_context runs None s = if runs || is_idle s then None else Some s.cpu.block.idle_ctxt
 
 -- the slice goes from the holder to x
 unfoldable pub hand_over : (time : ℕ) (was_idle : Bool) → ℕ → State → State

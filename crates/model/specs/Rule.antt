@@ -1,6 +1,5 @@
 -- Which rule left whom in charge (document 02, No. 3), by what the scan found and what was stolen. Assumes nothing.
-use Rattle.std.specs.Prelude.{Bool, not, ◌&&◌, ltb, leb, if◌then◌else◌}
-use Rattle.std.proofs.Math.Option.{Option, none, some}
+use Rattle.std.specs.Prelude.{Bool, not, ◌&&◌, ltb, leb, if◌then◌else◌, None, Option, Some}
 use Rattle.entries.specs.declared.Entry.{Entry}
 use Rattle.machine.specs.Machine.{context_at}
 use Rattle.answer.specs.declared.Rule.{Rule}
@@ -20,14 +19,14 @@ module _ (s : State) where
 
   -- nobody is eligible; an entry's key decides. stole: somebody was stolen where nobody waits
   abbrev pub rule_nobody : (stole : Bool) → Option Entry → Rule
-  rule_nobody stole none = if prev_runnable s then HolderVtime else if stole then Stolen else Idle
-  rule_nobody stole (some e) =
+  rule_nobody stole None = if prev_runnable s then HolderVtime else if stole then Stolen else Idle
+  rule_nobody stole (Some e) =
       if prev_runnable s && leb (holder s).vtime e.vtime then HolderVtime else
       if prev_runnable s && leb (holder s).vd e.key.vd then HolderLateDeadline else EntryVtime
 
   abbrev pub rule_by : (stole : Bool) → Scan → Option Entry → Rule
-  rule_by stole f (some e) = rule_against f e
-  rule_by stole f none = if prev_is_eligible s then HolderAlone else rule_nobody stole f.ineligible_best
+  rule_by stole f (Some e) = rule_against f e
+  rule_by stole f None = if prev_is_eligible s then HolderAlone else rule_nobody stole f.ineligible_best
 
   unfoldable pub rule_of : (stole : Bool) → Scan → Rule
   rule_of stole f = rule_by stole f f.eligible_best

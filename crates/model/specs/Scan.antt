@@ -1,6 +1,5 @@
 -- The scan of the queue, in key order. Assumes nothing.
-use Rattle.std.specs.Prelude.{Bool, true, false, not, ◌&&◌, ◌||◌, List, [], ◌∷◌, ◌++◌, ℕ, ◌+◌, ltb, leb, eqb, set, if◌then◌else◌}
-use Rattle.std.proofs.Math.Option.{Option, none, some}
+use Rattle.std.specs.Prelude.{Bool, true, false, not, ◌&&◌, ◌||◌, List, [], ◌∷◌, ◌++◌, ℕ, ◌+◌, ltb, leb, eqb, set, if◌then◌else◌, None, Option, Some, is_some}
 use Rattle.columns.specs.Common.{fold}
 use Rattle.context.specs.declared.Context.{Context}
 use Rattle.context.specs.With.{with_rem_slice, with_is_active}
@@ -11,7 +10,6 @@ use Rattle.runnable.specs.declared.UpdateResult.TheVariants.{CanSwitch, Skip, Bl
 use Rattle.runnable.specs.Runnable.{update_runnable}
 use Rattle.percpu.specs.Cpu.{Cpu}
 use Rattle.machine.specs.Machine.{context_at}
-use Rattle.model.specs.State.{is_some}
 use Rattle.context.specs.Key.{without_key}
 
 -- what the scan has found so far
@@ -41,21 +39,21 @@ is_ready (no_addr_space c) = false
 is_ready (ready c) = true
 
 abbrev pub above : Option ℕ → ℕ → Bool
-above none n = false
-above (some m) n = ltb m n
+above None n = false
+above (Some m) n = ltb m n
 
 abbrev pub below : Option ℕ → ℕ → Bool
-below none n = true
-below (some m) n = ltb n m
+below None n = true
+below (Some m) n = ltb n m
 
 abbrev pub is_of : Option Entry → ℕ → Bool
-is_of none x = false
-is_of (some e) x = eqb e.context_ref x
+is_of None x = false
+is_of (Some e) x = eqb e.context_ref x
 
 -- that of the best ineligible entry so far, or of an ineligible holder
 abbrev pub ineligible_min_vtime : Option Entry → Option ℕ → Option ℕ
-ineligible_min_vtime none h = h
-ineligible_min_vtime (some e) h = some e.vtime
+ineligible_min_vtime None h = h
+ineligible_min_vtime (Some e) h = Some e.vtime
 
 abbrev pub by_update : Context → UpdateResult → Visit
 by_update c Skip = pass
@@ -120,10 +118,10 @@ module _ (k time : ℕ) (p : Cpu) (h : Option ℕ) where
   visited s e (ready c) =
       record {
         contexts = set s.contexts e.context_ref c;
-        eligible_best = if is_eligible p e then some e else s.eligible_best;
+        eligible_best = if is_eligible p e then Some e else s.eligible_best;
         ineligible_best =
             if is_eligible p e then s.ineligible_best else
-            if below (ineligible_min_vtime s.ineligible_best h) e.vtime then some e else s.ineligible_best;
+            if below (ineligible_min_vtime s.ineligible_best h) e.vtime then Some e else s.ineligible_best;
         weight_change = s.weight_change;
         contexts_to_remove = s.contexts_to_remove;
       }
@@ -133,7 +131,7 @@ module _ (k time : ℕ) (p : Cpu) (h : Option ℕ) where
 
   abbrev pub scan_start : List Context → Scan
   scan_start cs =
-      record { contexts = cs; eligible_best = none; ineligible_best = none; weight_change = 0; contexts_to_remove = [] }
+      record { contexts = cs; eligible_best = None; ineligible_best = None; weight_change = 0; contexts_to_remove = [] }
 
   unfoldable pub scan : List Context → List Entry → Scan
   scan cs q = fold scan_step (scan_start cs) q

@@ -1,6 +1,5 @@
 -- `schedule` and the calls that decide: `tick`, `switch` and `direct_switch_to`. Assumes nothing.
-use Rattle.std.specs.Prelude.{Bool, false, List, ◌∷◌, ℕ, ◌+◌, ltb, eqb, set, if◌then◌else◌}
-use Rattle.std.proofs.Math.Option.{Option, none, some}
+use Rattle.std.specs.Prelude.{Bool, false, List, ◌∷◌, ℕ, ◌+◌, ltb, eqb, set, if◌then◌else◌, None, Option, Some, is_some}
 use Rattle.cpu_stats.specs.declared.CpuState.TheVariants.{Idle}
 use Rattle.cpu_stats.specs.With.{stats_state}
 use Rattle.ticks.specs.declared.Spent.{Spent}
@@ -10,7 +9,7 @@ use Rattle.percpu.specs.Cpu.{Cpu}
 use Rattle.percpu.specs.With.{cpu_pit_ticks, cpu_stats}
 use Rattle.machine.specs.Machine.{Machine}
 pub use Rattle.machine.specs.Outcome.{Outcome}
-use Rattle.model.specs.State.{State, at, on_cpu, state_of, is_some, prev_runnable}
+use Rattle.model.specs.State.{State, at, on_cpu, state_of, prev_runnable}
 use Rattle.model.specs.Turn.{spent, was_idle, charge_holder, before_selection}
 use Rattle.model.specs.Scan.{Scan, scan}
 use Rattle.model.specs.Choice.{Choice, choice, chosen, ineligible_holder}
@@ -56,8 +55,8 @@ abbrev pub locks : State → Choice → List ℕ
 locks s w = s.cpu.block.sched_ctxt ∷ w.locked
 
 unfoldable pub picked_as : (time : ℕ) (was_idle : Bool) → Rule → List Cpu → Option ℕ → State → Scheduled
-picked_as time was_idle rule cpus none s = record { state = s; cpus = cpus; picked = none; rule = rule }
-picked_as time was_idle rule cpus (some x) s = record { state = hand_over time was_idle x s; cpus = cpus; picked = some x; rule = rule }
+picked_as time was_idle rule cpus None s = record { state = s; cpus = cpus; picked = None; rule = rule }
+picked_as time was_idle rule cpus (Some x) s = record { state = hand_over time was_idle x s; cpus = cpus; picked = Some x; rule = rule }
 
 abbrev pub ticked : State → State
 ticked s = on_cpu (λ p. cpu_pit_ticks (p.block.pit_ticks + 1) p) s
@@ -95,15 +94,15 @@ module _ (k time : ℕ) where
 
   -- the holder kept the slice: the CPU is marked Idle though the holder may run
   unfoldable pub switch_as : (rule : ℕ) → State → List Cpu → Option ℕ → Outcome
-  switch_as rule s cpus none = finish_by rule k cpus (result_number AllContextsIdle) (on_cpu (λ p. cpu_stats (stats_state Idle p.block.stats) p) s)
-  switch_as rule s cpus (some x) = finish_by rule k cpus (result_number Switched) (if eqb s.cpu.block.current_ctxt x then s else switch_to k time x s)
+  switch_as rule s cpus None = finish_by rule k cpus (result_number AllContextsIdle) (on_cpu (λ p. cpu_stats (stats_state Idle p.block.stats) p) s)
+  switch_as rule s cpus (Some x) = finish_by rule k cpus (result_number Switched) (if eqb s.cpu.block.current_ctxt x then s else switch_to k time x s)
 
   unfoldable pub after_schedule : Scheduled → Outcome
   after_schedule d = switch_as (rule_number d.rule) d.state d.cpus d.picked
 
   unfoldable pub switch_inner_by : List Cpu → State → Option State → Outcome
-  switch_inner_by cpus s (some s') = finish k cpus (result_number Switched) s'
-  switch_inner_by cpus s none = after_schedule (schedule cpus s)
+  switch_inner_by cpus s (Some s') = finish k cpus (result_number Switched) s'
+  switch_inner_by cpus s None = after_schedule (schedule cpus s)
 
   unfoldable pub switch_inner : List Cpu → State → Outcome
   switch_inner cpus s = switch_inner_by cpus s (try_direct_switch_back k time s)
@@ -119,8 +118,8 @@ module _ (k time : ℕ) where
 
   -- x cannot be switched to: the CPU switches as it would by itself
   unfoldable pub direct_switch_or : List Cpu → State → Option State → Outcome
-  direct_switch_or cpus s (some s') = finish k cpus (result_number Switched) s'
-  direct_switch_or cpus s none = switch_inner cpus s
+  direct_switch_or cpus s (Some s') = finish k cpus (result_number Switched) s'
+  direct_switch_or cpus s None = switch_inner cpus s
 
   unfoldable pub direct_switch_to : ℕ → Machine → Outcome
   direct_switch_to x M =

@@ -1,6 +1,5 @@
 -- What a decision works on: the contexts, and the CPU that decides. Assumes nothing.
-use Rattle.std.specs.Prelude.{Bool, true, false, not, ◌&&◌, ◌||◌, List, [], ◌∷◌, ◌++◌, ℕ, ltb, eqb, length, set}
-use Rattle.std.proofs.Math.Option.{Option, none, some}
+use Rattle.std.specs.Prelude.{Bool, true, false, not, ◌&&◌, ◌||◌, List, [], ◌∷◌, ◌++◌, ℕ, ltb, eqb, length, set, None, Option, Some}
 use Rattle.context.specs.declared.Context.{Context}
 use Rattle.context.specs.Status.{is_runnable}
 use Rattle.entries.specs.declared.Key.{Key}
@@ -59,10 +58,6 @@ abbrev pub remove_key : Key → State → State
 remove_key k s =
     let q = queue_remove k s.cpu.queue in
     on_cpu (λ p. cpu_queue_len (length q) (cpu_queue q p)) s
-
-abbrev pub is_some : {A : Type 0} → Option A → Bool
-is_some none = false
-is_some (some a) = true
 
 -- document 01's holder: the context in charge before the decision, `prev_context`
 abbrev pub holder : State → Context

@@ -1,6 +1,5 @@
 -- Work stealing from other CPUs. Assumes nothing.
-use Rattle.std.specs.Prelude.{Bool, true, false, not, ◌&&◌, ◌||◌, List, [], ◌∷◌, ◌++◌, map, ℕ, ◌+◌, ◌-◌, ◌/◌, ◌%◌, min, max, ltb, leb, eqb, length, get_or, set, if◌then◌else◌}
-use Rattle.std.proofs.Math.Option.{Option, none, some}
+use Rattle.std.specs.Prelude.{Bool, true, false, not, ◌&&◌, ◌||◌, List, [], ◌∷◌, ◌++◌, map, ℕ, ◌+◌, ◌-◌, ◌/◌, ◌%◌, min, max, ltb, leb, eqb, length, get_or, set, if◌then◌else◌, None, Option, Some, is_some}
 use Rattle.columns.specs.Common.{fold, is_empty, tabulate}
 use Rattle.context.specs.declared.Context.{Context}
 use Rattle.context.specs.Status.{is_runnable}
@@ -11,7 +10,7 @@ use Rattle.entries.specs.Queue.{queue_remove}
 use Rattle.percpu.specs.Cpu.{Cpu}
 use Rattle.percpu.specs.With.{cpu_queue, cpu_total_weight, cpu_queue_len, cpu_published_weight, cpu_stealable, cpu_steal_counter}
 use Rattle.machine.specs.Machine.{context_at, no_cpu}
-use Rattle.model.specs.State.{State, at, put_context, on_cpu, insert_entry, is_some, is_idle}
+use Rattle.model.specs.State.{State, at, put_context, on_cpu, insert_entry, is_idle}
 use Rattle.numbers.specs.Limits.{word_range}
 use Rattle.context.specs.Key.{without_key, with_new_key, entry_of}
 
@@ -70,8 +69,8 @@ unfoldable pub want : State → Cpu → ℕ
 want s v = max 1 (min max_steal ((length v.queue - length s.cpu.queue) / 2))
 
 abbrev pub wins : Option ℕ → ℕ → Bool
-wins none x = false
-wins (some y) x = eqb x y
+wins None x = false
+wins (Some y) x = eqb x y
 
 -- k: this CPU; locked: the contexts that the decision keeps locked, the winner aside; got: the entries found so far
 unfoldable pub can_be_stolen : (k : ℕ) (locked : List ℕ) → List Context → Option ℕ → List Entry → Entry → Bool
@@ -113,7 +112,7 @@ move_entry runs m e =
     let c = moved m.state.cpu.block.v m.victim.block.v e.weight (at m.state x) in
     let s = on_cpu (λ p. cpu_total_weight (p.block.total_weight + e.weight) p) m.state in
     if first_wins runs m.winner
-    then record { state = put_context x c s; victim = give_up e m.victim; winner = some x }
+    then record { state = put_context x c s; victim = give_up e m.victim; winner = Some x }
     else record {
       state = insert_entry (entry_of x e.weight c) (put_context x (with_new_key c) s);
       victim = give_up e m.victim;

@@ -1,6 +1,5 @@
 -- One context leaves the CPU and another comes, after a decision or without one. Assumes nothing.
-use Rattle.std.specs.Prelude.{true, false, not, ◌&&◌, ℕ, ◌+◌, ◌-◌, eqb, if◌then◌else◌}
-use Rattle.std.proofs.Math.Option.{Option, none, some}
+use Rattle.std.specs.Prelude.{true, false, not, ◌&&◌, ℕ, ◌+◌, ◌-◌, eqb, if◌then◌else◌, None, Option, Some}
 use Rattle.context.specs.declared.Context.{Context}
 use Rattle.context.specs.Status.{is_runnable}
 use Rattle.context.specs.With.{with_running, with_cpu_id, with_switch_time, with_active_cpu_time, with_inside_syscall}
@@ -48,12 +47,12 @@ module _ (k time : ℕ) where
 
   -- to x without a decision, if it can run
   unfoldable pub direct_switch_by : ℕ → State → UpdateResult → Option State
-  direct_switch_by x s Skip = none
-  direct_switch_by x s Blocked = none
-  direct_switch_by x s (CanSwitch c) = some (switch_to x (put_context x c s))
+  direct_switch_by x s Skip = None
+  direct_switch_by x s Blocked = None
+  direct_switch_by x s (CanSwitch c) = Some (switch_to x (put_context x c s))
 
   -- back from the current context to the one in charge
   unfoldable pub try_direct_switch_back : State → Option State
   try_direct_switch_back s =
       let x = s.cpu.block.sched_ctxt in
-      if eqb s.cpu.block.current_ctxt x then none else direct_switch_by x s (update_runnable k time true false (at s x))
+      if eqb s.cpu.block.current_ctxt x then None else direct_switch_by x s (update_runnable k time true false (at s x))

@@ -1,6 +1,5 @@
 -- Wake-ups: due timers and the local list. Assumes nothing.
-use Rattle.std.specs.Prelude.{Bool, true, not, ◌&&◌, ◌||◌, List, [], ◌++◌, map, ℕ, ◌+◌, max, leb, eqb, if◌then◌else◌}
-use Rattle.std.proofs.Math.Option.{Option, none, some}
+use Rattle.std.specs.Prelude.{Bool, true, not, ◌&&◌, ◌||◌, List, [], ◌++◌, map, ℕ, ◌+◌, max, leb, eqb, if◌then◌else◌, None, Option, Some}
 use Rattle.columns.specs.Common.{fold, keep}
 use Rattle.context.specs.declared.Context.{Context}
 use Rattle.context.specs.Status.{is_runnable, is_soft_blocked}
@@ -33,10 +32,10 @@ abbrev pub is_live_timer : State → Timer → Bool
 is_live_timer s t = can_read s t.context_ref && waits_for t.wake (at s t.context_ref)
 
 abbrev pub timer_wakeup : Timer → Wakeup
-timer_wakeup t = record { wake = some t.wake; context_ref = t.context_ref }
+timer_wakeup t = record { wake = Some t.wake; context_ref = t.context_ref }
 
 abbrev pub local_wakeup : ℕ → Wakeup
-local_wakeup x = record { wake = none; context_ref = x }
+local_wakeup x = record { wake = None; context_ref = x }
 
 unfoldable pub wakeups : ℕ → State → List Wakeup
 wakeups time s =
@@ -57,12 +56,12 @@ drained time s =
 
 -- a context that is locked is tried again at the next decision
 abbrev pub put_back : Option ℕ → ℕ → State → State
-put_back none x s = push_local x s
-put_back (some wake) x s = insert_timer (record { wake = wake; context_ref = x }) s
+put_back None x s = push_local x s
+put_back (Some wake) x s = insert_timer (record { wake = wake; context_ref = x }) s
 
 abbrev pub woken_by : Option ℕ → Context → Context
-woken_by none c = c
-woken_by (some wake) c = if waits_for wake c then woken c else c
+woken_by None c = c
+woken_by (Some wake) c = if waits_for wake c then woken c else c
 
 -- only runnable user contexts enter the queue, and of the running ones only the one that this CPU switched to directly
 abbrev pub may_enter : Cpu → ℕ → Context → Bool

@@ -1,8 +1,8 @@
 -- The clean-up and the choice keep a machine well-formed, and who wins is a live context. Assumes nothing.
+use Rattle.std.specs.Prelude.{None, Option, Some}
 use mathlib.Core.Path.{refl}
 use mathlib.Core.Bool.{◌&&◌, ◌||◌}
 use mathlib.Core.List.{List}
-use mathlib.Core.Option.{Option, none, some}
 use Prim.Native.Nat.{ℕ}
 use native.Mathlib.Omega.{arith}
 use lib.Dec.{leb}
@@ -41,8 +41,8 @@ module _ (c n : ℕ) (cs₀ : List Context) where
 
   -- whoever is named is alive
   abbrev pub WinnerFormed : Option ℕ → Type 0
-  WinnerFormed none = Unit {0}
-  WinnerFormed (some x) = LiveName n cs₀ x
+  WinnerFormed None = Unit {0}
+  WinnerFormed (Some x) = LiveName n cs₀ x
 
   -- the winner is the best entry's context or the best ineligible one's
   module _ (s : State) (f : Scan) (o : ScanKept c n cs₀ f) where
@@ -50,13 +50,13 @@ module _ (c n : ℕ) (cs₀ : List Context) where
     Wins w = WinnerFormed w.winner
 
     nobody_wins : (e : Option Entry) → BestFormed c n cs₀ e → Wins (nobody s e)
-    nobody_wins none h = tt
-    nobody_wins (some e) h =
+    nobody_wins None h = tt
+    nobody_wins (Some e) h =
         pick Wins (prev_runnable s && (leb (holder s).vtime e.vtime || leb (holder s).vd e.key.vd)) (λ z. tt) (λ z. h)
 
     by_best : (e : Option Entry) → BestFormed c n cs₀ e → Wins (choice_by s f e)
-    by_best none h = pick Wins (prev_is_eligible s) (λ z. tt) (λ z. nobody_wins f.ineligible_best o.late)
-    by_best (some e) h =
+    by_best None h = pick Wins (prev_is_eligible s) (λ z. tt) (λ z. nobody_wins f.ineligible_best o.late)
+    by_best (Some e) h =
         pick Wins (prev_is_eligible s && goes_before (holder s) (context_at f.contexts e.context_ref)) (λ z. tt) (λ z. h)
 
     choice_wins : Wins (choice s f)
@@ -81,8 +81,8 @@ module _ (c n : ℕ) (cs₀ : List Context) where
       }
 
   taken_kept : (w : Option ℕ) (s : State) → WinnerFormed w → Good s → Good (taken_out w s)
-  taken_kept none s a o = o
-  taken_kept (some x) s a o =
+  taken_kept None s a o = o
+  taken_kept (Some x) s a o =
       let u : State = put_context x (without_key (at s x)) s in
       pick Good (at s x).has_queue_key
       (λ z. key_kept c n cs₀ u (put_kept c n cs₀ s o x (without_key (at s x)) a refl (unkeyed (at s x))) (queue_key (at s x))) (λ z. o)

@@ -1,8 +1,8 @@
 -- Operations 1 to 3 leave a machine well-formed. Assumes nothing.
+use Rattle.std.specs.Prelude.{None, Option, Some}
 use mathlib.Core.Path.{◌≡◌, refl, sym, ap, ◌∙◌, subst}
 use mathlib.Core.Bool.{Bool, true, false}
 use mathlib.Core.List.{List}
-use mathlib.Core.Option.{Option, none, some}
 use Prim.Native.Nat.{ℕ, ◌<◌, ◌≤◌}
 use native.Mathlib.Omega.{arith}
 use lib.Dec.{ltb, eqb}
@@ -105,15 +105,15 @@ module _ (c n : ℕ) (M : Machine) (W : WellFormed c n M) where
     switched : (rule : ℕ) (s : State) (cpus : List Cpu) (w : Option ℕ) → length cpus ≡ c → ((j : ℕ) → Stands n M.contexts (get_or cpus j no_cpu)) → WinnerFormed c n M.contexts w → Good s
         → Leaves (switch_as k time rule s cpus w)
     unfolding switch_as
-    switched rule s cpus none l a w o = finished rule cpus 2 _ l a o
-    switched rule s cpus (some x) l a w o =
+    switched rule s cpus None l a w o = finished rule cpus 2 _ l a o
+    switched rule s cpus (Some x) l a w o =
         finished rule cpus 1 _ l a (pick Good (eqb s.cpu.block.current_ctxt x) (λ z. o) (λ z. switch_to_kept c n M.contexts time soon k here x s w o))
 
     picked : (was : Bool) (rule : Rule) (cpus : List Cpu) (w : Option ℕ) (s : State) → length cpus ≡ c → ((j : ℕ) → Stands n M.contexts (get_or cpus j no_cpu)) → WinnerFormed c n M.contexts w → Good s
         → Leaves (after_schedule k time (picked_as time was rule cpus w s))
     unfolding after_schedule picked_as
-    picked was rule cpus none s l a w o = switched (rule_number rule) s cpus none l a w o
-    picked was rule cpus (some x) s l a w o = switched (rule_number rule) (hand_over time was x s) cpus (some x) l a w (hand_over_kept c n M.contexts time soon was x s w o)
+    picked was rule cpus None s l a w o = switched (rule_number rule) s cpus None l a w o
+    picked was rule cpus (Some x) s l a w o = switched (rule_number rule) (hand_over time was x s) cpus (Some x) l a w (hand_over_kept c n M.contexts time soon was x s w o)
 
     -- s: the state before the choice
     stolen : (s : State) → Good s → StealKept c n M.contexts live_fixed (choose_and_steal k time M.cpus s)
@@ -144,8 +144,8 @@ module _ (c n : ℕ) (M : Machine) (W : WellFormed c n M) where
 
     inner_by : (s : State) (d : Option State) → Good s → Maybe d → Leaves (switch_inner_by k time M.cpus s d)
     unfolding switch_inner_by
-    inner_by s none o g = scheduled s o
-    inner_by s (some u) o g = finished 0 M.cpus 1 u W.cpus each_stands g
+    inner_by s None o g = scheduled s o
+    inner_by s (Some u) o g = finished 0 M.cpus 1 u W.cpus each_stands g
 
     inner : (s : State) → Good s → Leaves (switch_inner k time M.cpus s)
     unfolding switch_inner
@@ -153,8 +153,8 @@ module _ (c n : ℕ) (M : Machine) (W : WellFormed c n M) where
 
     direct_or : (s : State) (d : Option State) → Good s → Maybe d → Leaves (direct_switch_or k time M.cpus s d)
     unfolding direct_switch_or
-    direct_or s none o g = inner s o
-    direct_or s (some u) o g = finished 0 M.cpus 1 u W.cpus each_stands g
+    direct_or s None o g = inner s o
+    direct_or s (Some u) o g = finished 0 M.cpus 1 u W.cpus each_stands g
 
     call_leaves : (call : Call) → TargetFormed n M.contexts call → Leaves (outcome call k time M)
     unfolding tick switch direct_switch_to

@@ -1,9 +1,8 @@
 -- The end of a decision keeps a machine well-formed: V advances, the holder goes back, the slice changes hands, the CPU switches. Assumes nothing.
-use Rattle.std.specs.Prelude.{if◌then◌else◌}
+use Rattle.std.specs.Prelude.{if◌then◌else◌, None, Option, Some, is_some}
 use mathlib.Core.Path.{◌≡◌, refl, sym, ap, ◌∙◌}
 use mathlib.Core.Bool.{Bool, true, false, not, ◌&&◌, ◌||◌}
 use mathlib.Core.List.{List}
-use mathlib.Core.Option.{Option, none, some}
 use Prim.Native.Nat.{ℕ, ◌+◌, ◌-◌, ◌<◌, ◌≤◌}
 use native.Mathlib.Omega.{arith}
 use lib.Dec.{eqb}
@@ -15,7 +14,7 @@ use Rattle.runnable.specs.declared.UpdateResult.{UpdateResult}
 use Rattle.runnable.specs.Runnable.{update_runnable}
 use Rattle.percpu.specs.With.{cpu_sched_ctxt}
 use Rattle.machine.specs.Machine.{context_at}
-use Rattle.model.specs.State.{State, at, put_context, on_cpu, insert_entry, remove_key, is_some, holder, is_idle}
+use Rattle.model.specs.State.{State, at, put_context, on_cpu, insert_entry, remove_key, holder, is_idle}
 use Rattle.model.specs.Steal.{Stealing, mark_stealable}
 use Rattle.model.specs.SwitchTo.{saved, left, comes, becomes_current, switch_to, direct_switch_by, try_direct_switch_back}
 use Rattle.model.proofs.Cases.{pick}
@@ -95,8 +94,8 @@ module _ (c n : ℕ) (cs₀ : List Context) where
 
   pub next_formed : (runs : Bool) (w : Option ℕ) (s : State) → WinnerFormed c n cs₀ w → Good s → WinnerFormed c n cs₀ (next_context runs w s)
   unfolding next_context
-  next_formed runs (some x) s a o = a
-  next_formed runs none s a o = pick (WinnerFormed c n cs₀) (runs || is_idle s) (λ z. tt) (λ z. o.cpu.scalars.idle)
+  next_formed runs (Some x) s a o = a
+  next_formed runs None s a o = pick (WinnerFormed c n cs₀) (runs || is_idle s) (λ z. tt) (λ z. o.cpu.scalars.idle)
 
   module _ (time : ℕ) (soon : time ≤ max_number) where
     pub hand_over_kept : (was : Bool) (x : ℕ) (s : State) → LiveName n cs₀ x → Good s → Good (hand_over time was x s)
@@ -138,8 +137,8 @@ module _ (c n : ℕ) (cs₀ : List Context) where
           (λ z. name_kept c n cs₀ s o y o.cpu.scalars.current.below) (λ z. o))
 
       abbrev pub MaybeGood : Option State → Type 0
-      MaybeGood none = Unit {0}
-      MaybeGood (some s) = Good s
+      MaybeGood None = Unit {0}
+      MaybeGood (Some s) = Good s
 
       pub directly_kept : (own current : Bool) (x : ℕ) (s : State) → LiveName n cs₀ x → Good s
           → MaybeGood (direct_switch_by k time x s (update_runnable k time own current (at s x)))

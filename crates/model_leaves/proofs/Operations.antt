@@ -1,4 +1,5 @@
 -- Operations 4 to 7 leave a machine well-formed. Assumes nothing.
+use Rattle.std.specs.Prelude.{None, Option, Some}
 use mathlib.Core.Path.{◌≡◌, refl, sym, ◌∙◌, subst}
 use mathlib.Core.Bool.{true, false}
 use mathlib.Core.List.{[], ◌∷◌, ◌++◌}
@@ -8,14 +9,12 @@ use lib.Dec.{leb, eqb}
 use lib.ListN.{length, set, length-set, length-append}
 use borrow.Author.Tests.{ltb-false, leb-false}
 use Rattle.context.specs.declared.Context.{Context}
-use Rattle.context.specs.declared.Changed.{Changed}
+use Rattle.context.specs.Block.{Changed}
 use Rattle.context.specs.declared.Status.{Status}
 use Rattle.context.specs.Status.{is_runnable, is_soft_blocked}
 use Rattle.context.specs.Block.{blocked_as, unblocked}
 use Rattle.percpu.specs.Cpu.{Cpu}
 use Rattle.percpu.specs.With.{cpu_local_wakeup_list, cpu_ipi_context_wakeup_list}
-use Rattle.machine.specs.declared.CpuLookup.{CpuLookup}
-use Rattle.machine.specs.declared.CpuLookup.TheVariants.{Present, Absent}
 use Rattle.machine.specs.Machine.{Machine, context_at, cpu_at, set_context, set_cpu, no_cpu}
 use Rattle.machine.specs.Outcome.{Outcome}
 use Rattle.machine.proofs.Steps.{get_d_set}
@@ -46,12 +45,12 @@ unblocked_same q =
     pick (λ (d : Changed). SameViews q d.context) (is_soft_blocked q.status) (λ z. record { same_fixed = refl; same_changing = refl }) (λ z. record { same_fixed = refl; same_changing = refl })
 
 -- the CPU of a record's CPU word is present
-pub other_present : (k w t : ℕ) (M : Machine) → Present t ≡ other_cpu k w M → IsPresent M (w - 1) t
+pub other_present : (k w t : ℕ) (M : Machine) → Some t ≡ other_cpu k w M → IsPresent M (w - 1) t
 unfolding other_cpu
 other_present k w t M e =
     by_test (eqb w 0) (λ f. no (rw f at e)) (λ f. by_test (eqb (w - 1) k) (λ g. no (rw (f, g) at e)) (λ g. look_ups.present M (w - 1) t (rw (f, g) at e)))
   where
-    no : Present t ≡ Absent → IsPresent M (w - 1) t
+    no : Some t ≡ None → IsPresent M (w - 1) t
     no z = let y : ◌≡◌ {A = ℕ} 0 1 = cc in absurd (omega arith)
 
 module _ (c n : ℕ) (M : Machine) (W : WellFormed c n M) where
@@ -114,11 +113,11 @@ abbrev Leaves : ℕ → ℕ → Outcome → Type 0
 Leaves c n o = o.no_room ≡ false → WellFormed c n o.machine
 
 -- a name goes on a list of a present CPU
-wakeup_by : (c n k x r : ℕ) (M : Machine) → WellFormed c n M → k < c → (cpu_at M k).block.present ≡ true → x < n → (w : ℕ) (p : CpuLookup) → p ≡ other_cpu k w M
+wakeup_by : (c n k x r : ℕ) (M : Machine) → WellFormed c n M → k < c → (cpu_at M k).block.present ≡ true → x < n → (w : ℕ) (p : Option ℕ) → p ≡ other_cpu k w M
     → Leaves c n (wakeup_on k x r M p)
 unfolding wakeup_on
-wakeup_by c n k x r M W h e b w Absent f = local_leaves c n M W k h e x b
-wakeup_by c n k x r M W h e b w (Present t) f =
+wakeup_by c n k x r M W h e b w None f = local_leaves c n M W k h e x b
+wakeup_by c n k x r M W h e b w (Some t) f =
     let i = other_present k w t M f in
     let l : t < c = omega (arith, i.is, i.below, W.cpus) in
     ipi_leaves c n M W t l (subst (λ (j : ℕ). (cpu_at M j).block.present ≡ true) (sym i.is) i.present) x b

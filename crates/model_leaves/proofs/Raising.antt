@@ -1,11 +1,12 @@
 -- Operations 4 to 7 raise no number; an image that passes has none over 2^62 - 1. Assumes nothing.
+use Rattle.std.specs.Prelude.{None, Option, Some}
 use mathlib.Core.Path.{◌≡◌, refl, sym, subst}
 use mathlib.Core.List.{List}
 use Prim.Native.Nat.{ℕ, ◌<◌, ◌≤◌}
 use native.Mathlib.Omega.{arith}
 use lib.ListN.{length}
 use Rattle.context.specs.declared.Context.{Context}
-use Rattle.context.specs.declared.Changed.{Changed}
+use Rattle.context.specs.Block.{Changed}
 use Rattle.context.specs.declared.Status.{Status}
 use Rattle.context.specs.declared.Status.TheVariants.{Runnable}
 use Rattle.context.specs.Status.{is_runnable, is_soft_blocked}
@@ -15,8 +16,6 @@ use Rattle.entries.specs.declared.Entry.{Entry}
 use Rattle.percpu.specs.Cpu.{Cpu}
 use Rattle.percpu.specs.Words.{block_of}
 use Rattle.percpu.specs.Layout.{cpu_of, no_entry}
-use Rattle.machine.specs.declared.CpuLookup.{CpuLookup}
-use Rattle.machine.specs.declared.CpuLookup.TheVariants.{Present, Absent}
 use Rattle.machine.specs.Machine.{Machine, context_at, cpu_at, set_context, set_cpu, no_context, no_cpu}
 use Rattle.machine.specs.Encode.{decode}
 use Rattle.machine.specs.Outcome.{Outcome}
@@ -100,10 +99,10 @@ module _ (top c n : ℕ) where
   unfolding drain_ipi_context_wakeups
   drain_raises_none k M h r = lists_raised k _ M h refl refl r
 
-  wakeup_raised : (k x r : ℕ) (M : Machine) → k < c → MachineRaised top c n M → (l : CpuLookup) → ((t : ℕ) → l ≡ Present t → t < c) → MachineRaised top c n (wakeup_on k x r M l).machine
+  wakeup_raised : (k x r : ℕ) (M : Machine) → k < c → MachineRaised top c n M → (l : Option ℕ) → ((t : ℕ) → l ≡ Some t → t < c) → MachineRaised top c n (wakeup_on k x r M l).machine
   unfolding wakeup_on push_local push_ipi
-  wakeup_raised k x r M h a Absent b = lists_raised k _ M h refl refl a
-  wakeup_raised k x r M h a (Present t) b = lists_raised t _ M (b t refl) refl refl a
+  wakeup_raised k x r M h a None b = lists_raised k _ M h refl refl a
+  wakeup_raised k x r M h a (Some t) b = lists_raised t _ M (b t refl) refl refl a
 
   wakeup_raises_none : (k x r : ℕ) (M : Machine) → length M.cpus ≡ c → k < c → MachineRaised top c n M → MachineRaised top c n (wakeup_context k x r M).machine
   unfolding wakeup_context

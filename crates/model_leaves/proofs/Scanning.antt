@@ -1,8 +1,8 @@
 -- The scan keeps a machine well-formed, and what it finds best is of a live context. Assumes nothing.
+use Rattle.std.specs.Prelude.{None, Option, Some, is_some}
 use mathlib.Core.Path.{◌≡◌, refl, sym, ap, ◌∙◌}
 use mathlib.Core.Bool.{Bool, false, not, ◌&&◌, ◌||◌}
 use mathlib.Core.List.{List}
-use mathlib.Core.Option.{Option, none, some}
 use Prim.Native.Nat.{ℕ, ◌<◌}
 use native.Mathlib.Omega.{arith}
 use lib.Dec.{eqb}
@@ -17,7 +17,7 @@ use Rattle.runnable.specs.declared.UpdateResult.TheVariants.{CanSwitch, Skip, Bl
 use Rattle.runnable.specs.Runnable.{update_runnable, wake_has_come}
 use Rattle.percpu.specs.Cpu.{Cpu}
 use Rattle.machine.specs.Machine.{context_at}
-use Rattle.model.specs.State.{State, is_some}
+use Rattle.model.specs.State.{State}
 use Rattle.model.specs.Scan.{
   Scan,
   Visit,
@@ -82,8 +82,8 @@ module _ (c n : ℕ) (cs₀ : List Context) where
 
   -- an entry that was found is of a live context
   abbrev pub BestFormed : Option Entry → Type 0
-  BestFormed none = Unit {0}
-  BestFormed (some e) = LiveName n cs₀ e.context_ref
+  BestFormed None = Unit {0}
+  BestFormed (Some e) = LiveName n cs₀ e.context_ref
 
   pub record ScanKept (f : Scan) : Type 0 where
     pub count : length f.contexts ≡ n

@@ -1,9 +1,9 @@
 -- Wake-ups keep a machine well-formed. Assumes nothing.
+use Rattle.std.specs.Prelude.{None, Option, Some}
 use mathlib.Core.Path.{◌≡◌, refl, sym, ap, ◌∙◌, subst}
 use mathlib.Core.Logic.{◌⊎◌, inl, inr}
 use mathlib.Core.Bool.{true}
 use mathlib.Core.List.{List, map}
-use mathlib.Core.Option.{Option, none, some}
 use Prim.Native.Nat.{ℕ, ◌<◌, ◌≤◌}
 use native.Mathlib.Omega.{arith}
 use lib.ListN.{length}
@@ -46,17 +46,17 @@ woken_formed x o =
     }
 
 by_formed : {c : ℕ} (o : Option ℕ) (x : Context) → ChangingFormed c (changing x) → ChangingFormed c (changing (woken_by o x))
-by_formed none x f = f
-by_formed {c} (some t) x f = pick (λ (q : Context). ChangingFormed c (changing q)) (waits_for t x) (λ e. woken_formed x f) (λ e. f)
+by_formed None x f = f
+by_formed {c} (Some t) x f = pick (λ (q : Context). ChangingFormed c (changing q)) (waits_for t x) (λ e. woken_formed x f) (λ e. f)
 
 by_fixed : (o : Option ℕ) (x : Context) → fixed (woken_by o x) ≡ fixed x
-by_fixed none x = refl
-by_fixed (some t) x = pick (λ (q : Context). fixed q ≡ fixed x) (waits_for t x) (λ e. refl) (λ e. refl)
+by_fixed None x = refl
+by_fixed (Some t) x = pick (λ (q : Context). fixed q ≡ fixed x) (waits_for t x) (λ e. refl) (λ e. refl)
 
 -- the wake of a timer
 abbrev WakeFormed : Option ℕ → Type 0
-WakeFormed none = Unit {0}
-WakeFormed (some t) = t ≤ max_number
+WakeFormed None = Unit {0}
+WakeFormed (Some t) = t ≤ max_number
 
 record WakeupFormed (n : ℕ) (w : Wakeup) : Type 0 where
   name : w.context_ref < n
@@ -96,8 +96,8 @@ module _ (c n : ℕ) (cs₀ : List Context) (live : (x : ℕ) → LiveName n cs�
       entry_formed x (weight q.prio) r a.below (weight_low q.prio l) (weight_high q.prio l) (g ∙ f) h
 
   put_back_kept : (o : Option ℕ) (x : ℕ) (s : State) → WakeFormed o → x < n → Good s → Good (put_back o x s)
-  put_back_kept none x s f h g = name_kept c n cs₀ s g x h
-  put_back_kept (some t) x s f h g = timer_kept c n cs₀ s g (record { wake = t; context_ref = x }) (record { name = h; wake = f })
+  put_back_kept None x s f h g = name_kept c n cs₀ s g x h
+  put_back_kept (Some t) x s f h g = timer_kept c n cs₀ s g (record { wake = t; context_ref = x }) (record { name = h; wake = f })
 
   entering_formed : (v : ℕ) (q : Context) → ChangingFormed c (changing q) → ChangingFormed c (changing (entering v q))
   entering_formed v q o =

@@ -1,10 +1,9 @@
 -- What comes after the choice stays with the contexts that the CPU names: the advance, the holder put back, the slice and the CPU handed over.
 -- Assumes nothing.
-use Rattle.std.specs.Prelude.{if◌then◌else◌}
+use Rattle.std.specs.Prelude.{if◌then◌else◌, None, Option, Some, is_some}
 use mathlib.Core.Path.{◌≡◌, refl, ap, ◌∙◌}
 use mathlib.Core.Bool.{Bool, true, false, not, ◌&&◌, ◌||◌}
 use mathlib.Core.List.{List}
-use mathlib.Core.Option.{Option, none, some}
 use Prim.Native.Nat.{ℕ, ◌+◌, ◌-◌}
 use lib.Dec.{eqb}
 use Rattle.context.specs.declared.Context.{Context}
@@ -16,7 +15,7 @@ use Rattle.runnable.specs.declared.UpdateResult.{UpdateResult}
 use Rattle.runnable.specs.declared.UpdateResult.TheVariants.{CanSwitch, Skip, Blocked}
 use Rattle.runnable.specs.Runnable.{update_runnable}
 use Rattle.percpu.specs.With.{cpu_sched_ctxt}
-use Rattle.model.specs.State.{State, at, put_context, on_cpu, insert_entry, push_local, remove_key, is_some, holder, is_idle}
+use Rattle.model.specs.State.{State, at, put_context, on_cpu, insert_entry, push_local, remove_key, holder, is_idle}
 use Rattle.model.specs.Steal.{Stealing, mark_stealable}
 use Rattle.model.specs.Handover.{advance, requeue, settled, next_context, hand_over}
 use Rattle.model.specs.SwitchTo.{saved, left, comes, becomes_current, switch_to, direct_switch_by, try_direct_switch_back}
@@ -48,8 +47,8 @@ module _ (S : ℕ → Bool) (n : ℕ) where
 
   pub next_won : (runs : Bool) (w : Option ℕ) (s : State) → Won S w → Owns S n s → Won S (next_context runs w s)
   unfolding next_context
-  next_won runs none s t o = pick (Won S) (runs || is_idle s) (λ y. tt) (λ y. o.within.idle)
-  next_won runs (some x) s t o = t
+  next_won runs None s t o = pick (Won S) (runs || is_idle s) (λ y. tt) (λ y. o.within.idle)
+  next_won runs (Some x) s t o = t
 
   pub hand_owns : (time : ℕ) (was : Bool) (x : ℕ) (s : State) → S x ≡ true → Owns S n s → Owns S n (hand_over time was x s)
   unfolding hand_over
@@ -81,8 +80,8 @@ module _ (S : ℕ → Bool) (n : ℕ) (ds : List Context) where
   G = others S ds
 
   abbrev pub G_option : Option State → Option State
-  G_option none = none
-  G_option (some s) = some (G s)
+  G_option None = None
+  G_option (Some s) = Some (G s)
 
   advance_moves : (runs : Bool) (w : Option ℕ) (ticks : ℕ) (s : State) → advance runs w ticks (G s) ≡ G (advance runs w ticks s)
   unfolding advance
@@ -112,8 +111,8 @@ module _ (S : ℕ → Bool) (n : ℕ) (ds : List Context) where
 
   pub next_same : (runs : Bool) (w : Option ℕ) (s : State) → next_context runs w (G s) ≡ next_context runs w s
   unfolding next_context
-  next_same runs none s = refl
-  next_same runs (some x) s = refl
+  next_same runs None s = refl
+  next_same runs (Some x) s = refl
 
   -- context x is read and stored anew, and the CPU after it
   module _ (x : ℕ) (t : S x ≡ true) (f : Context → Context) (g : Context → State → State) (e : (c : Context) (s : State) → g c (G s) ≡ G (g c s)) where
@@ -154,7 +153,7 @@ module _ (S : ℕ → Bool) (n : ℕ) (ds : List Context) where
     direct_moves x s t o Skip = refl
     direct_moves x s t o Blocked = refl
     direct_moves x s t o (CanSwitch c) =
-        ap some (ap (switch_to k time x) (put_others S ds s x t c) ∙ switch_moves x (put_context x c s) t (with_record S n x c o))
+        ap Some (ap (switch_to k time x) (put_others S ds s x t c) ∙ switch_moves x (put_context x c s) t (with_record S n x c o))
 
     pub back_moves : (s : State) → Owns S n s → try_direct_switch_back k time (G s) ≡ G_option (try_direct_switch_back k time s)
     unfolding try_direct_switch_back
@@ -166,8 +165,8 @@ module _ (S : ℕ → Bool) (n : ℕ) (ds : List Context) where
 
 -- a direct switch back
 abbrev pub OwnsOption : (ℕ → Bool) → ℕ → Option State → Type 0
-OwnsOption S n none = Unit {0}
-OwnsOption S n (some s) = Owns S n s
+OwnsOption S n None = Unit {0}
+OwnsOption S n (Some s) = Owns S n s
 
 module _ (S : ℕ → Bool) (n k time : ℕ) where
   pub direct_owns : (x : ℕ) (s : State) → S x ≡ true → Owns S n s → (r : UpdateResult) → OwnsOption S n (direct_switch_by k time x s r)

@@ -1,9 +1,8 @@
 -- A switch that is not on a stealing turn, as a function of its CPU's state alone. Assumes nothing.
-use Rattle.std.specs.Prelude.{if◌then◌else◌}
+use Rattle.std.specs.Prelude.{if◌then◌else◌, None, Option, Some, is_some}
 use mathlib.Core.Path.{◌≡◌, refl, ap, ◌∙◌}
 use mathlib.Core.Bool.{Bool, false, not}
 use mathlib.Core.List.{List, []}
-use mathlib.Core.Option.{Option, none, some}
 use Prim.Native.Nat.{ℕ}
 use lib.Dec.{eqb}
 use Rattle.cpu_stats.specs.declared.CpuState.TheVariants.{Idle}
@@ -15,7 +14,7 @@ use Rattle.answer.specs.declared.SwitchResult.TheVariants.{Switched, AllContexts
 use Rattle.answer.specs.Number.{result_number, rule_number}
 use Rattle.percpu.specs.Cpu.{Cpu}
 use Rattle.percpu.specs.With.{cpu_stats}
-use Rattle.model.specs.State.{State, on_cpu, is_some, prev_runnable}
+use Rattle.model.specs.State.{State, on_cpu, prev_runnable}
 use Rattle.model.specs.Turn.{spent, was_idle, charge_holder, before_selection, before_choice}
 use Rattle.model.specs.Choice.{choice, chosen}
 use Rattle.model.specs.Rule.{rule_of}
@@ -50,8 +49,8 @@ module _ (k time : ℕ) where
       record { state = on_cpu count_steal (chosen w f b); cpus = cpus; winner = w.winner; done = false }
 
   unfoldable pub given : (was_idle : Bool) (rule : Rule) → Option ℕ → State → Ended
-  given was rule none s = record { state = on_cpu (λ p. cpu_stats (stats_state Idle p.block.stats) p) s; result = result_number AllContextsIdle; rule = rule_number rule }
-  given was rule (some x) s =
+  given was rule None s = record { state = on_cpu (λ p. cpu_stats (stats_state Idle p.block.stats) p) s; result = result_number AllContextsIdle; rule = rule_number rule }
+  given was rule (Some x) s =
       let s' = hand_over time was x s in
       record { state = if eqb s'.cpu.block.current_ctxt x then s' else switch_to k time x s'; result = result_number Switched; rule = rule_number rule }
 
@@ -62,8 +61,8 @@ module _ (k time : ℕ) where
       given was (rule_of b (is_some l.winner) (scanned k time b)) (next_context (prev_runnable b) l.winner s') s'
 
   unfoldable pub ended_by : State → Option State → Ended
-  ended_by s (some s') = record { state = s'; result = result_number Switched; rule = 0 }
-  ended_by s none = decided (was_idle s.cpu) (spent time s.cpu) (before_choice time s)
+  ended_by s (Some s') = record { state = s'; result = result_number Switched; rule = 0 }
+  ended_by s None = decided (was_idle s.cpu) (spent time s.cpu) (before_choice time s)
 
   unfoldable pub ended : State → Ended
   ended s = ended_by s (try_direct_switch_back k time s)
@@ -76,8 +75,8 @@ module _ (k time : ℕ) where
 
   pub given_is : (was : Bool) (rule : Rule) (cpus : List Cpu) (o : Option ℕ) (s : State) → after_schedule k time (picked_as time was rule cpus o s) ≡ finish_ended k cpus (given was rule o s)
   unfolding after_schedule picked_as switch_as given
-  given_is was rule cpus none s = refl
-  given_is was rule cpus (some x) s = refl
+  given_is was rule cpus None s = refl
+  given_is was rule cpus (Some x) s = refl
 
   decided_is : (cpus : List Cpu) (s : State) → finds_stealing_turn k time s ≡ false
       → after_schedule k time (schedule k time cpus s) ≡ finish_ended k cpus (decided (was_idle s.cpu) (spent time s.cpu) (before_choice time s))
@@ -90,12 +89,12 @@ module _ (k time : ℕ) where
       (unstolen_is cpus b t)
       ∙ given_is (was_idle s.cpu) _ cpus _ _
 
-  by_is : (cpus : List Cpu) (s : State) (o : Option State) → (o ≡ none → finds_stealing_turn k time s ≡ false) → switch_inner_by k time cpus s o ≡ finish_ended k cpus (ended_by s o)
+  by_is : (cpus : List Cpu) (s : State) (o : Option State) → (o ≡ None → finds_stealing_turn k time s ≡ false) → switch_inner_by k time cpus s o ≡ finish_ended k cpus (ended_by s o)
   unfolding switch_inner_by ended_by
-  by_is cpus s none f = decided_is cpus s (f refl)
-  by_is cpus s (some s') f = refl
+  by_is cpus s None f = decided_is cpus s (f refl)
+  by_is cpus s (Some s') f = refl
 
-  pub ended_is : (cpus : List Cpu) (s : State) → (try_direct_switch_back k time s ≡ none → finds_stealing_turn k time s ≡ false) → switch_inner k time cpus s ≡ finish_ended k cpus (ended s)
+  pub ended_is : (cpus : List Cpu) (s : State) → (try_direct_switch_back k time s ≡ None → finds_stealing_turn k time s ≡ false) → switch_inner k time cpus s ≡ finish_ended k cpus (ended s)
   unfolding switch_inner ended
   ended_is cpus s f = by_is cpus s (try_direct_switch_back k time s) f
 
@@ -109,8 +108,8 @@ module _ (S : ℕ → Bool) (n : ℕ) (k time : ℕ) where
 
   pub given_owns : (was : Bool) (rule : Rule) (w : Option ℕ) (s : State) → Won S w → Owns S n s → Owns S n (given k time was rule w s).state
   unfolding given
-  given_owns was rule none s t o = o
-  given_owns was rule (some x) s t o =
+  given_owns was rule None s t o = o
+  given_owns was rule (Some x) s t o =
       let s' = hand_over time was x s in
       let h : Owns S n s' = hand_owns S n time was x s t o in
       pick (Owns S n) (eqb s'.cpu.block.current_ctxt x) (λ y. h) (λ y. switch_owns S n k time x s' t h)
@@ -124,8 +123,8 @@ module _ (S : ℕ → Bool) (n : ℕ) (k time : ℕ) where
 
   by_owns : (s : State) (w : Option State) → Owns S n s → OwnsOption S n w → Owns S n (ended_by k time s w).state
   unfolding ended_by
-  by_owns s none o h = decided_owns (was_idle s.cpu) (spent time s.cpu) (before_choice time s) (choice_owns S n time s o)
-  by_owns s (some s') o h = h
+  by_owns s None o h = decided_owns (was_idle s.cpu) (spent time s.cpu) (before_choice time s) (choice_owns S n time s o)
+  by_owns s (Some s') o h = h
 
   pub ended_owns : (s : State) → Owns S n s → Owns S n (ended k time s).state
   unfolding ended
@@ -150,8 +149,8 @@ module _ (S : ℕ → Bool) (n : ℕ) (ds : List Context) (k time : ℕ) where
 
   pub given_moves : (was : Bool) (rule : Rule) (w : Option ℕ) (s : State) → Won S w → Owns S n s → given k time was rule w (G s) ≡ ended_others (given k time was rule w s)
   unfolding given
-  given_moves was rule none s t o = refl
-  given_moves was rule (some x) s t o =
+  given_moves was rule None s t o = refl
+  given_moves was rule (Some x) s t o =
       let s' = hand_over time was x s in
       let h : Owns S n s' = hand_owns S n time was x s t o in
       ap (λ (u : State). record { state = if eqb u.cpu.block.current_ctxt x then u else switch_to k time x u; result = result_number Switched; rule = rule_number rule })
@@ -177,10 +176,10 @@ module _ (S : ℕ → Bool) (n : ℕ) (ds : List Context) (k time : ℕ) where
 
   by_moves : (s : State) (w : Option State) → Owns S n s → ended_by k time (G s) (G_option S n ds w) ≡ ended_others (ended_by k time s w)
   unfolding ended_by
-  by_moves s none o =
+  by_moves s None o =
       ap (decided k time (was_idle s.cpu) (spent time s.cpu)) (choice_moves S n ds time s o)
       ∙ decided_moves (was_idle s.cpu) (spent time s.cpu) (before_choice time s) (choice_owns S n time s o)
-  by_moves s (some s') o = refl
+  by_moves s (Some s') o = refl
 
   pub ended_moves : (s : State) → Owns S n s → ended k time (G s) ≡ ended_others (ended k time s)
   unfolding ended

@@ -1,15 +1,14 @@
 -- The scan stays with the contexts of the queue's entries. Assumes nothing.
+use Rattle.std.specs.Prelude.{None, Option, Some, is_some}
 use mathlib.Core.Path.{◌≡◌, refl, ap, ◌∙◌}
 use mathlib.Core.Bool.{Bool, true}
 use mathlib.Core.List.{List}
-use mathlib.Core.Option.{Option, none, some}
 use Prim.Native.Nat.{ℕ}
 use lib.ListN.{length, set, length-set}
 use Rattle.columns.specs.Common.{All}
 use Rattle.context.specs.declared.Context.{Context}
 use Rattle.entries.specs.declared.Entry.{Entry}
 use Rattle.percpu.specs.Cpu.{Cpu}
-use Rattle.model.specs.State.{is_some}
 use Rattle.model.specs.Scan.{Scan, Visit, pass, gone, blocked, no_addr_space, ready, below, is_eligible, ineligible_min_vtime, visit, visited, scan_step, scan_start, scan}
 use Rattle.model.proofs.Cases.{pick}
 use Rattle.model_local.specs.Local.{with_others}
@@ -18,8 +17,8 @@ use Rattle.model_local.proofs.Owned.{OfEntry}
 
 -- an entry that was found is of the set
 abbrev pub Found : (ℕ → Bool) → Option Entry → Type 0
-Found S none = Unit {0}
-Found S (some e) = S e.context_ref ≡ true
+Found S None = Unit {0}
+Found S (Some e) = S e.context_ref ≡ true
 
 pub record ScanOwns (S : ℕ → Bool) (n : ℕ) (f : Scan) : Type 0 where
   pub count : length f.contexts ≡ n

@@ -1,8 +1,8 @@
 -- A switch that is not on a stealing turn reads and writes its own block and the contexts that its block names, and nothing else. Assumes nothing.
+use Rattle.std.specs.Prelude.{None, is_some}
 use mathlib.Core.Path.{◌≡◌, refl, sym, ap, ◌∙◌, subst}
 use mathlib.Core.Bool.{Bool, true, false, not, ◌&&◌}
 use mathlib.Core.List.{List}
-use mathlib.Core.Option.{none}
 use Prim.Native.Nat.{ℕ, ◌<◌, ◌≤◌}
 use lib.Dec.{eqb, ltb}
 use lib.ListN.{length, set, length-set}
@@ -15,7 +15,7 @@ use Rattle.runnable.specs.declared.UpdateResult.TheVariants.{CanSwitch, Skip, Bl
 use Rattle.runnable.specs.Runnable.{update_runnable}
 use Rattle.percpu.specs.Cpu.{Cpu}
 use Rattle.machine.specs.Machine.{Machine, context_at, cpu_at, no_context, no_cpu}
-use Rattle.model.specs.State.{State, at, state_of, is_some}
+use Rattle.model.specs.State.{State, at, state_of}
 use Rattle.model.specs.SwitchTo.{direct_switch_by, try_direct_switch_back}
 use Rattle.model.specs.Schedule.{Outcome, switch}
 use Rattle.model.specs.Accepted.{can_switch, decides}
@@ -32,20 +32,20 @@ module _ (k time : ℕ) (s : State) where
   abbrev sched : ℕ
   sched = s.cpu.block.sched_ctxt
 
-  by_none : (r : UpdateResult) → direct_switch_by k time sched s r ≡ none → can_switch r ≡ false
+  by_none : (r : UpdateResult) → direct_switch_by k time sched s r ≡ None → can_switch r ≡ false
   unfolding direct_switch_by
   by_none Skip e = refl
   by_none Blocked e = refl
   by_none (CanSwitch c) e = ap is_some e
 
-  decides_none : try_direct_switch_back k time s ≡ none → not (not (eqb s.cpu.block.current_ctxt sched) && can_switch (update_runnable k time true false (at s sched))) ≡ true
+  decides_none : try_direct_switch_back k time s ≡ None → not (not (eqb s.cpu.block.current_ctxt sched) && can_switch (update_runnable k time true false (at s sched))) ≡ true
   unfolding try_direct_switch_back
   decides_none e =
       by_test (eqb s.cpu.block.current_ctxt sched) (λ t. rw t)
       (λ t. rw (t, by_none (update_runnable k time true false (at s sched)) (rw t at e)))
 
 module _ (k time : ℕ) (M : Machine) (quiet : falls_on_stealing_turn k time M ≡ false) where
-  turn_quiet : try_direct_switch_back k time (state_of k M) ≡ none → finds_stealing_turn k time (state_of k M) ≡ false
+  turn_quiet : try_direct_switch_back k time (state_of k M) ≡ None → finds_stealing_turn k time (state_of k M) ≡ false
   turn_quiet e = rw (decides_none k time (state_of k M) e) at quiet
 
   pub switch_is : switch k time M ≡ finish_ended k M.cpus (ended k time (state_of k M))

@@ -1,8 +1,8 @@
 -- Wake-ups read and write contexts that the CPU names, and leave it naming no other. Assumes nothing.
+use Rattle.std.specs.Prelude.{None, Option, Some}
 use mathlib.Core.Path.{◌≡◌, refl, ap, ◌∙◌}
 use mathlib.Core.Bool.{Bool, true}
 use mathlib.Core.List.{List, [], ◌∷◌, ◌++◌, map}
-use mathlib.Core.Option.{Option, none, some}
 use Prim.Native.Nat.{ℕ}
 use lib.ListN.{set}
 use Rattle.columns.specs.Common.{fold, keep, All}
@@ -26,8 +26,8 @@ use Rattle.model_local.proofs.Owned.{Owns, OfTimer, OfEntry, OfNumber, with_queu
 module _ (S : ℕ → Bool) (n : ℕ) where
   -- what a wake-up leaves
   put_back_owns : (o : Option ℕ) (x : ℕ) (s : State) → S x ≡ true → Owns S n s → Owns S n (put_back o x s)
-  put_back_owns none x s h o = with_name S n x h o
-  put_back_owns (some t) x s h o = with_timer S n (record { wake = t; context_ref = x }) h o
+  put_back_owns None x s h o = with_name S n x h o
+  put_back_owns (Some t) x s h o = with_timer S n (record { wake = t; context_ref = x }) h o
 
   old_key_within : (c : Context) (q : List Entry) → All (OfEntry S n) q → All (OfEntry S n) (without_old_key c q)
   old_key_within c q h = by_test c.has_queue_key (λ t. rw t (all_remove entry_before (OfEntry S n) (keyed (queue_key c)) q h)) (λ t. rw t h)
@@ -81,8 +81,8 @@ module _ (S : ℕ → Bool) (n : ℕ) (ds : List Context) where
   G = others S ds
 
   put_back_moves : (o : Option ℕ) (x : ℕ) (s : State) → put_back o x (G s) ≡ G (put_back o x s)
-  put_back_moves none x s = refl
-  put_back_moves (some t) x s = refl
+  put_back_moves None x s = refl
+  put_back_moves (Some t) x s = refl
 
   enter_moves : (x : ℕ) (c : Context) (s : State) → S x ≡ true → enter x c (G s) ≡ G (enter x c s)
   unfolding enter

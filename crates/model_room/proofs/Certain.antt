@@ -1,8 +1,8 @@
 -- Where a CPU has fewer than 64 entries, timers and local names in all, every decision finds room. Assumes nothing.
+use Rattle.std.specs.Prelude.{None, Option, Some}
 use mathlib.Core.Path.{◌≡◌, refl}
 use mathlib.Core.Bool.{Bool, true, false}
 use mathlib.Core.List.{List}
-use mathlib.Core.Option.{Option, none, some}
 use Prim.Native.Nat.{ℕ, ◌+◌, ◌<◌, ◌≤◌}
 use native.Mathlib.Omega.{arith}
 use lib.Dec.{ltb, eqb}
@@ -26,8 +26,8 @@ use Rattle.model_room.proofs.Deciding.{switch_to_within, schedule_room}
 
 module _ {q t l : ℕ} (k time : ℕ) (cpus : List Cpu) (each : (i : ℕ) → length (get_or cpus i no_cpu).queue ≤ 64) (few : q + t + l < 64) where
   -- a direct switch that succeeds found room, so what is made of it by f finds room if f does where it fails
-  directly : (x : ℕ) (s : State) (r : UpdateResult) (f : Option State → Outcome) → Within q t l s → ((u : State) → u.no_room ≡ false → (f (some u)).no_room ≡ false)
-      → (f none).no_room ≡ false → (f (direct_switch_by k time x s r)).no_room ≡ false
+  directly : (x : ℕ) (s : State) (r : UpdateResult) (f : Option State → Outcome) → Within q t l s → ((u : State) → u.no_room ≡ false → (f (Some u)).no_room ≡ false)
+      → (f None).no_room ≡ false → (f (direct_switch_by k time x s r)).no_room ≡ false
   unfolding direct_switch_by
   directly x s Skip f h g n = n
   directly x s Blocked f h g n = n

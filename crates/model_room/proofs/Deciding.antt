@@ -1,9 +1,8 @@
 -- The choice takes entries out, and one entry at most goes back: a decision with room for its lists finds room. Assumes nothing.
-use Rattle.std.specs.Prelude.{if◌then◌else◌}
+use Rattle.std.specs.Prelude.{if◌then◌else◌, None, Option, Some, is_some}
 use mathlib.Core.Path.{◌≡◌, refl}
 use mathlib.Core.Bool.{Bool, true, false, not, ◌&&◌, ◌||◌}
 use mathlib.Core.List.{List}
-use mathlib.Core.Option.{Option, none, some}
 use Prim.Native.Nat.{ℕ, ◌+◌, ◌<◌, ◌≤◌}
 use native.Mathlib.Omega.{arith}
 use lib.Dec.{eqb}
@@ -15,7 +14,7 @@ use Rattle.weights.specs.Weights.{weight}
 use Rattle.percpu.specs.Cpu.{Cpu}
 use Rattle.percpu.specs.With.{cpu_v}
 use Rattle.machine.specs.Machine.{no_cpu}
-use Rattle.model.specs.State.{State, at, on_cpu, put_context, remove_key, is_some, holder, is_idle, prev_runnable}
+use Rattle.model.specs.State.{State, at, on_cpu, put_context, remove_key, holder, is_idle, prev_runnable}
 use Rattle.model.specs.Scan.{Scan}
 use Rattle.model.specs.Choice.{Choice, choice, cleaned_up, taken_out, chosen}
 use Rattle.model.specs.Steal.{Stealing}
@@ -32,8 +31,8 @@ use Rattle.model.specs.Handover.{advance, requeue, hand_over, settled}
 
 module _ {q t l : ℕ} where
   taken_out_within : (o : Option ℕ) (s : State) → Within q t l s → Within q t l (taken_out o s)
-  taken_out_within none s h = h
-  taken_out_within (some x) s h =
+  taken_out_within None s h = h
+  taken_out_within (Some x) s h =
       let u : State = put_context x (without_key (at s x)) s in
       pick (Within q t l) (at s x).has_queue_key (λ z. key_removed {q = q} {t = t} {l = l} u h (queue_key (at s x))) (λ z. h)
 
@@ -45,8 +44,8 @@ module _ {q t l : ℕ} where
 
 -- the choice does not change who is in charge
 taken_out_idle : (o : Option ℕ) (s : State) → is_idle (taken_out o s) ≡ is_idle s
-taken_out_idle none s = refl
-taken_out_idle (some x) s = pick (λ (u : State). is_idle u ≡ is_idle s) (at s x).has_queue_key (λ z. refl) (λ z. refl)
+taken_out_idle None s = refl
+taken_out_idle (Some x) s = pick (λ (u : State). is_idle u ≡ is_idle s) (at s x).has_queue_key (λ z. refl) (λ z. refl)
 
 chosen_idle : (w : Choice) (f : Scan) (s : State) → is_idle (chosen w f s) ≡ is_idle s
 unfolding chosen cleaned_up
@@ -93,8 +92,8 @@ module _ (k time : ℕ) where
   picked_room : {q t l : ℕ} (was : Bool) (rule : Rule) (cpus : List Cpu) (o : Option ℕ) (s : State) → l < 64 → Within q t l s
       → (after_schedule k time (picked_as time was rule cpus o s)).no_room ≡ false
   unfolding after_schedule picked_as switch_as hand_over
-  picked_room was rule cpus none s r h = h.room
-  picked_room {q} {t} {l} was rule cpus (some x) s r h =
+  picked_room was rule cpus None s r h = h.room
+  picked_room {q} {t} {l} was rule cpus (Some x) s r h =
       pick (λ (u : State). u.no_room ≡ false) (eqb (hand_over time was x s).cpu.block.current_ctxt x) (λ z. h.room)
       (λ z. (switch_to_within {q = q} {t = t} {l = l} x (hand_over time was x s) r h).room)
 

@@ -1,8 +1,8 @@
 -- Wake-ups and charging: each wake-up lengthens a list by at most one item, and so does charging. Assumes nothing.
+use Rattle.std.specs.Prelude.{None, Option, Some}
 use mathlib.Core.Path.{◌≡◌, refl, sym}
 use mathlib.Core.Bool.{Bool, true, false, not, ◌&&◌, ◌||◌}
 use mathlib.Core.List.{List, [], ◌∷◌}
-use mathlib.Core.Option.{Option, none, some}
 use Prim.Native.Nat.{ℕ, ◌+◌, ◌<◌, ◌≤◌}
 use native.Mathlib.Omega.{arith}
 use lib.ListN.{length, length-append, length-map}
@@ -30,8 +30,8 @@ use Rattle.context.specs.Key.{queue_key, entry_of}
 
 module _ {q t l : ℕ} (s : State) (h : Within q t l s) (a : q < 64) (b : t < 64) (d : l < 64) where
   put_back_within : (o : Option ℕ) (x : ℕ) → Within (q + 1) (t + 1) (l + 1) (put_back o x s)
-  put_back_within none x = weaker (omega arith) (omega arith) (omega arith) (name_pushed s h x d)
-  put_back_within (some wake) x = weaker (omega arith) (omega arith) (omega arith) (timer_inserted s h _ b)
+  put_back_within None x = weaker (omega arith) (omega arith) (omega arith) (name_pushed s h x d)
+  put_back_within (Some wake) x = weaker (omega arith) (omega arith) (omega arith) (timer_inserted s h _ b)
 
   old_key_out : (c : Context) → length (without_old_key c s.cpu.queue) ≤ q
   old_key_out c =

@@ -1,9 +1,8 @@
 -- The rule is the one whose condition holds, and no other: by the scan, on every image. Assumes nothing.
-use Rattle.std.specs.Prelude.{if◌then◌else◌}
+use Rattle.std.specs.Prelude.{if◌then◌else◌, None, Option, Some, is_some}
 use mathlib.Core.Path.{◌≡◌, refl, subst, sym, ap, ◌∙◌}
 use mathlib.Core.Bool.{Bool, true, false, not, ◌&&◌}
 use mathlib.Core.Logic.{◌⊎◌, inl, inr}
-use mathlib.Core.Option.{Option, none, some}
 use Prim.Native.Nat.{ℕ, ◌≤◌}
 use native.Mathlib.Omega.{arith}
 use lib.Dec.{ltb, leb}
@@ -13,7 +12,7 @@ use Rattle.entries.specs.declared.Entry.{Entry}
 use Rattle.machine.specs.Machine.{Machine}
 use Rattle.answer.specs.declared.Rule.{Rule}
 use Rattle.answer.specs.declared.Rule.TheVariants.{FirstEligible, HolderDeadline, HolderSlice, HolderAlone, HolderVtime, HolderLateDeadline, EntryVtime, Stolen, Idle}
-use Rattle.model.specs.State.{State, is_some, holder, prev_runnable}
+use Rattle.model.specs.State.{State, holder, prev_runnable}
 use Rattle.model.specs.Choice.{goes_before, prev_is_eligible}
 use Rattle.model.specs.Rule.{rule_against, rule_nobody, rule_by, rule_of}
 use Rattle.model.specs.Demand3.{judged}
@@ -51,7 +50,7 @@ module _ (k time : ℕ) (M : Machine) where
   abbrev pub the_rule : Rule
   the_rule = rule_of s stole (found k time M)
 
-  with_best : (e : Entry) → (found k time M).eligible_best ≡ some e → C (rule_against s (found k time M) e)
+  with_best : (e : Entry) → (found k time M).eligible_best ≡ Some e → C (rule_against s (found k time M) e)
   with_best e b =
       pick C (not (prev_is_eligible s && goes_before h (c e)))
       (λ t. let n = not_is_true _ t in
@@ -71,7 +70,7 @@ module _ (k time : ℕ) (M : Machine) where
       by_slice l (inl z) = never (lt-ltb _ _ z) l
       by_slice l (inr z) = z
 
-  with_late : NobodyOnTime k time M → (e : Entry) → (found k time M).ineligible_best ≡ some e → C (rule_nobody s stole (some e))
+  with_late : NobodyOnTime k time M → (e : Entry) → (found k time M).ineligible_best ≡ Some e → C (rule_nobody s stole (Some e))
   with_late n e b =
       pick C (prev_runnable s && leb h.vtime e.vtime)
       (λ t. let (r, l) = and_both (prev_runnable s) _ t in
@@ -81,7 +80,7 @@ module _ (k time : ℕ) (M : Machine) where
       record { nobody = n; runs = r; entry = e; is_found = b; sooner = leb-false _ _ (and_no (prev_runnable s) _ r t); deadline = leb-true _ _ l })
       (λ u. record { nobody = n; entry = e; is_found = b; beats = λ r. (leb-false _ _ (and_no (prev_runnable s) _ r t), leb-false _ _ (and_no (prev_runnable s) _ r u)) }))
 
-  with_none : NobodyOnTime k time M → (found k time M).ineligible_best ≡ none → C (rule_nobody s stole none)
+  with_none : NobodyOnTime k time M → (found k time M).ineligible_best ≡ None → C (rule_nobody s stole None)
   with_none n b =
       pick C (prev_runnable s) (λ r. record { nobody = n; runs = r; least = λ e z. absurd (some_none z b) })
       (λ r. let w : NobodyFound k time M = record { eligible = n.entries; ineligible = b; holder = r } in
@@ -93,16 +92,16 @@ module _ (k time : ℕ) (M : Machine) where
   holds = go (found k time M).eligible_best refl
     where
       late_go : NobodyOnTime k time M → (o : Option Entry) → (found k time M).ineligible_best ≡ o → C (rule_nobody s stole o)
-      late_go n (some e) b = with_late n e b
-      late_go n none b = with_none n b
+      late_go n (Some e) b = with_late n e b
+      late_go n None b = with_none n b
 
       go : (o : Option Entry) → (found k time M).eligible_best ≡ o → C (rule_by s stole (found k time M) o)
-      go (some e) b = with_best e b
-      go none b =
+      go (Some e) b = with_best e b
+      go None b =
           pick C (prev_is_eligible s) (λ t. record { none_found = b; on_time = on_time k time M t })
           (λ t. late_go (record { entries = b; holder = late k time M t }) (found k time M).ineligible_best refl)
 
-  by_best : (e : Entry) → (found k time M).eligible_best ≡ some e → the_rule ≡ rule_against s (found k time M) e
+  by_best : (e : Entry) → (found k time M).eligible_best ≡ Some e → the_rule ≡ rule_against s (found k time M) e
   unfolding rule_of
   by_best e b = ap (λ (o : Option Entry). rule_by s stole (found k time M) o) b
 
@@ -117,7 +116,7 @@ module _ (k time : ℕ) (M : Machine) where
 
   by_victim : NobodyFound k time M → the_rule ≡ if (stealing k time M).done then Stolen else Idle
   by_victim n =
-      by_none (record { entries = n.eligible; holder = λ o. never o.runs n.holder }) none n.ineligible ∙ no _ _ (prev_runnable s) n.holder
+      by_none (record { entries = n.eligible; holder = λ o. never o.runs n.holder }) None n.ineligible ∙ no _ _ (prev_runnable s) n.holder
       ∙ ap (λ (b : Bool). if b then Stolen else Idle) (winner_says k time M n)
 
   -- no other rule's condition holds
@@ -137,14 +136,14 @@ module _ (k time : ℕ) (M : Machine) where
   only HolderVtime w = go (found k time M).ineligible_best refl
     where
       go : (o : Option Entry) → (found k time M).ineligible_best ≡ o → the_rule ≡ HolderVtime
-      go none b = by_none w.nobody none b ∙ yes _ _ (prev_runnable s) w.runs
-      go (some e) b = by_none w.nobody (some e) b ∙ yes _ _ _ (and_true (prev_runnable s) _ w.runs (le-leb _ _ (w.least e b)))
+      go None b = by_none w.nobody None b ∙ yes _ _ (prev_runnable s) w.runs
+      go (Some e) b = by_none w.nobody (Some e) b ∙ yes _ _ _ (and_true (prev_runnable s) _ w.runs (le-leb _ _ (w.least e b)))
   only HolderLateDeadline w =
-      by_none w.nobody (some w.entry) w.is_found
+      by_none w.nobody (Some w.entry) w.is_found
       ∙ no _ _ (prev_runnable s && leb h.vtime w.entry.vtime) (rw w.runs (lt-leb h.vtime w.entry.vtime w.sooner))
       ∙ yes _ _ _ (and_true (prev_runnable s) _ w.runs (le-leb _ _ w.deadline))
   only EntryVtime w =
-      by_none w.nobody (some w.entry) w.is_found
+      by_none w.nobody (Some w.entry) w.is_found
       ∙ no _ _ (prev_runnable s && leb h.vtime w.entry.vtime) (neither _ (λ r. lt-leb _ _ (w.beats r).0))
       ∙ no _ _ (prev_runnable s && leb h.vd w.entry.key.vd) (neither _ (λ r. lt-leb _ _ (w.beats r).1))
     where

@@ -1,9 +1,9 @@
 -- What a call reports: the number of the rule if it decides, else 0. Each number exactly by what the scan found, on every image. Assumes nothing.
+use Rattle.std.specs.Prelude.{None, Option, Some, is_some}
 use mathlib.Core.Path.{◌≡◌, refl, subst, sym, ap, ◌∙◌}
 use mathlib.Core.Logic.{◌↔◌}
 use mathlib.Core.Bool.{Bool, true, false, not, ◌&&◌}
 use mathlib.Core.List.{List}
-use mathlib.Core.Option.{Option, none, some}
 use Prim.Native.Nat.{ℕ, ◌+◌}
 use native.Mathlib.Omega.{arith}
 use lib.Dec.{ltb, leb, eqb}
@@ -16,7 +16,7 @@ use Rattle.runnable.specs.declared.UpdateResult.TheVariants.{CanSwitch, Skip, Bl
 use Rattle.runnable.specs.Runnable.{update_runnable}
 use Rattle.percpu.specs.Cpu.{Cpu}
 use Rattle.machine.specs.Machine.{Machine, cpu_at}
-use Rattle.model.specs.State.{State, at, state_of, is_some}
+use Rattle.model.specs.State.{State, at, state_of}
 use Rattle.model.specs.Turn.{before_selection, before_choice}
 use Rattle.model.specs.SwitchTo.{direct_switch_by, try_direct_switch_back}
 use Rattle.model.specs.Schedule.{
@@ -45,13 +45,13 @@ use Rattle.model_rules.proofs.ByScan.{the_rule, holds, only}
 
 picked_rule : (time : ℕ) (was : Bool) (r : Rule) (cpus : List Cpu) (o : Option ℕ) (s : State) → (picked_as time was r cpus o s).rule ≡ r
 unfolding picked_as
-picked_rule time was r cpus none s = refl
-picked_rule time was r cpus (some x) s = refl
+picked_rule time was r cpus None s = refl
+picked_rule time was r cpus (Some x) s = refl
 
 switch_rule : (k time r : ℕ) (s : State) (cpus : List Cpu) (o : Option ℕ) → (switch_as k time r s cpus o).rule ≡ r
 unfolding switch_as
-switch_rule k time r s cpus none = refl
-switch_rule k time r s cpus (some x) = refl
+switch_rule k time r s cpus None = refl
+switch_rule k time r s cpus (Some x) = refl
 
 and_past : (a b : Bool) → a ≡ true → b ≡ (a && b)
 and_past true b t = refl
@@ -107,8 +107,8 @@ module _ (k time : ℕ) where
         subst (λ (b : Bool). Reports (switch_inner k time M.cpus u) (not b)) (switched_back u) (go (try_direct_switch_back k time u))
       where
         go : (o : Option State) → Reports (switch_inner_by k time M.cpus u o) (not (is_some o))
-        go (some t) = rests refl refl
-        go none = decides_so refl (ap (after_schedule k time) z)
+        go (Some t) = rests refl refl
+        go None = decides_so refl (ap (after_schedule k time) z)
 
     -- this tick counted
     abbrev counted : ℕ
@@ -133,8 +133,8 @@ module _ (k time : ℕ) where
       where
         go : (o : Option State) → is_some o ≡ can_switch (comes x)
             → Reports (direct_switch_or k time M.cpus s o) (not (can_switch (comes x)) && not (switches_back k time M))
-        go (some u) z = rests (and_not (not (can_switch (comes x))) _ (ap not (sym z))) refl
-        go none z = past _ (not (can_switch (comes x))) _ (ap not (sym z)) (inner_reports s refl)
+        go (Some u) z = rests (and_not (not (can_switch (comes x))) _ (ap not (sym z))) refl
+        go None z = past _ (not (can_switch (comes x))) _ (ap not (sym z)) (inner_reports s refl)
 
     pub call_reports : (call : Call) → Reports (outcome call k time M) (decides k time M call)
     unfolding switch

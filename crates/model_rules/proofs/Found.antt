@@ -1,9 +1,8 @@
 -- On a tidy machine the scan finds the entry of the least key, or the first of the least vtime, and no other is such. Assumes nothing.
-use Rattle.std.specs.Prelude.{if◌then◌else◌}
+use Rattle.std.specs.Prelude.{if◌then◌else◌, None, Option, Some}
 use mathlib.Core.Path.{◌≡◌, refl, sym, ap, ◌∙◌}
 use mathlib.Core.Bool.{Bool, true, false, not, ◌&&◌}
 use mathlib.Core.Logic.{◌⊎◌, inl, inr}
-use mathlib.Core.Option.{Option, none, some}
 use Prim.Native.Nat.{ℕ, ◌<◌, ◌≤◌}
 use native.Mathlib.Omega.{arith}
 use borrow.Author.Tests.{ltb-true, ltb-false}
@@ -74,36 +73,36 @@ module _ (turn : Turn) where
   apart : Distinct here.cpu.queue
   apart = separate (Free M) M.contexts k time (queues M) here (waking turn).kept
 
-  leads : (e : Entry) → (found k time M).eligible_best ≡ some e → IsFirst (is_on_time k time here) here.cpu.queue e
+  leads : (e : Entry) → (found k time M).eligible_best ≡ Some e → IsFirst (is_on_time k time here) here.cpu.queue e
   leads e b = first_is _ here.cpu.queue e in_order (sym (scan_best k time here.cpu (ineligible_holder here) here.contexts here.cpu.queue apart) ∙ b)
 
   -- the eligible entry found has the least key, and its record agrees with it
-  pub best_least : (e : Entry) → (found k time M).eligible_best ≡ some e → LeastKey k time M e
+  pub best_least : (e : Entry) → (found k time M).eligible_best ≡ Some e → LeastKey k time M e
   best_least e b = least_key k time M S T (waking turn) e (leads e b)
 
-  pub best_agrees : (e : Entry) → (found k time M).eligible_best ≡ some e → Agrees (record_of k time M e) e
+  pub best_agrees : (e : Entry) → (found k time M).eligible_best ≡ Some e → Agrees (record_of k time M e) e
   best_agrees e b =
       found_agrees (Free M) M.contexts k time (queues M) here (waking turn).kept e (leads e b).is_in (and_both (is_waiting k time here e) _ (leads e b).passes).0
 
-  none_eligible : (found k time M).eligible_best ≡ none → (e : Entry) → In e here.cpu.queue → is_on_time k time here e ≡ false
+  none_eligible : (found k time M).eligible_best ≡ None → (e : Entry) → In e here.cpu.queue → is_on_time k time here e ≡ false
   none_eligible b = first_none _ here.cpu.queue (sym (scan_best k time here.cpu (ineligible_holder here) here.contexts here.cpu.queue apart) ∙ b)
 
-  pub best_none : (found k time M).eligible_best ≡ none → (e : Entry) → Ready k time M e → Eligible k time M e → ⊥
+  pub best_none : (found k time M).eligible_best ≡ None → (e : Entry) → Ready k time M e → Eligible k time M e → ⊥
   best_none b e r l = never (both_on_time k time M S T (waking turn) e r l) (none_eligible b e r.is_in)
 
-  pub least_best : (e : Entry) → LeastKey k time M e → (found k time M).eligible_best ≡ some e
+  pub least_best : (e : Entry) → LeastKey k time M e → (found k time M).eligible_best ≡ Some e
   least_best e a = go (found k time M).eligible_best refl
     where
-      go : (o : Option Entry) → (found k time M).eligible_best ≡ o → (found k time M).eligible_best ≡ some e
-      go none b = absurd (best_none b e a.is_ready a.is_eligible)
-      go (some f) b = b ∙ ap some (one_least_key k time M f e (best_least f b) a)
+      go : (o : Option Entry) → (found k time M).eligible_best ≡ o → (found k time M).eligible_best ≡ Some e
+      go None b = absurd (best_none b e a.is_ready a.is_eligible)
+      go (Some f) b = b ∙ ap Some (one_least_key k time M f e (best_least f b) a)
 
-  pub none_best : ((e : Entry) → Ready k time M e → Eligible k time M e → ⊥) → (found k time M).eligible_best ≡ none
+  pub none_best : ((e : Entry) → Ready k time M e → Eligible k time M e → ⊥) → (found k time M).eligible_best ≡ None
   none_best n = go (found k time M).eligible_best refl
     where
-      go : (o : Option Entry) → (found k time M).eligible_best ≡ o → (found k time M).eligible_best ≡ none
-      go none b = b
-      go (some f) b = let a = best_least f b in absurd (n f a.is_ready a.is_eligible)
+      go : (o : Option Entry) → (found k time M).eligible_best ≡ o → (found k time M).eligible_best ≡ None
+      go None b = b
+      go (Some f) b = let a = best_least f b in absurd (n f a.is_ready a.is_eligible)
 
   -- nobody is eligible
   module _ (n : NobodyOnTime k time M) where
@@ -118,35 +117,35 @@ module _ (turn : Turn) where
         go true false z = refl
         go false o z = refl
 
-    late_of : (found k time M).ineligible_best ≡ least (ineligible_holder here) late_one none here.cpu.queue
+    late_of : (found k time M).ineligible_best ≡ least (ineligible_holder here) late_one None here.cpu.queue
     late_of = scan_late k time here.cpu (ineligible_holder here) here.contexts here.cpu.queue apart n.entries
 
-    is_bound : (r : Bool) → prev_runnable here ≡ r → ineligible_holder here ≡ if r then some (holder here).vtime else none
+    is_bound : (r : Bool) → prev_runnable here ≡ r → ineligible_holder here ≡ if r then Some (holder here).vtime else None
     is_bound true r = rw (is_late k time M n.holder, r)
     is_bound false r = rw r
 
-    found_late : (e : Entry) → (found k time M).ineligible_best ≡ some e → IsLeast late_one here.cpu.queue e × (below (ineligible_holder here) e.vtime ≡ true)
+    found_late : (e : Entry) → (found k time M).ineligible_best ≡ Some e → IsLeast late_one here.cpu.queue e × (below (ineligible_holder here) e.vtime ≡ true)
     found_late e b = least_is (ineligible_holder here) late_one here.cpu.queue e in_order (sym late_of ∙ b)
 
     -- the entry found is the first of the least vtime, which is smaller than a runnable holder's
-    pub late_first : (e : Entry) → (found k time M).ineligible_best ≡ some e → FirstLeast k time M e
+    pub late_first : (e : Entry) → (found k time M).ineligible_best ≡ Some e → FirstLeast k time M e
     late_first e b = first_least k time M S T (waking turn) e (least_agree late_one (is_waiting k time here) here.cpu.queue e late_is (found_late e b).0)
 
-    pub late_sooner : (e : Entry) → (found k time M).ineligible_best ≡ some e → prev_runnable here ≡ true → e.vtime < (holder here).vtime
+    pub late_sooner : (e : Entry) → (found k time M).ineligible_best ≡ Some e → prev_runnable here ≡ true → e.vtime < (holder here).vtime
     late_sooner e b r = ltb-true _ _ (rw (is_bound true r) at (found_late e b).1)
 
     -- none is found: a ready entry has no smaller vtime than a runnable holder's
-    pub late_none : (found k time M).ineligible_best ≡ none → (e : Entry) → Ready k time M e → (prev_runnable here ≡ true) × ((holder here).vtime ≤ e.vtime)
+    pub late_none : (found k time M).ineligible_best ≡ None → (e : Entry) → Ready k time M e → (prev_runnable here ≡ true) × ((holder here).vtime ≤ e.vtime)
     late_none b e a =
         by_test (prev_runnable here) (λ r. (r, ltb-false _ _ (rw (is_bound true r) at left))) (λ r. never refl (rw (is_bound false r) at left))
       where
         left : below (ineligible_holder here) e.vtime ≡ false
         left = least_none (ineligible_holder here) late_one here.cpu.queue (sym late_of ∙ b) e a.is_in (late_is e a.is_in ∙ ready_waits k time M S T (waking turn) e a)
 
-    pub first_late : (e : Entry) → FirstLeast k time M e → (prev_runnable here ≡ true → e.vtime < (holder here).vtime) → (found k time M).ineligible_best ≡ some e
+    pub first_late : (e : Entry) → FirstLeast k time M e → (prev_runnable here ≡ true → e.vtime < (holder here).vtime) → (found k time M).ineligible_best ≡ Some e
     first_late e a w = go (found k time M).ineligible_best refl
       where
-        go : (o : Option Entry) → (found k time M).ineligible_best ≡ o → (found k time M).ineligible_best ≡ some e
-        go none b =
+        go : (o : Option Entry) → (found k time M).ineligible_best ≡ o → (found k time M).ineligible_best ≡ Some e
+        go None b =
             let (r, l) = late_none b e a.is_ready in let x : e.vtime < (holder here).vtime = w r in absurd (omega arith)
-        go (some f) b = b ∙ ap some (one_first_least k time M f e (late_first f b) a)
+        go (Some f) b = b ∙ ap Some (one_first_least k time M f e (late_first f b) a)

@@ -1,7 +1,7 @@
 -- Which rule a decision on a tidy machine reports, in demand 3's words: each scan's condition is theirs. Assumes nothing.
+use Rattle.std.specs.Prelude.{None, Option, Some}
 use mathlib.Core.Path.{◌≡◌, refl, subst, sym, ap}
 use mathlib.Core.Logic.{◌⊎◌, inl, inr}
-use mathlib.Core.Option.{Option, none, some}
 use Prim.Native.Nat.{ℕ, ◌<◌, ◌≤◌}
 use native.Mathlib.Omega.{arith}
 use Rattle.entries.specs.declared.Entry.{Entry}
@@ -65,8 +65,8 @@ module _ (turn : Turn) where
       record { nobody = nobody_eligible turn w.nobody; runnable = runnable turn w.runs; least = go (found k time M).ineligible_best refl }
     where
       go : (o : Option Entry) → (found k time M).ineligible_best ≡ o → (e : Entry) → Ready k time M e → (the_holder k time M).vtime ≤ e.vtime
-      go none b e r = rw (hv turn) at (late_none turn w.nobody b e r).1
-      go (some f) b e r =
+      go None b e r = rw (hv turn) at (late_none turn w.nobody b e r).1
+      go (Some f) b e r =
           let x : f.vtime < (prev k time M).vtime = late_sooner turn w.nobody f b w.runs in
           let y : (prev k time M).vtime ≤ f.vtime = w.least f b in absurd (omega arith)
   to_tidy HolderLateDeadline w =

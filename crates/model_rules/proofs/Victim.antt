@@ -1,16 +1,16 @@
 -- Where nobody waits: a victim was found exactly if somebody won, and exactly if an entry of another CPU was stolen. Assumes nothing.
+use Rattle.std.specs.Prelude.{None, Option, Some, is_some}
 use mathlib.Core.Path.{◌≡◌, refl, subst, sym, ap, ◌∙◌}
 use mathlib.Core.Logic.{◌↔◌, inl}
 use mathlib.Core.Bool.{Bool, true, false, not, ◌||◌}
 use mathlib.Core.List.{List, [], ◌∷◌}
-use mathlib.Core.Option.{Option, none, some}
 use Prim.Native.Nat.{ℕ, ◌<◌}
 use lib.ListN.{length, get_or}
 use Rattle.columns.specs.Common.{fold, In}
 use Rattle.entries.specs.declared.Entry.{Entry}
 use Rattle.percpu.specs.Cpu.{Cpu}
 use Rattle.machine.specs.Machine.{Machine, cpu_at, no_cpu}
-use Rattle.model.specs.State.{State, on_cpu, is_some, prev_runnable}
+use Rattle.model.specs.State.{State, on_cpu, prev_runnable}
 use Rattle.model.specs.Steal.{Stealing, Moving, count_steal, first_wins, should_steal, can_steal_from, want, targets, move_entry, steal_entries, steal_from, steal}
 use Rattle.model.specs.Scan.{Scan}
 use Rattle.model.specs.Choice.{Choice, choice, choice_by, chosen, nobody}
@@ -23,23 +23,23 @@ use Rattle.model.proofs.Firsts.{some_none}
 use Rattle.model_rules.specs.ByScan.{found, stealing, NobodyFound, Theft}
 
 -- a winner stays; without one, and with no runnable holder, the first that is moved wins
-move_keeps : (x : ℕ) (m : Moving) (e : Entry) → m.winner ≡ some x → (move_entry false m e).winner ≡ some x
+move_keeps : (x : ℕ) (m : Moving) (e : Entry) → m.winner ≡ Some x → (move_entry false m e).winner ≡ Some x
 unfolding move_entry
-move_keeps x m e z = pick (λ (y : Moving). y.winner ≡ some x) (first_wins false m.winner) (λ t. never {b = false} (rw z at t) refl) (λ t. z)
+move_keeps x m e z = pick (λ (y : Moving). y.winner ≡ Some x) (first_wins false m.winner) (λ t. never {b = false} (rw z at t) refl) (λ t. z)
 
-first_moved : (m : Moving) (e : Entry) (es : List Entry) → m.winner ≡ none → (fold (move_entry false) m (e ∷ es)).winner ≡ some e.context_ref
+first_moved : (m : Moving) (e : Entry) (es : List Entry) → m.winner ≡ None → (fold (move_entry false) m (e ∷ es)).winner ≡ Some e.context_ref
 unfolding move_entry
 first_moved m e es z =
-    fold_keeps (λ (y : Moving). y.winner ≡ some e.context_ref) (move_entry false) (move_keeps e.context_ref) (move_entry false m e) es (rw z)
+    fold_keeps (λ (y : Moving). y.winner ≡ Some e.context_ref) (move_entry false) (move_keeps e.context_ref) (move_entry false m e) es (rw z)
 
 module _ (k : ℕ) (locked : List ℕ) (cpus : List Cpu) (s : State) where
   abbrev start : Stealing
-  start = record { state = on_cpu count_steal s; cpus = cpus; winner = none; done = false }
+  start = record { state = on_cpu count_steal s; cpus = cpus; winner = None; done = false }
 
   -- nothing is stolen, or an entry of another CPU is, whose context wins
   data Taken (l : Stealing) : Type 0 where
     nothing : l ≡ start → Taken l
-    entry_of : (t : ℕ) → In t (targets k (length cpus)) → (e : Entry) → In e (get_or cpus t no_cpu).queue → l.winner ≡ some e.context_ref
+    entry_of : (t : ℕ) → In t (targets k (length cpus)) → (e : Entry) → In e (get_or cpus t no_cpu).queue → l.winner ≡ Some e.context_ref
         → l.done ≡ true → Taken l
 
   from_start : (t : ℕ) → In t (targets k (length cpus)) → (es : List Entry) → ((e : Entry) → In e es → In e (get_or cpus t no_cpu).queue)
@@ -53,22 +53,22 @@ module _ (k : ℕ) (locked : List ℕ) (cpus : List Cpu) (s : State) where
   from_any l t i (nothing p) =
       subst (λ (z : Stealing). Taken (steal_from k false locked z t)) (sym p)
       (pick Taken (not (can_steal_from start.state (get_or cpus t no_cpu))) (λ z. nothing refl)
-      (λ z. from_start t i _ (candidates_in k locked s.contexts none (want start.state (get_or cpus t no_cpu)) (get_or cpus t no_cpu).queue)))
+      (λ z. from_start t i _ (candidates_in k locked s.contexts None (want start.state (get_or cpus t no_cpu)) (get_or cpus t no_cpu).queue)))
   from_any l t i (entry_of v j e q w d) =
       pick Taken (l.done || not (can_steal_from l.state (get_or l.cpus t no_cpu))) (λ z. entry_of v j e q w d) (λ z. never d (or_neither l.done _ z).0)
 
-  stealing_takes : Taken (steal k false locked cpus none s)
+  stealing_takes : Taken (steal k false locked cpus None s)
   unfolding steal
   stealing_takes =
-      pick Taken (should_steal s none)
+      pick Taken (should_steal s None)
       (λ z. fold_keeps_in Taken (steal_from k false locked) (targets k (length cpus)) from_any start (nothing refl)) (λ z. nothing refl)
 
-  takes_so : (runs : Bool) (w : Option ℕ) → runs ≡ false → w ≡ none → Taken (steal k runs locked cpus w s)
+  takes_so : (runs : Bool) (w : Option ℕ) → runs ≡ false → w ≡ None → Taken (steal k runs locked cpus w s)
   takes_so true w r z = never refl r
-  takes_so false none r z = stealing_takes
-  takes_so false (some x) r z = absurd (some_none refl z)
+  takes_so false None r z = stealing_takes
+  takes_so false (Some x) r z = absurd (some_none refl z)
 
-none_chosen : (s : State) (f : Scan) → f.eligible_best ≡ none → f.ineligible_best ≡ none → prev_runnable s ≡ false → (choice s f).winner ≡ none
+none_chosen : (s : State) (f : Scan) → f.eligible_best ≡ None → f.ineligible_best ≡ None → prev_runnable s ≡ false → (choice s f).winner ≡ None
 unfolding choice
 none_chosen s f a b r = ap (λ (o : Option Entry). (choice_by s f o).winner) a ∙ rw r (ap (λ (o : Option Entry). (nobody s o).winner) b)
 

@@ -1,7 +1,7 @@
 -- On a tidy machine: the scan's words for the holder, a found entry and nobody are demand 3's. Assumes nothing.
+use Rattle.std.specs.Prelude.{None, Option, Some}
 use mathlib.Core.Path.{◌≡◌, refl, sym, ap, ◌∙◌}
 use mathlib.Core.Bool.{false}
-use mathlib.Core.Option.{Option, none, some}
 use Prim.Native.Nat.{ℕ, ◌<◌, ◌≤◌}
 use native.Mathlib.Omega.{arith}
 use lib.Dec.{leb}
@@ -70,7 +70,7 @@ module _ (turn : Turn) where
   SameWithMore e = ((the_holder k time M).vd ≡ e.key.vd) × (e.key.rem_slice < (the_holder k time M).rem_slice)
 
   -- the record of a found entry's context says what its key says
-  module _ (e : Entry) (b : (found k time M).eligible_best ≡ some e) where
+  module _ (e : Entry) (b : (found k time M).eligible_best ≡ Some e) where
     rd : (record_of k time M e).vd ≡ e.key.vd
     rd = (best_agrees turn e b).vd
 
@@ -120,12 +120,12 @@ module _ (turn : Turn) where
   pub nobody_found : NobodyWaits k time M → NobodyFound k time M
   nobody_found n = record { eligible = free; ineligible = go (found k time M).ineligible_best refl; holder = rests }
     where
-      free : (found k time M).eligible_best ≡ none
+      free : (found k time M).eligible_best ≡ None
       free = none_best turn (λ e r l. n.entries e r)
 
       rests : prev_runnable (J turn) ≡ false
       rests = by_test (prev_runnable (J turn)) (λ t. absurd (n.holder (runnable t))) (λ t. t)
 
-      go : (o : Option Entry) → (found k time M).ineligible_best ≡ o → (found k time M).ineligible_best ≡ none
-      go none b = b
-      go (some e) b = absurd (n.entries e (late_first turn (record { entries = free; holder = λ o. never o.runs rests }) e b).is_ready)
+      go : (o : Option Entry) → (found k time M).ineligible_best ≡ o → (found k time M).ineligible_best ≡ None
+      go None b = b
+      go (Some e) b = absurd (n.entries e (late_first turn (record { entries = free; holder = λ o. never o.runs rests }) e b).is_ready)

@@ -1,6 +1,5 @@
 -- When each rule decides, on every image: by what the scan found and whether a victim was found to steal from. Assumes nothing.
-use Rattle.std.specs.Prelude.{◌≡◌, ◌≢◌, true, false, ℕ, ◌<◌, ◌≤◌}
-use Rattle.std.proofs.Math.Option.{none, some}
+use Rattle.std.specs.Prelude.{◌≡◌, ◌≢◌, true, false, ℕ, ◌<◌, ◌≤◌, None, Some}
 use Rattle.answer.specs.declared.Rule.{Rule}
 use Rattle.answer.specs.declared.Rule.TheVariants.{FirstEligible, HolderDeadline, HolderSlice, HolderAlone, HolderVtime, HolderLateDeadline, EntryVtime, Stolen, Idle}
 use Rattle.columns.specs.Common.{In}
@@ -45,12 +44,12 @@ module _ (k time : ℕ) (M : Machine) where
 
   -- no eligible entry was found, and the holder is none that is eligible
   pub record NobodyOnTime : Type 0 where
-    pub entries : found.eligible_best ≡ none
+    pub entries : found.eligible_best ≡ None
     pub holder : OnTime → ⊥
 
   pub record NobodyFound : Type 0 where
-    pub eligible : found.eligible_best ≡ none
-    pub ineligible : found.ineligible_best ≡ none
+    pub eligible : found.eligible_best ≡ None
+    pub ineligible : found.ineligible_best ≡ None
     pub holder : prev_runnable (judged k time M) ≡ false
 
   -- an entry of another CPU was stolen, and its context wins: where nobody waits, what it is that a victim was found
@@ -59,46 +58,46 @@ module _ (k time : ℕ) (M : Machine) where
     pub elsewhere : cpu ≢ k
     pub entry : Entry
     pub was_queued : In entry (cpu_at M cpu).queue
-    pub wins : stealing.winner ≡ some entry.context_ref
+    pub wins : stealing.winner ≡ Some entry.context_ref
 
   -- 1: an eligible entry was found, and not 2 or 3
   pub record IfFirstEligible : Type 0 where
     pub entry : Entry
-    pub is_found : found.eligible_best ≡ some entry
+    pub is_found : found.eligible_best ≡ Some entry
     pub not_deadline : OnTime → Earlier prev (record_of entry) → ⊥
     pub not_slice : OnTime → MoreSlice prev (record_of entry) → ⊥
 
   -- 2: the holder is eligible too, and its deadline is earlier
   pub record IfHolderDeadline : Type 0 where
     pub entry : Entry
-    pub is_found : found.eligible_best ≡ some entry
+    pub is_found : found.eligible_best ≡ Some entry
     pub on_time : OnTime
     pub deadline : Earlier prev (record_of entry)
 
   -- 3: the same with equal deadlines and more slice left
   pub record IfHolderSlice : Type 0 where
     pub entry : Entry
-    pub is_found : found.eligible_best ≡ some entry
+    pub is_found : found.eligible_best ≡ Some entry
     pub on_time : OnTime
     pub slice : MoreSlice prev (record_of entry)
 
   -- 4: the holder is eligible, and no entry was found that is
   pub record IfHolderAlone : Type 0 where
-    pub none_found : found.eligible_best ≡ none
+    pub none_found : found.eligible_best ≡ None
     pub on_time : OnTime
 
   -- 5: nobody is eligible, the holder runs, and no entry of a smaller vtime was found
   pub record IfHolderVtime : Type 0 where
     pub nobody : NobodyOnTime
     pub runs : Runs
-    pub least : (e : Entry) → found.ineligible_best ≡ some e → prev.vtime ≤ e.vtime
+    pub least : (e : Entry) → found.ineligible_best ≡ Some e → prev.vtime ≤ e.vtime
 
   -- 6: one was, and the holder's deadline is at most that of its key
   pub record IfHolderLateDeadline : Type 0 where
     pub nobody : NobodyOnTime
     pub runs : Runs
     pub entry : Entry
-    pub is_found : found.ineligible_best ≡ some entry
+    pub is_found : found.ineligible_best ≡ Some entry
     pub sooner : entry.vtime < prev.vtime
     pub deadline : prev.vd ≤ entry.key.vd
 
@@ -106,7 +105,7 @@ module _ (k time : ℕ) (M : Machine) where
   pub record IfEntryVtime : Type 0 where
     pub nobody : NobodyOnTime
     pub entry : Entry
-    pub is_found : found.ineligible_best ≡ some entry
+    pub is_found : found.ineligible_best ≡ Some entry
     pub beats : Runs → (entry.vtime < prev.vtime) × (entry.key.vd < prev.vd)
 
   -- 8: nobody waits, and a victim was found to steal from

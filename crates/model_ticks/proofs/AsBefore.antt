@@ -1,8 +1,8 @@
 -- Where nothing is carried, a call is the source's in every word but the remainder of its CPU, tickets 2 and 4 aside. Assumes nothing.
+use Rattle.std.specs.Prelude.{None, Option, Some}
 use mathlib.Core.Path.{◌≡◌, refl, sym, ap, ◌∙◌, subst}
 use mathlib.Core.Bool.{Bool, true, false}
 use mathlib.Core.List.{List}
-use mathlib.Core.Option.{Option, none, some}
 use Prim.Native.Nat.{ℕ, ◌<◌}
 use lib.Dec.{ltb, eqb}
 use lib.ListN.{length}
@@ -71,8 +71,8 @@ module _ (k time : ℕ) where
   switched_zero x s h = ap (λ (u : State). u.cpu.remainder) (ap (switch_to k time x) (sym (kept_zero s h)) ∙ switch_carries 0 k time x s)
 
   Zero : Option State → Type 0
-  Zero none = Unit {0}
-  Zero (some s) = s.cpu.remainder ≡ 0
+  Zero None = Unit {0}
+  Zero (Some s) = s.cpu.remainder ≡ 0
 
   direct_zero : (x : ℕ) (s : State) (v : UpdateResult) → s.cpu.remainder ≡ 0 → Zero (direct_switch_by k time x s v)
   unfolding direct_switch_by Zero
@@ -90,14 +90,14 @@ module _ (k time : ℕ) where
   inner_differs cpus s h = go (try_direct_switch_back k time s) (back_zero s h)
     where
       go : (o : Option State) → Zero o → Differs (source_switch_inner_by carrying_clock k time cpus s o) (source_switch_inner_by source_clock k time cpus s o)
-      go none z = scheduled_differs cpus s h
-      go (some u) z = unmade 0 cpus _ u z
+      go None z = scheduled_differs cpus s h
+      go (Some u) z = unmade 0 cpus _ u z
 
   direct_differs : (cpus : List Cpu) (s : State) (o : Option State) → s.cpu.remainder ≡ 0 → Zero o
       → Differs (source_direct_switch_or carrying_clock k time cpus s o) (source_direct_switch_or source_clock k time cpus s o)
   unfolding source_direct_switch_or Zero
-  direct_differs cpus s none h z = inner_differs cpus s h
-  direct_differs cpus s (some u) h z = unmade 0 cpus _ u z
+  direct_differs cpus s None h z = inner_differs cpus s h
+  direct_differs cpus s (Some u) h z = unmade 0 cpus _ u z
 
   call_differs : (call : Call) (M : Machine) → (cpu_at M k).remainder ≡ 0 → Differs (source_outcome carrying_clock k time call M) (source_outcome source_clock k time call M)
   unfolding source_tick source_direct_switch_to

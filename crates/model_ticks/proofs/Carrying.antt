@@ -1,10 +1,9 @@
 -- From the charge on a decision neither looks at the remainder nor stores one: with another remainder it is the same in every other word.
 -- Assumes nothing.
-use Rattle.std.specs.Prelude.{if◌then◌else◌}
+use Rattle.std.specs.Prelude.{if◌then◌else◌, None, Option, Some, is_some}
 use mathlib.Core.Path.{◌≡◌, refl, sym, ap, ◌∙◌}
 use mathlib.Core.Bool.{Bool, true, false, not, ◌&&◌, ◌||◌}
 use mathlib.Core.List.{List, [], ◌∷◌}
-use mathlib.Core.Option.{Option, none, some}
 use Prim.Native.Nat.{ℕ}
 use lib.Dec.{eqb, ltb}
 use lib.ListN.{length, get_or, set}
@@ -21,7 +20,7 @@ use Rattle.entries.specs.declared.Entry.{Entry}
 use Rattle.percpu.specs.Cpu.{Cpu}
 use Rattle.percpu.specs.With.{cpu_v, cpu_remainder}
 use Rattle.machine.specs.Machine.{cpu_at, no_cpu}
-use Rattle.model.specs.State.{State, at, on_cpu, put_context, insert_entry, remove_key, is_some, holder, is_idle, prev_runnable}
+use Rattle.model.specs.State.{State, at, on_cpu, put_context, insert_entry, remove_key, holder, is_idle, prev_runnable}
 use Rattle.model.specs.Scan.{Scan, Visit, pass, gone, blocked, no_addr_space, ready, judge, visit, visited, scan_step, scan_start, scan}
 use Rattle.model.specs.Choice.{Choice, prev_is_eligible, nobody, choice_by, choice, ineligible_holder, cleaned_up, taken_out, chosen}
 use Rattle.model.specs.Rule.{rule_nobody, rule_by, rule_of}
@@ -71,32 +70,32 @@ module _ (r : ℕ) where
   -- the choice
   module _ (s : State) where
     nobody_same : (o : Option Entry) → nobody (carry s) o ≡ nobody s o
-    nobody_same none = refl
-    nobody_same (some e) = refl
+    nobody_same None = refl
+    nobody_same (Some e) = refl
 
     choice_same : (f : Scan) → choice (carry s) f ≡ choice s f
     unfolding choice
     choice_same f = go f.eligible_best
       where
         go : (o : Option Entry) → choice_by (carry s) f o ≡ choice_by s f o
-        go none = branch (λ (c : Choice). c) (prev_is_eligible s) refl (nobody_same f.ineligible_best)
-        go (some e) = refl
+        go None = branch (λ (c : Choice). c) (prev_is_eligible s) refl (nobody_same f.ineligible_best)
+        go (Some e) = refl
 
     rule_nobody_same : (b : Bool) (o : Option Entry) → rule_nobody (carry s) b o ≡ rule_nobody s b o
-    rule_nobody_same b none = refl
-    rule_nobody_same b (some e) = refl
+    rule_nobody_same b None = refl
+    rule_nobody_same b (Some e) = refl
 
     rule_same : (b : Bool) (f : Scan) → rule_of (carry s) b f ≡ rule_of s b f
     unfolding rule_of
     rule_same b f = go f.eligible_best
       where
         go : (o : Option Entry) → rule_by (carry s) b f o ≡ rule_by s b f o
-        go none = branch (λ (x : Rule). x) (prev_is_eligible s) refl (rule_nobody_same b f.ineligible_best)
-        go (some e) = refl
+        go None = branch (λ (x : Rule). x) (prev_is_eligible s) refl (rule_nobody_same b f.ineligible_best)
+        go (Some e) = refl
 
   taken_carries : (o : Option ℕ) (s : State) → taken_out o (carry s) ≡ carry (taken_out o s)
-  taken_carries none s = refl
-  taken_carries (some x) s = branch carry (at s x).has_queue_key refl refl
+  taken_carries None s = refl
+  taken_carries (Some x) s = branch carry (at s x).has_queue_key refl refl
 
   chosen_carries : (w : Choice) (f : Scan) (s : State) → chosen w f (carry s) ≡ carry (chosen w f s)
   unfolding chosen cleaned_up
@@ -170,8 +169,8 @@ module _ (r : ℕ) where
 
   next_same : (runs : Bool) (w : Option ℕ) (s : State) → next_context runs w (carry s) ≡ next_context runs w s
   unfolding next_context
-  next_same runs none s = refl
-  next_same runs (some x) s = refl
+  next_same runs None s = refl
+  next_same runs (Some x) s = refl
 
   module _ (k time : ℕ) (n : Spent) (cpus : List Cpu) (s : State) where
     selected_carries : selected k time n cpus (carry s) ≡ carry_selected (selected k time n cpus s)
@@ -213,8 +212,8 @@ module _ (r : ℕ) where
 
   switched_carries : (k time rule : ℕ) (cpus : List Cpu) (o : Option ℕ) (s : State) → switch_as k time rule (carry s) cpus o ≡ outcome_carrying k r (switch_as k time rule s cpus o)
   unfolding switch_as
-  switched_carries k time rule cpus none s = finish_carries rule k cpus _ _
-  switched_carries k time rule cpus (some x) s =
+  switched_carries k time rule cpus None s = finish_carries rule k cpus _ _
+  switched_carries k time rule cpus (Some x) s =
       let u : State = if eqb s.cpu.block.current_ctxt x then s else switch_to k time x s in
       ap (finish_by rule k cpus _) (branch carry (eqb s.cpu.block.current_ctxt x) {x = s} {y = switch_to k time x s} refl (switch_carries k time x s))
       ∙ finish_carries rule k cpus _ u
@@ -222,8 +221,8 @@ module _ (r : ℕ) where
   picked_carries : (k time : ℕ) (was : Bool) (rule : Rule) (cpus : List Cpu) (o : Option ℕ) (s : State)
       → after_schedule k time (picked_as time was rule cpus o (carry s)) ≡ outcome_carrying k r (after_schedule k time (picked_as time was rule cpus o s))
   unfolding after_schedule picked_as hand_over
-  picked_carries k time was rule cpus none s = switched_carries k time _ cpus none s
-  picked_carries k time was rule cpus (some x) s = switched_carries k time _ cpus (some x) (hand_over time was x s)
+  picked_carries k time was rule cpus None s = switched_carries k time _ cpus None s
+  picked_carries k time was rule cpus (Some x) s = switched_carries k time _ cpus (Some x) (hand_over time was x s)
 
   -- a decision from its charge on
   pub ending_carries : (k time : ℕ) (was : Bool) (n : Spent) (cpus : List Cpu) (s : State)

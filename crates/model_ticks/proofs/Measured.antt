@@ -1,7 +1,7 @@
 -- Wake-ups do not touch what a turn is measured by. Assumes nothing.
+use Rattle.std.specs.Prelude.{None, Option, Some}
 use mathlib.Core.Path.{◌≡◌, refl, ◌∙◌}
 use mathlib.Core.List.{List, [], ◌∷◌}
-use mathlib.Core.Option.{Option, none, some}
 use Prim.Native.Nat.{ℕ}
 use Rattle.columns.specs.Common.{fold}
 use Rattle.percpu.specs.Cpu.{Cpu}
@@ -17,8 +17,8 @@ abbrev pub measure : Cpu → Measure
 measure p = record { schedule_time = p.block.schedule_time; remainder = p.remainder }
 
 back_measured : (w : Option ℕ) (x : ℕ) (s : State) → measure (put_back w x s).cpu ≡ measure s.cpu
-back_measured none x s = refl
-back_measured (some t) x s = refl
+back_measured None x s = refl
+back_measured (Some t) x s = refl
 
 woken_measured : (s : State) (w : Wakeup) (v : WakeupResult) → measure (wake_as s w v).cpu ≡ measure s.cpu
 unfolding wake_as enter

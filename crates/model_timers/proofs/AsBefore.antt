@@ -1,12 +1,11 @@
 -- Where no due timer's context is unreadable and the source leaves one timer to a context, a call is the source's in every word, with the
 -- remainder carried.
 -- Assumes nothing.
-use Rattle.std.specs.Prelude.{if◌then◌else◌}
+use Rattle.std.specs.Prelude.{if◌then◌else◌, None, Option, Some}
 use mathlib.Core.Path.{◌≡◌, refl, ap, ◌∙◌, subst}
 use mathlib.Core.Bool.{Bool, true, false, not, ◌||◌}
 use mathlib.Core.List.{List, [], ◌∷◌}
 use mathlib.Core.Logic.{inl, inr}
-use mathlib.Core.Option.{Option, none, some}
 use Prim.Native.Nat.{ℕ, ◌<◌}
 use lib.Dec.{ltb, eqb}
 use lib.ListN.{length}
@@ -115,13 +114,13 @@ module _ (k time : ℕ) where
   inner_as_before cpus s b h = go (try_direct_switch_back k time s)
     where
       go : (o : Option State) → LeavesOne (source_switch_inner_by carrying_clock k time cpus s o) → switch_inner_by k time cpus s o ≡ source_switch_inner_by carrying_clock k time cpus s o
-      go (some s') a = refl
-      go none a = ap (after_schedule k time) (schedule_as_before cpus s b h a)
+      go (Some s') a = refl
+      go None a = ap (after_schedule k time) (schedule_as_before cpus s b h a)
 
   direct_as_before : (cpus : List Cpu) (s : State) (o : Option State) → k < length cpus → Readable time s → LeavesOne (source_direct_switch_or carrying_clock k time cpus s o) → direct_switch_or k time cpus s o ≡ source_direct_switch_or carrying_clock k time cpus s o
   unfolding direct_switch_or source_direct_switch_or
-  direct_as_before cpus s (some s') b h a = refl
-  direct_as_before cpus s none b h a = inner_as_before cpus s b h a
+  direct_as_before cpus s (Some s') b h a = refl
+  direct_as_before cpus s None b h a = inner_as_before cpus s b h a
 
   -- answer, image and refusal 9 of operations 1 to 3
   pub as_before : (call : Call) (M : Machine) → k < length M.cpus → Readable time (state_of k M) → LeavesOne (source_outcome carrying_clock k time call M) → outcome call k time M ≡ source_outcome carrying_clock k time call M

@@ -1,9 +1,9 @@
 -- The timers that a call leaves: those before it, or those before the choice of its decision. Assumes nothing.
+use Rattle.std.specs.Prelude.{None, Option, Some}
 use mathlib.Core.Path.{◌≡◌, refl}
 use mathlib.Core.Bool.{Bool, true, false}
 use mathlib.Core.List.{List}
 use mathlib.Core.Logic.{◌⊎◌, inl, inr}
-use mathlib.Core.Option.{Option, none, some}
 use Prim.Native.Nat.{ℕ, ◌<◌}
 use lib.Dec.{ltb, eqb}
 use lib.ListN.{length}
@@ -44,7 +44,7 @@ module _ (k time : ℕ) (cpus : List Cpu) (b : k < length cpus) where
   abbrev pub Left : State → Outcome → Type 0
   Left s o = Leaves k time (kept s.cpu) cpus o ⊎ Leaves k time (kept (before_choice time s).cpu) cpus o
 
-  directly : (x : ℕ) (s : State) (r : UpdateResult) (f : Option State → Outcome) → ((u : State) → kept u.cpu ≡ kept s.cpu → Left s (f (some u))) → Left s (f none)
+  directly : (x : ℕ) (s : State) (r : UpdateResult) (f : Option State → Outcome) → ((u : State) → kept u.cpu ≡ kept s.cpu → Left s (f (Some u))) → Left s (f None)
       → Left s (f (direct_switch_by k time x s r))
   unfolding direct_switch_by
   directly x s Skip f g n = n
@@ -55,7 +55,7 @@ module _ (k time : ℕ) (cpus : List Cpu) (b : k < length cpus) where
   unfolding switch_inner switch_inner_by try_direct_switch_back schedule select_next_context before_choice
   inner_left s =
       let x : ℕ = s.cpu.block.sched_ctxt in
-      let n : Left s (switch_inner_by k time cpus s none) = inr (charged_leaves k time _ cpus (was_idle s.cpu) (spent time s.cpu) (charge_holder (spent time s.cpu) (before_selection time s)) b refl) in
+      let n : Left s (switch_inner_by k time cpus s None) = inr (charged_leaves k time _ cpus (was_idle s.cpu) (spent time s.cpu) (charge_holder (spent time s.cpu) (before_selection time s)) b refl) in
       pick (λ (o : Option State). Left s (switch_inner_by k time cpus s o)) (eqb s.cpu.block.current_ctxt x) (λ z. n)
       (λ z. directly x s (update_runnable k time true false (at s x)) (switch_inner_by k time cpus s) (λ u e. inl (finished k time _ cpus _ _ cpus u b e (λ j. refl))) n)
 

@@ -1,9 +1,9 @@
 -- The wake-ups of a decision: which timers they leave, and that the holder's record is as it was. Assumes nothing.
+use Rattle.std.specs.Prelude.{None, Option, Some}
 use mathlib.Core.Path.{◌≡◌, refl, sym, ap, ◌∙◌, subst}
 use mathlib.Core.Bool.{true, false}
 use mathlib.Core.List.{List, map}
 use mathlib.Core.Logic.{◌⊎◌, ◌≢◌, inl, inr}
-use mathlib.Core.Option.{Option, none, some}
 use Prim.Native.Nat.{ℕ}
 use lib.Dec.{eqb}
 use lib.ListN.{set}
@@ -39,8 +39,8 @@ module _ (time : ℕ) (s : State) where
 
   -- the timers of a wake-up
   abbrev Was : Option ℕ → ℕ → Type 0
-  Was none x = Unit {0}
-  Was (some wake) x = In (record { wake = wake; context_ref = x }) s.cpu.timers
+  Was None x = Unit {0}
+  Was (Some wake) x = In (record { wake = wake; context_ref = x }) s.cpu.timers
 
   wakeup_was : (w : Wakeup) → In w (wakeups time s) → Was w.wake w.context_ref
   unfolding wakeups
@@ -63,8 +63,8 @@ module _ (time : ℕ) (s : State) where
     pub holder : at u x₀ ≡ at s x₀
 
   back_serves : (o : Option ℕ) (x : ℕ) (u : State) → Was o x → Serves u → Serves (put_back o x u)
-  back_serves none x u f h = record { from = h.from; left = h.left; rise = h.rise; sched = h.sched; idle = h.idle; holder = h.holder }
-  back_serves (some wake) x u f h =
+  back_serves None x u f h = record { from = h.from; left = h.left; rise = h.rise; sched = h.sched; idle = h.idle; holder = h.holder }
+  back_serves (Some wake) x u f h =
       record {
         from = λ t i. go t (in_insert sooner _ t u.cpu.timers i);
         left = λ t i e. still_in t _ u.cpu.timers (h.left t i e);

@@ -1,9 +1,8 @@
 -- The calls that decide as the source has them: every due timer is taken out, one put in removes none, and what a tick conversion leaves
 -- over is lost. Assumes nothing.
-use Rattle.std.specs.Prelude.{if◌then◌else◌}
+use Rattle.std.specs.Prelude.{if◌then◌else◌, None, Option, Some}
 use mathlib.Core.Bool.{not, false}
 use mathlib.Core.List.{List, []}
-use mathlib.Core.Option.{Option, none, some}
 use Prim.Native.Nat.{ℕ, ◌/◌}
 use lib.Dec.{ltb, eqb}
 use Rattle.numbers.specs.Limits.{nanos_per_millisecond}
@@ -77,8 +76,8 @@ module _ (clock : Clock) (k time : ℕ) where
       picked_as time (was_idle s.cpu) d.rule d.cpus d.next d.state
 
   unfoldable pub source_switch_inner_by : List Cpu → State → Option State → Outcome
-  source_switch_inner_by cpus s (some s') = finish k cpus (result_number Switched) s'
-  source_switch_inner_by cpus s none = after_schedule k time (source_schedule cpus s)
+  source_switch_inner_by cpus s (Some s') = finish k cpus (result_number Switched) s'
+  source_switch_inner_by cpus s None = after_schedule k time (source_schedule cpus s)
 
   unfoldable pub source_switch_inner : List Cpu → State → Outcome
   source_switch_inner cpus s = source_switch_inner_by cpus s (try_direct_switch_back k time s)
@@ -89,8 +88,8 @@ module _ (clock : Clock) (k time : ℕ) where
       if ltb s.cpu.block.pit_ticks tick_interval then finish k M.cpus 0 s else source_switch_inner M.cpus s
 
   unfoldable pub source_direct_switch_or : List Cpu → State → Option State → Outcome
-  source_direct_switch_or cpus s (some s') = finish k cpus (result_number Switched) s'
-  source_direct_switch_or cpus s none = source_switch_inner cpus s
+  source_direct_switch_or cpus s (Some s') = finish k cpus (result_number Switched) s'
+  source_direct_switch_or cpus s None = source_switch_inner cpus s
 
   unfoldable pub source_direct_switch_to : ℕ → Machine → Outcome
   source_direct_switch_to x M =

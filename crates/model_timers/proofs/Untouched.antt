@@ -1,10 +1,10 @@
 -- From the choice to the end of a decision no timer is put in or taken out and no remainder is stored, here or on another CPU.
 -- Assumes nothing.
+use Rattle.std.specs.Prelude.{None, Option, Some, is_some}
 use mathlib.Core.Path.{◌≡◌, refl, ap, ◌∙◌}
 use mathlib.Core.Logic.{◌≢◌}
 use mathlib.Core.Bool.{Bool, not, ◌&&◌, ◌||◌}
 use mathlib.Core.List.{List, [], ◌∷◌}
-use mathlib.Core.Option.{Option, none, some}
 use Prim.Native.Nat.{ℕ, zero, suc, ◌<◌}
 use native.Mathlib.Omega.{arith}
 use lib.Dec.{eqb}
@@ -21,7 +21,7 @@ use Rattle.runnable.specs.declared.UpdateResult.TheVariants.{CanSwitch, Skip, Bl
 use Rattle.percpu.specs.Cpu.{Cpu}
 use Rattle.percpu.specs.With.{cpu_v}
 use Rattle.machine.specs.Machine.{cpu_at, no_cpu}
-use Rattle.model.specs.State.{State, at, on_cpu, put_context, is_some, holder, prev_runnable}
+use Rattle.model.specs.State.{State, at, on_cpu, put_context, holder, prev_runnable}
 use Rattle.model.specs.Scan.{Scan}
 use Rattle.model.specs.Choice.{Choice, choice, cleaned_up, taken_out, chosen}
 use Rattle.model.specs.Steal.{Stealing, Moving, can_steal_from, should_steal, targets, first_wins, move_entry, steal_entries, steal_from, steal}
@@ -53,8 +53,8 @@ module _ (L : Kept) where
   Has s = kept s.cpu ≡ L
 
   taken_out_has : (o : Option ℕ) (s : State) → Has s → Has (taken_out o s)
-  taken_out_has none s h = h
-  taken_out_has (some x) s h = pick Has (at s x).has_queue_key (λ z. h) (λ z. h)
+  taken_out_has None s h = h
+  taken_out_has (Some x) s h = pick Has (at s x).has_queue_key (λ z. h) (λ z. h)
 
   chosen_has : (w : Choice) (f : Scan) (s : State) → Has s → Has (chosen w f s)
   unfolding chosen cleaned_up
@@ -137,8 +137,8 @@ module _ (k time : ℕ) (L : Kept) (cpus₀ : List Cpu) where
   picked_leaves : (was : Bool) (rule : Rule) (cpus : List Cpu) (o : Option ℕ) (s : State) → k < length cpus → kept s.cpu ≡ L → ((j : ℕ) → kept (get_or cpus j no_cpu) ≡ kept (get_or cpus₀ j no_cpu))
       → Leaves (after_schedule k time (picked_as time was rule cpus o s))
   unfolding after_schedule picked_as switch_as hand_over
-  picked_leaves was rule cpus none s b h e = finished _ _ cpus _ b h e
-  picked_leaves was rule cpus (some x) s b h e =
+  picked_leaves was rule cpus None s b h e = finished _ _ cpus _ b h e
+  picked_leaves was rule cpus (Some x) s b h e =
       finished _ _ cpus _ b
       (pick (λ (u : State). kept u.cpu ≡ L) (eqb (hand_over time was x s).cpu.block.current_ctxt x) (λ z. h) (λ z. switch_to_has L k time x (hand_over time was x s) h)) e
 

@@ -1,9 +1,8 @@
 -- Charging: a holder that is not runnable leaves the total with its weight.
-use Rattle.std.specs.Prelude.{if◌then◌else◌}
+use Rattle.std.specs.Prelude.{if◌then◌else◌, None, Option, Some}
 use mathlib.Core.Path.{◌≡◌, refl, subst, sym, ap, ◌∙◌}
 use mathlib.Core.Bool.{Bool, true, false, not, ◌&&◌}
 use mathlib.Core.List.{List}
-use mathlib.Core.Option.{Option, none, some}
 use mathlib.Core.Logic.{◌⊎◌, inl, inr, ◌≢◌}
 use Prim.Native.Nat.{ℕ, ◌+◌, ◌-◌, ◌<◌}
 use native.Mathlib.Omega.{arith}
@@ -41,7 +40,7 @@ module _ (k : ℕ) (M : Machine) where
 
   -- who may be active without an entry, the winner w among them
   abbrev pub Holds : Bool → Option ℕ → ℕ → Type 0
-  Holds runs w x = ((j : ℕ) × InCharge M x j × ((j ≢ k) ⊎ (runs ≡ true))) ⊎ (w ≡ some x)
+  Holds runs w x = ((j : ℕ) × InCharge M x j × ((j ≢ k) ⊎ (runs ≡ true))) ⊎ (w ≡ Some x)
 
   pub fast_placed : (runs : Bool) (x : ℕ) → Fast runs x → Placed M x
   fast_placed runs x (j, p, inl (o, z)) = (j, p, inl z)
@@ -60,15 +59,15 @@ module _ (k time : ℕ) (M : Machine) (S : Sound M) (T : Tidy M) (P : Present M 
 
   -- before the choice
   pub record Judges (J : State) : Type 0 where
-    pub weights : Weights M.contexts (Fast k M (prev_runnable J)) (Holds k M (prev_runnable J) none) J.contexts (now J)
+    pub weights : Weights M.contexts (Fast k M (prev_runnable J)) (Holds k M (prev_runnable J) None) J.contexts (now J)
     pub total : J.cpu.block.total_weight ≡ running_weight k M (prev_runnable J) + added J.cpu.queue
     pub runs_active : prev_runnable J ≡ true → (context M h).is_active ≡ true
 
-  judges : (J : State) (b : Bool) → prev_runnable J ≡ b → Weights M.contexts (Fast k M b) (Holds k M b none) J.contexts (now J)
+  judges : (J : State) (b : Bool) → prev_runnable J ≡ b → Weights M.contexts (Fast k M b) (Holds k M b None) J.contexts (now J)
       → J.cpu.block.total_weight ≡ running_weight k M b + added J.cpu.queue → (b ≡ true → (context M h).is_active ≡ true) → Judges J
   judges J b e w t a =
       record {
-        weights = subst (λ c. Weights M.contexts (Fast k M c) (Holds k M c none) J.contexts (now J)) (sym e) w;
+        weights = subst (λ c. Weights M.contexts (Fast k M c) (Holds k M c None) J.contexts (now J)) (sym e) w;
         total = t ∙ ap (λ c. running_weight k M c + added J.cpu.queue) (sym e);
         runs_active = λ z. a (sym e ∙ z);
       }
@@ -87,7 +86,7 @@ module _ (k time : ℕ) (M : Machine) (S : Sound M) (T : Tidy M) (P : Present M 
     idle_judges : is_idle s ≡ true → Judges s
     idle_judges t =
         judges s false (rw t)
-        (same_names M.contexts (Placed M) (Fast k M false) (Charged M) (Holds k M false none) s.contexts (now s) (fast_placed k M false)
+        (same_names M.contexts (Placed M) (Fast k M false) (Charged M) (Holds k M false None) s.contexts (now s) (fast_placed k M false)
         (λ y r a (j, c). by_test (eqb j k)
         (λ u. absurd (unmarked y a (sym c.named ∙ ap (λ i. (cpu_at M i).block.sched_ctxt) (eqb-true j k u))))
         (λ u. inl (j, c, inl (eqb-false j k u)))) w.weights)
@@ -114,7 +113,7 @@ module _ (k time : ℕ) (M : Machine) (S : Sound M) (T : Tidy M) (P : Present M 
       runnable_judges : is_runnable (holder s).status ≡ true → Judges (put_context s.cpu.block.sched_ctxt (charged s.cpu.block.v n (holder s)) s)
       runnable_judges t =
           judges _ true runs_now
-          (same_names M.contexts (Placed M) (Fast k M true) (Charged M) (Holds k M true none) _ (now s) (fast_placed k M true) (λ y r a (j, c). inl (j, c, inr refl))
+          (same_names M.contexts (Placed M) (Fast k M true) (Charged M) (Holds k M true None) _ (now s) (fast_placed k M true) (λ y r a (j, c). inl (j, c, inr refl))
           (same_marks M.contexts (Placed M) (Charged M) s.contexts _ (now s) (set_view (λ (c : Context). c.is_active) s.contexts _ _ (charged_active _ n (holder s))) w.weights))
           (w.total ∙ ap (λ o. o + added s.cpu.queue) (rw active)) (λ z. active)
         where
@@ -127,7 +126,7 @@ module _ (k time : ℕ) (M : Machine) (S : Sound M) (T : Tidy M) (P : Present M 
       stopped_judges : is_runnable (holder s).status ≡ false → Judges (inactive s)
       stopped_judges t =
           judges (inactive s) false stops
-          (change M.contexts (Fast k M false) (Charged M) (Holds k M false none) s.contexts (now s) (now s) s.cpu.block.sched_ctxt (stopped (holder s)) leaves
+          (change M.contexts (Fast k M false) (Charged M) (Holds k M false None) s.contexts (now s) (now s) s.cpu.block.sched_ctxt (stopped (holder s)) leaves
           (same_names M.contexts (Placed M) (Fast k M false) (Charged M) (Charged M) s.contexts (now s) (fast_placed k M false) (λ y r a c. c) w.weights))
           loses (λ z. never {b = false} z refl)
         where
@@ -139,7 +138,7 @@ module _ (k time : ℕ) (M : Machine) (S : Sound M) (T : Tidy M) (P : Present M 
           not_fast (j, p, inl (inr o, z)) = never {b = false} o refl
           not_fast (j, p, inr z) = not_idle j (record { present = p; named = sym z ∙ is_h })
 
-          leaves : Change M.contexts (Fast k M false) (Charged M) (Holds k M false none) s.contexts (now s) (now s) s.cpu.block.sched_ctxt (stopped (holder s))
+          leaves : Change M.contexts (Fast k M false) (Charged M) (Holds k M false None) s.contexts (now s) (now s) s.cpu.block.sched_ctxt (stopped (holder s))
           leaves =
               record {
                 range = r;

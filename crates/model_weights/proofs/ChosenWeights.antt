@@ -1,8 +1,8 @@
 -- The choice: what the scan gave up leaves the total, and the winner's weight stays in it.
+use Rattle.std.specs.Prelude.{None, Option, Some}
 use mathlib.Core.Path.{◌≡◌, refl, subst, sym, ap, ◌∙◌}
 use mathlib.Core.Bool.{Bool, true, false}
 use mathlib.Core.List.{List}
-use mathlib.Core.Option.{Option, none, some}
 use mathlib.Core.Logic.{◌⊎◌, inl, inr, ◌≢◌}
 use Prim.Native.Nat.{ℕ, ◌+◌, ◌-◌, ◌<◌}
 use native.Mathlib.Omega.{arith}
@@ -41,8 +41,8 @@ use Rattle.model_weights.proofs.ScanWeights.{Cleans, scan_cleans}
 module _ (M : Machine) where
   -- what the winner adds to the total
   abbrev pub won_weight : Option ℕ → ℕ
-  won_weight none = 0
-  won_weight (some x) = own_weight M.contexts x
+  won_weight None = 0
+  won_weight (Some x) = own_weight M.contexts x
 
 module _ (k time : ℕ) (M : Machine) (S : Sound M) (T : Tidy M) (P : Present M k) (own : ServesOwn k time M) (W : Weighed M) (A : Agree M) (J : State)
     (n : Waking k time M S T J) (g : Judges k time M S T P own W A J) where
@@ -55,20 +55,20 @@ module _ (k time : ℕ) (M : Machine) (S : Sound M) (T : Tidy M) (P : Present M 
   pub record Chooses (w : Option ℕ) (t : State) : Type 0 where
     pub weights : Weights M.contexts (Fast k M (prev_runnable J)) (Holds k M (prev_runnable J) w) t.contexts (now t)
     pub total : t.cpu.block.total_weight ≡ running_weight k M (prev_runnable J) + won_weight M w + added t.cpu.queue
-    pub winner : (x : ℕ) → w ≡ some x → (at t x).is_active ≡ true
+    pub winner : (x : ℕ) → w ≡ Some x → (at t x).is_active ≡ true
 
   apart : (x : ℕ) → Free M x → Fast k M (prev_runnable J) x → ⊥
   apart x f a = not_free M x f (fast_placed k M (prev_runnable J) x a)
 
-  cleans : Cleans (Free M) M.contexts k time J.cpu (ineligible_holder J) J.contexts J.cpu.queue (queues M) n.kept (Fast k M (prev_runnable J)) (Holds k M (prev_runnable J) none) apart (scanned k time J)
+  cleans : Cleans (Free M) M.contexts k time J.cpu (ineligible_holder J) J.contexts J.cpu.queue (queues M) n.kept (Fast k M (prev_runnable J)) (Holds k M (prev_runnable J) None) apart (scanned k time J)
   cleans =
-      scan_cleans (Free M) M.contexts k time J.cpu (ineligible_holder J) J.contexts J.cpu.queue (queues M) n.kept (Fast k M (prev_runnable J)) (Holds k M (prev_runnable J) none) apart
+      scan_cleans (Free M) M.contexts k time J.cpu (ineligible_holder J) J.contexts J.cpu.queue (queues M) n.kept (Fast k M (prev_runnable J)) (Holds k M (prev_runnable J) None) apart
       (separate (Free M) M.contexts k time (queues M) J n.kept) g.weights
 
   abbrev C : State
   C = cleaned k time M S T J n
 
-  clean_chooses : Chooses none (cleaned k time M S T J n)
+  clean_chooses : Chooses None (cleaned k time M S T J n)
   unfolding cleaned_up
   clean_chooses =
       record {
@@ -111,7 +111,7 @@ module _ (k time : ℕ) (M : Machine) (S : Sound M) (T : Tidy M) (P : Present M 
     only : (d : Entry) (j : ℕ) → In d (now C j) → d.context_ref ≡ x → (d.key ≡ queue_key c) × (j ≡ k)
     only d j h m = let (p, z) = kept.one d e j k h here m in (ap (λ (b : Entry). b.key) p ∙ key.1, z)
 
-    leaves : Change M.contexts (Fast k M running) (Holds k M running none) (Holds k M running (some x)) C.contexts (now C)
+    leaves : Change M.contexts (Fast k M running) (Holds k M running None) (Holds k M running (Some x)) C.contexts (now C)
         (on k (queue_remove (queue_key c) C.cpu.queue) (queues M)) x (without_key c)
     leaves =
         record {
@@ -124,18 +124,18 @@ module _ (k time : ℕ) (M : Machine) (S : Sound M) (T : Tidy M) (P : Present M 
           kept = λ a. absurd (apart x (kept.free e k here) a);
         }
       where
-        other : (y : ℕ) → Holds k M running none y → Holds k M running (some x) y
+        other : (y : ℕ) → Holds k M running None y → Holds k M running (Some x) y
         other y (inl a) = inl a
         other y (inr z) = absurd (some_none z refl)
 
     active : c.is_active ≡ true
     active = clean_chooses.weights.active e k here alive
 
-    entry_chooses : Chooses (some x) (dequeued x C)
+    entry_chooses : Chooses (Some x) (dequeued x C)
     entry_chooses =
-        pick (Chooses (some x)) c.has_queue_key
+        pick (Chooses (Some x)) c.has_queue_key
         (λ u. record {
-          weights = change M.contexts (Fast k M running) (Holds k M running none) (Holds k M running (some x)) C.contexts (now C) _ x (without_key c) leaves clean_chooses.weights;
+          weights = change M.contexts (Fast k M running) (Holds k M running None) (Holds k M running (Some x)) C.contexts (now C) _ x (without_key c) leaves clean_chooses.weights;
           total =
               let a : C.cpu.block.total_weight ≡ running_weight k M running + 0 + added C.cpu.queue = clean_chooses.total in
               let b : added C.cpu.queue ≡ e.weight + added (queue_remove e.key C.cpu.queue) =

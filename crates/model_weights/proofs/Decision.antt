@@ -1,7 +1,7 @@
 -- An accepted decision: the equality on every present CPU, by the ticket's conditions; with the stronger word the conditions are kept too.
+use Rattle.std.specs.Prelude.{None, Option, Some}
 use mathlib.Core.Path.{◌≡◌, refl, subst, sym, ap, ◌∙◌}
 use mathlib.Core.Bool.{Bool, true, false}
-use mathlib.Core.Option.{Option, none, some}
 use mathlib.Core.Logic.{◌⊎◌, inl, inr, ◌≢◌}
 use Prim.Native.Nat.{ℕ, ◌<◌}
 use lib.Dec.{eqb}
@@ -94,9 +94,9 @@ module _ (turn : Turn) (W : WeighedAlways turn.M) (A : Agree turn.M) where
 
   -- who is in charge here is active, or idle
   here_active : (r : Bool) (o : Option ℕ) → (running turn) ≡ r → (l turn).winner ≡ o → NotIdle M' (successor k M r o) → Active M' (successor k M r o)
-  here_active r (some x) z y d = winner_active turn W.weighed A x y
-  here_active true none z y d = holder_active turn W.weighed A z
-  here_active false none z y d = absurd (d k (record { present = still_present turn; named = idle_word k }))
+  here_active r (Some x) z y d = winner_active turn W.weighed A x y
+  here_active true None z y d = holder_active turn W.weighed A z
+  here_active false None z y d = absurd (d k (record { present = still_present turn; named = idle_word k }))
 
   in_charge_marked : (x i : ℕ) → InCharge M' x i → NotIdle M' x → Active M' x
   in_charge_marked x i d o =

@@ -1,9 +1,8 @@
 -- The machine after a decision: who is active, what entries weigh, and the stored total of every present CPU.
-use Rattle.std.specs.Prelude.{if◌then◌else◌}
+use Rattle.std.specs.Prelude.{if◌then◌else◌, None, Option, Some}
 use mathlib.Core.Path.{◌≡◌, refl, subst, sym, ap, ◌∙◌}
 use mathlib.Core.Bool.{Bool, true, false}
 use mathlib.Core.List.{List}
-use mathlib.Core.Option.{Option, none, some}
 use mathlib.Core.Logic.{◌⊎◌, inl, inr, ◌≢◌}
 use Prim.Native.Nat.{ℕ, ◌+◌}
 use lib.Dec.{eqb}
@@ -89,7 +88,7 @@ module _ (turn : Turn) (W : Weighed turn.M) (A : Agree turn.M) where
   held : (x : ℕ) → (context M' x).is_active ≡ true → held_weight (context M' x) ≡ own_weight M.contexts x
   held x a = rw a (ap weight (prios x))
 
-  pub winner_active : (x : ℕ) → won ≡ some x → (context M' x).is_active ≡ true
+  pub winner_active : (x : ℕ) → won ≡ Some x → (context M' x).is_active ≡ true
   winner_active x z = marks x ∙ settled_so.winner x z
 
   pub holder_active : running ≡ true → (context M' (cpu_at M k).block.sched_ctxt).is_active ≡ true
@@ -99,9 +98,9 @@ module _ (turn : Turn) (W : Weighed turn.M) (A : Agree turn.M) where
   idle_unmarked j p = still _ (j, p, inr refl) ∙ W.idle_not_active _ j (record { present = p; named = refl })
 
   in_charge_adds : (r : Bool) (o : Option ℕ) → running ≡ r → won ≡ o → held_weight (context M' (successor k M r o)) ≡ successor_weight k M r o
-  in_charge_adds r (some x) z y = held x (winner_active x y)
-  in_charge_adds true none z y = held _ (holder_active z)
-  in_charge_adds false none z y = rw (idle_unmarked k P)
+  in_charge_adds r (Some x) z y = held x (winner_active x y)
+  in_charge_adds true None z y = held _ (holder_active z)
+  in_charge_adds false None z y = rw (idle_unmarked k P)
 
   E : Ending k time M S T P (in_range turn) (c turn) (s turn) (l turn).cpus M'
   E = ending turn

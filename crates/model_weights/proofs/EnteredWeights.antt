@@ -1,9 +1,8 @@
 -- A wake-up that enters the queue: the context was not active and counts from now on, or is queued again with the weight that it had.
-use Rattle.std.specs.Prelude.{if◌then◌else◌}
+use Rattle.std.specs.Prelude.{if◌then◌else◌, None, Option, Some}
 use mathlib.Core.Path.{◌≡◌, refl, subst, sym, ap, ◌∙◌}
 use mathlib.Core.Bool.{true, false}
 use mathlib.Core.List.{List}
-use mathlib.Core.Option.{Option, none, some}
 use mathlib.Core.Logic.{◌⊎◌, inl, inr, ◌≢◌}
 use Prim.Native.Nat.{ℕ, ◌+◌, ◌<◌}
 use native.Mathlib.Omega.{arith}
@@ -34,8 +33,8 @@ use Rattle.model_weights.proofs.Weighing.{prio_of, Alive, own_weight, Weights, C
 use Rattle.model_weights.proofs.StartWeights.{Placed, Charged, not_free}
 
 pub woken_active : (o : Option ℕ) (c : Context) → (woken_by o c).is_active ≡ c.is_active
-woken_active none c = refl
-woken_active (some t) c = pick (λ (b : Context). b.is_active ≡ c.is_active) (waits_for t c) (λ e. refl) (λ e. refl)
+woken_active None c = refl
+woken_active (Some t) c = pick (λ (b : Context). b.is_active ≡ c.is_active) (waits_for t c) (λ e. refl) (λ e. refl)
 
 module _ (k time : ℕ) (M : Machine) (S : Sound M) (T : Tidy M) (P : Present M k) (own : ServesOwn k time M) (W : Weighed M) (A : Agree M) where
   abbrev pub now : State → ℕ → List Entry
@@ -165,11 +164,11 @@ module _ (k time : ℕ) (M : Machine) (S : Sound M) (T : Tidy M) (P : Present M 
 
             unmarked : Without x (on k q R) → c.is_active ≡ false
             unmarked o =
-                by_test c.is_active (λ t. absurd (none (n.weights.only x m.range (sym (woken_active w.wake (asked s w)) ∙ t)))) (λ t. t)
+                by_test c.is_active (λ t. absurd (None (n.weights.only x m.range (sym (woken_active w.wake (asked s w)) ∙ t)))) (λ t. t)
               where
-                none : (Alive M.contexts x × Has x (on k q R)) ⊎ Charged M x → ⊥
-                none (inl (b, (d, i, h, z))) = o d i h z
-                none (inr (j, h)) = free.not_in_charge j h.present (sym h.named)
+                None : (Alive M.contexts x × Has x (on k q R)) ⊎ Charged M x → ⊥
+                None (inl (b, (d, i, h, z))) = o d i h z
+                None (inr (j, h)) = free.not_in_charge j h.present (sym h.named)
 
     pub enter_wakes : Wakes (enter x c s)
     unfolding enter

@@ -1,8 +1,8 @@
 -- Entries of one other CPU are moved here: their weight leaves its total and enters this one.
+use Rattle.std.specs.Prelude.{None, Option, Some}
 use mathlib.Core.Path.{◌≡◌, refl, subst, sym, ap, ◌∙◌}
 use mathlib.Core.Bool.{Bool, true, false}
 use mathlib.Core.List.{List, [], ◌∷◌}
-use mathlib.Core.Option.{Option, none, some}
 use mathlib.Core.Logic.{◌⊎◌, inl, inr, ◌≢◌}
 use Prim.Native.Nat.{ℕ, ◌+◌, ◌-◌, ◌<◌}
 use native.Mathlib.Omega.{arith}
@@ -35,9 +35,9 @@ use Rattle.model_weights.proofs.StartWeights.{not_free}
 use Rattle.model_weights.proofs.ChargedWeights.{Fast, Holds, fast_placed, running_weight}
 use Rattle.model_weights.proofs.ChosenWeights.{won_weight}
 
-no_winner : (runs : Bool) (o : Option ℕ) → first_wins runs o ≡ true → o ≡ none
-no_winner runs none t = refl
-no_winner runs (some x) t = never {b = false} t refl
+no_winner : (runs : Bool) (o : Option ℕ) → first_wins runs o ≡ true → o ≡ None
+no_winner runs None t = refl
+no_winner runs (Some x) t = never {b = false} t refl
 
 module _ (k t : ℕ) (other : t ≢ k) (M : Machine) (runs : Bool) where
   abbrev cs₀ : List Context
@@ -50,7 +50,7 @@ module _ (k t : ℕ) (other : t ≢ k) (M : Machine) (runs : Bool) where
   pub record MovesWeight (m : Moving) : Type 0 where
     pub weights : Weights M.contexts (Fast k M runs) (Holds k M runs m.winner) m.state.contexts (on k m.state.cpu.queue (on t m.victim.queue (queues M)))
     pub total : m.state.cpu.block.total_weight ≡ running_weight k M runs + won_weight M m.winner + added m.state.cpu.queue
-    pub winner : (x : ℕ) → m.winner ≡ some x → (at m.state x).is_active ≡ true
+    pub winner : (x : ℕ) → m.winner ≡ Some x → (at m.state x).is_active ≡ true
     pub victim : m.victim.block.total_weight ≡ held_weight (context M (cpu_at M t).block.sched_ctxt) + added m.victim.queue
 
   module _ (a m : Moving) (all : List Entry) (e : Entry) (es : List Entry) (n : Moved (Free M) M.contexts k t other (queues M) runs a m all (e ∷ es)) (alive : Alive M.contexts e.context_ref)
@@ -99,7 +99,7 @@ module _ (k t : ℕ) (other : t ≢ k) (M : Machine) (runs : Bool) where
         omega (arith, b, d)
 
     -- the first stolen wins
-    wins : m.winner ≡ none → Change M.contexts (Fast k M runs) (Holds k M runs m.winner) (Holds k M runs (some x)) cs (on k q (on t v (queues M))) (on k q (on t left (queues M))) x c
+    wins : m.winner ≡ None → Change M.contexts (Fast k M runs) (Holds k M runs m.winner) (Holds k M runs (Some x)) cs (on k q (on t v (queues M))) (on k q (on t left (queues M))) x c
     wins z =
         record {
           range = r;
@@ -111,7 +111,7 @@ module _ (k t : ℕ) (other : t ≢ k) (M : Machine) (runs : Bool) where
           kept = λ b. absurd (not_fast b);
         }
       where
-        other_held : (y : ℕ) → Holds k M runs m.winner y → Holds k M runs (some x) y
+        other_held : (y : ℕ) → Holds k M runs m.winner y → Holds k M runs (Some x) y
         other_held y (inl b) = inl b
         other_held y (inr p) = absurd (some_none (sym z ∙ p) refl)
 
@@ -149,7 +149,7 @@ module _ (k t : ℕ) (other : t ≢ k) (M : Machine) (runs : Bool) where
         pick MovesWeight (first_wins runs m.winner)
         (λ u. let z = no_winner runs m.winner u in
         record {
-          weights = change M.contexts (Fast k M runs) (Holds k M runs m.winner) (Holds k M runs (some x)) cs (on k q (on t v (queues M))) (on k q (on t left (queues M))) x c (wins z) w.weights;
+          weights = change M.contexts (Fast k M runs) (Holds k M runs m.winner) (Holds k M runs (Some x)) cs (on k q (on t v (queues M))) (on k q (on t left (queues M))) x c (wins z) w.weights;
           total =
               let b : total_before ≡ running_weight k M runs + won_weight M m.winner + added q = w.total in
               let d : won_weight M m.winner ≡ 0 = ap (won_weight M) z in

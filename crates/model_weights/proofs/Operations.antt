@@ -1,16 +1,15 @@
 -- Operations 4 to 7 and the group write nothing of what tidy and the weights read.
+use Rattle.std.specs.Prelude.{None, Option, Some}
 use mathlib.Core.Path.{◌≡◌, refl, sym, ap, ◌∙◌}
 use mathlib.Core.List.{List, [], ◌∷◌}
 use Prim.Native.Nat.{ℕ}
 use lib.ListN.{length, length-set}
 use Rattle.columns.specs.Common.{fold}
 use Rattle.context.specs.declared.Context.{Context}
-use Rattle.context.specs.declared.Changed.{Changed}
+use Rattle.context.specs.Block.{Changed}
 use Rattle.context.specs.declared.Status.{Status}
 use Rattle.context.specs.Status.{is_runnable, is_soft_blocked}
 use Rattle.context.specs.Block.{blocked_as, unblocked}
-use Rattle.machine.specs.declared.CpuLookup.{CpuLookup}
-use Rattle.machine.specs.declared.CpuLookup.TheVariants.{Present, Absent}
 use Rattle.machine.specs.Machine.{Machine, context_at, cpu_at, set_context, set_cpu}
 use Rattle.machine.specs.Outcome.{Outcome, finished}
 use Rattle.percpu.specs.Cpu.{Cpu}
@@ -52,10 +51,10 @@ pub drain_untouched : (k : ℕ) (M : Machine) → Untouched M (drain_ipi_context
 unfolding drain_ipi_context_wakeups
 drain_untouched k M = one_cpu M k _ refl
 
-wakes : (k x r : ℕ) (M : Machine) (p : CpuLookup) → Untouched M (wakeup_on k x r M p).machine
+wakes : (k x r : ℕ) (M : Machine) (p : Option ℕ) → Untouched M (wakeup_on k x r M p).machine
 unfolding wakeup_on push_local push_ipi
-wakes k x r M (Present t) = one_cpu M t _ refl
-wakes k x r M Absent = one_cpu M k _ refl
+wakes k x r M (Some t) = one_cpu M t _ refl
+wakes k x r M None = one_cpu M k _ refl
 
 wakeup_untouched : (k x r : ℕ) (M : Machine) → Untouched M (wakeup_context k x r M).machine
 unfolding wakeup_context

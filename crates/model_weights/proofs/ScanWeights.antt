@@ -1,9 +1,8 @@
 -- The scan and the clean-up: the weight that is given up is that of the entries that leave.
-use Rattle.std.specs.Prelude.{if◌then◌else◌}
+use Rattle.std.specs.Prelude.{if◌then◌else◌, None, Option}
 use mathlib.Core.Path.{◌≡◌, refl, subst, sym, ap, ◌∙◌}
 use mathlib.Core.Bool.{Bool, true, false, ◌&&◌}
 use mathlib.Core.List.{List, [], ◌∷◌, ◌++◌}
-use mathlib.Core.Option.{Option, none}
 use mathlib.Core.Logic.{◌⊎◌, inl, inr, ◌≢◌}
 use Prim.Native.Nat.{ℕ, ◌+◌, ◌<◌}
 use native.Mathlib.Omega.{arith}
@@ -113,13 +112,13 @@ module _ (F : ℕ → Type 0) (cs₀ : List Context) (k time : ℕ) (p : Cpu) (h
         counted l =
             let a : (context_at f.contexts x).is_active ≡ true = w.weights.active e k here (sym (gone_of (n.same x)) ∙ l) in rw a
 
-    step_cleans : f.eligible_best ≡ none → Fresh k time p h cs f e → Cleans (scan_step k time p h f e)
+    step_cleans : f.eligible_best ≡ None → Fresh k time p h cs f e → Cleans (scan_step k time p h f e)
     unfolding visited
     step_cleans b a =
         rw (step_is k time p h cs f e b a)
         (pick (λ v. Cleans (visited k time p h f e v)) (beyond k time p h f e) (λ t. record { weights = w.weights; given_up = w.given_up }) (λ t. visits))
 
-  cleaning : (f : Scan) (es : List Entry) → f.eligible_best ≡ none → Distinct es → All (Fresh k time p h cs f) es → Scanning F cs₀ k time p h cs q R n f es → Cleans f
+  cleaning : (f : Scan) (es : List Entry) → f.eligible_best ≡ None → Distinct es → All (Fresh k time p h cs f) es → Scanning F cs₀ k time p h cs q R n f es → Cleans f
       → Cleans (fold (scan_step k time p h) f es)
   cleaning f [] b d a s w = w
   cleaning f (e ∷ es) b d a s w =

@@ -1,9 +1,8 @@
 -- A runnable holder that lost goes back to the queue with its weight: what is left besides the queue is the weight of who is in charge next.
-use Rattle.std.specs.Prelude.{if◌then◌else◌}
+use Rattle.std.specs.Prelude.{if◌then◌else◌, None, Option, Some, is_some}
 use mathlib.Core.Path.{◌≡◌, refl, subst, sym, ap, ◌∙◌}
 use mathlib.Core.Bool.{Bool, true, false, not, ◌&&◌, ◌||◌}
 use mathlib.Core.List.{List}
-use mathlib.Core.Option.{Option, none, some}
 use mathlib.Core.Logic.{◌⊎◌, inl, inr, ◌≢◌}
 use Prim.Native.Nat.{ℕ, ◌+◌, ◌<◌}
 use native.Mathlib.Omega.{arith}
@@ -16,7 +15,7 @@ use Rattle.weights.specs.Weights.{weight}
 use Rattle.entries.specs.declared.Entry.{Entry}
 use Rattle.entries.specs.Queue.{queue_insert}
 use Rattle.machine.specs.Machine.{Machine, context_at, cpu_at}
-use Rattle.model.specs.State.{State, at, on_cpu, holder, is_some}
+use Rattle.model.specs.State.{State, at, on_cpu, holder}
 use Rattle.model.specs.Steal.{Stealing, mark_stealable}
 use Rattle.model.specs.Handover.{advance, requeue, settled}
 use Rattle.model.specs.Tidy.{Sound, Present, InCharge, context}
@@ -40,8 +39,8 @@ module _ (k : ℕ) (M : Machine) where
 
   -- what that one adds to the total
   abbrev pub successor_weight : Bool → Option ℕ → ℕ
-  successor_weight runs (some x) = own_weight M.contexts x
-  successor_weight runs none = running_weight k M runs
+  successor_weight runs (Some x) = own_weight M.contexts x
+  successor_weight runs None = running_weight k M runs
 
 module _ (k : ℕ) (M : Machine) (S : Sound M) (P : Present M k) (runs : Bool) (n : ℕ) (l : Stealing)
     (kept : Inv (Free M) M.contexts l.state.contexts (on k l.state.cpu.queue (queue_list l.cpus))) (roles_are : roles l.state.cpu ≡ roles (cpu_at M k))
@@ -55,14 +54,14 @@ module _ (k : ℕ) (M : Machine) (S : Sound M) (P : Present M k) (runs : Bool) (
   pub record Settles (s : State) : Type 0 where
     pub weights : Weights M.contexts (Fast k M runs) (Remains k M runs l.winner) s.contexts (on k s.cpu.queue (queue_list l.cpus))
     pub total : s.cpu.block.total_weight ≡ successor_weight k M runs l.winner + added s.cpu.queue
-    pub winner : (x : ℕ) → l.winner ≡ some x → (at s x).is_active ≡ true
+    pub winner : (x : ℕ) → l.winner ≡ Some x → (at s x).is_active ≡ true
 
   -- before the holder goes back
   record Advances (s : State) : Type 0 where
     pub inv : Inv (Free M) M.contexts s.contexts (on k s.cpu.queue (queue_list l.cpus))
     pub weights : Weights M.contexts (Fast k M runs) (Holds k M runs l.winner) s.contexts (on k s.cpu.queue (queue_list l.cpus))
     pub total : s.cpu.block.total_weight ≡ running_weight k M runs + won_weight M l.winner + added s.cpu.queue
-    pub winner : (x : ℕ) → l.winner ≡ some x → (at s x).is_active ≡ true
+    pub winner : (x : ℕ) → l.winner ≡ Some x → (at s x).is_active ≡ true
     pub is_h : s.cpu.block.sched_ctxt ≡ h
 
   advances : Advances (advance runs l.winner n l.state)
@@ -77,8 +76,8 @@ module _ (k : ℕ) (M : Machine) (S : Sound M) (P : Present M k) (runs : Bool) (
 
   -- nobody goes back
   stays : (o : Option ℕ) (r : Bool) → l.winner ≡ o → runs ≡ r → (is_some o && r) ≡ false → (s : State) → Advances s → Settles s
-  stays (some x) true z t u s a = never {b = true} refl u
-  stays (some x) false z t u s a =
+  stays (Some x) true z t u s a = never {b = true} refl u
+  stays (Some x) false z t u s a =
       record {
         weights = same_names M.contexts (Fast k M runs) (Fast k M runs) (Holds k M runs l.winner) (Remains k M runs l.winner) s.contexts _ (λ y f. f) (λ y q m c. go y c) a.weights;
         total =
@@ -94,7 +93,7 @@ module _ (k : ℕ) (M : Machine) (S : Sound M) (P : Present M k) (runs : Bool) (
       go y (inl (j, c, inl o)) = inl (j, c, o)
       go y (inl (j, c, inr p)) = never p t
       go y (inr p) = inr (sym (ap (successor k M runs) p))
-  stays none r z t u s a =
+  stays None r z t u s a =
       record {
         weights = same_names M.contexts (Fast k M runs) (Fast k M runs) (Holds k M runs l.winner) (Remains k M runs l.winner) s.contexts _ (λ y f. f) (λ y q m c. go y c) a.weights;
         total =
@@ -185,8 +184,8 @@ module _ (k : ℕ) (M : Machine) (S : Sound M) (P : Present M k) (runs : Bool) (
         })
       where
         same_weight : (o : Option ℕ) → is_some o ≡ true → successor_weight k M runs o ≡ won_weight M o
-        same_weight (some y) z = refl
-        same_weight none z = never {b = false} z refl
+        same_weight (Some y) z = refl
+        same_weight None z = never {b = false} z refl
 
   pub settled_settles : Settles (settled runs n l)
   unfolding settled

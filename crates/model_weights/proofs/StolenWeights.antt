@@ -1,8 +1,8 @@
 -- Work stealing: the stored totals of this CPU and of every other stay the weights added up.
+use Rattle.std.specs.Prelude.{None, Option, Some}
 use mathlib.Core.Path.{◌≡◌, refl, subst, sym, ap, ◌∙◌}
 use mathlib.Core.Bool.{Bool, true, false}
 use mathlib.Core.List.{List, [], ◌∷◌}
-use mathlib.Core.Option.{Option, none, some}
 use mathlib.Core.Logic.{inl, inr, ◌≢◌}
 use Prim.Native.Nat.{ℕ, ◌+◌, ◌<◌}
 use lib.Dec.{eqb}
@@ -41,15 +41,15 @@ module _ (k : ℕ) (M : Machine) (runs : Bool) where
   pub record Steals (l : Stealing) : Type 0 where
     pub weights : Weights M.contexts (Fast k M runs) (Holds k M runs l.winner) l.state.contexts (on k l.state.cpu.queue (queue_list l.cpus))
     pub total : l.state.cpu.block.total_weight ≡ running_weight k M runs + won_weight M l.winner + added l.state.cpu.queue
-    pub winner : (x : ℕ) → l.winner ≡ some x → (at l.state x).is_active ≡ true
+    pub winner : (x : ℕ) → l.winner ≡ Some x → (at l.state x).is_active ≡ true
     pub elsewhere : Elsewhere l.cpus
 
 module _ (k : ℕ) (M : Machine) (runs : Bool) (locked : List ℕ) (w : Option ℕ) (C : State) (A : Agree M)
     (n : Inv (Free M) M.contexts C.contexts (on k C.cpu.queue (queues M)))
-    (win : (x : ℕ) → w ≡ some x → Winner (Free M) M.contexts k (queues M) x C.contexts (on k C.cpu.queue (queues M)))
+    (win : (x : ℕ) → w ≡ Some x → Winner (Free M) M.contexts k (queues M) x C.contexts (on k C.cpu.queue (queues M)))
     (weights : Weights M.contexts (Fast k M runs) (Holds k M runs w) C.contexts (on k C.cpu.queue (queues M)))
     (total : C.cpu.block.total_weight ≡ running_weight k M runs + won_weight M w + added C.cpu.queue)
-    (active : (x : ℕ) → w ≡ some x → (at C x).is_active ≡ true) where
+    (active : (x : ℕ) → w ≡ Some x → (at C x).is_active ≡ true) where
   at_first : Elsewhere k M runs M.cpus
   unfolding cpu_at
   at_first j o p = A j p ∙ total_is M j

@@ -1,8 +1,8 @@
 -- A call of operations 1 to 3 that decides nothing: an undue tick, a direct switch, a direct switch back.
+use Rattle.std.specs.Prelude.{None, Option, Some}
 use mathlib.Core.Path.{◌≡◌, refl, subst, sym, ◌∙◌}
 use mathlib.Core.Bool.{Bool, true, false, not, ◌&&◌}
 use mathlib.Core.List.{List}
-use mathlib.Core.Option.{Option, none, some}
 use Prim.Native.Nat.{ℕ, ◌+◌}
 use native.Mathlib.Omega.{arith}
 use lib.Dec.{ltb, leb, eqb}
@@ -68,7 +68,7 @@ module _ (k time : ℕ) (M : Machine) where
       }
 
   -- where it can be switched to x, that is all; f: what the call makes of it
-  directly : (x : ℕ) (b c : Bool) (s : State) (f : Option State → Outcome) → Alike s → ((u : State) → Alike u → Untouched M (f (some u)).machine)
+  directly : (x : ℕ) (b c : Bool) (s : State) (f : Option State → Outcome) → Alike s → ((u : State) → Alike u → Untouched M (f (Some u)).machine)
       → can_switch (update_runnable k time b c (at s x)) ≡ true → Untouched M (f (direct_switch_by k time x s (update_runnable k time b c (at s x)))).machine
   unfolding direct_switch_by
   directly x b c s f a g =

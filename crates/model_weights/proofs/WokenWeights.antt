@@ -1,6 +1,6 @@
 -- Serving wake-ups keeps the stored total equal to the weight added up.
+use Rattle.std.specs.Prelude.{None, Option, Some}
 use mathlib.Core.Path.{refl, subst, sym, ap, ◌∙◌}
-use mathlib.Core.Option.{Option, none, some}
 use Prim.Native.Nat.{ℕ}
 use lib.Seq.{get_or-set_other}
 use borrow.Author.Tests.{eqb-false}
@@ -38,8 +38,8 @@ module _ (k time : ℕ) (M : Machine) (S : Sound M) (T : Tidy M) (P : Present M 
       }
 
   put_back_wakes : (o : Option ℕ) (x : ℕ) (s : State) → Wakes k time M S T P own W A s → Wakes k time M S T P own W A (put_back o x s)
-  put_back_wakes none x s n = record { waking = put_back_waking k time M S T none x s n.waking; weights = n.weights; holder_is = n.holder_is; total = n.total }
-  put_back_wakes (some t) x s n = record { waking = put_back_waking k time M S T (some t) x s n.waking; weights = n.weights; holder_is = n.holder_is; total = n.total }
+  put_back_wakes None x s n = record { waking = put_back_waking k time M S T None x s n.waking; weights = n.weights; holder_is = n.holder_is; total = n.total }
+  put_back_wakes (Some t) x s n = record { waking = put_back_waking k time M S T (Some t) x s n.waking; weights = n.weights; holder_is = n.holder_is; total = n.total }
 
   serve_wakes : (s : State) (w : Wakeup) → Named k time M S T w → Wakes k time M S T P own W A s → Wakes k time M S T P own W A (serve_wakeup s w)
   unfolding serve_wakeup wake_as

@@ -1,7 +1,7 @@
 // The limits that document 01 sets to the image's numbers, and what Rust has as methods of numbers and truths.
 #![tactic(auto)]
 
-ghost use Rattle.std.specs.Prelude.{◌≡◌, ◌&&◌, ◌||◌, ℕ, ◌-◌, max};
+ghost use Rattle.std.specs.Prelude.{◌≡◌, ◌&&◌, ◌||◌, ℕ};
 
 // the greatest of a number that has no range of its own, and of a call's time
 pub const MAX_NUMBER: u64 = (1 << 62) - 1;
@@ -26,24 +26,6 @@ pub fn word(x: usize) -> u64
     ensures { result ≡ x }
 {
     x as u64
-}
-
-pub fn saturating_sub(a: u64, b: u64) -> u64
-    ensures { result ≡ a - b }
-{
-    if a < b {
-        return 0;
-    }
-    a - b
-}
-
-pub fn max(a: u64, b: u64) -> u64
-    ensures { result ≡ max a b }
-{
-    if a < b {
-        return b;
-    }
-    a
 }
 
 // `&&` and `||` as values: one test to branch on.

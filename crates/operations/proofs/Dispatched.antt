@@ -1,5 +1,5 @@
 -- An operation by its number, on a checked image and of any words. Assumes nothing.
-use Rattle.std.specs.Prelude.{if◌then◌else◌}
+use Rattle.std.specs.Prelude.{if◌then◌else◌, Err, Ok, Result}
 use mathlib.Core.Path.{◌≡◌, refl, sym, ◌∙◌}
 use mathlib.Core.Bool.{Bool, true, false}
 use Prim.Native.Nat.{ℕ}
@@ -16,8 +16,6 @@ use Rattle.context_ops.specs.Named.{named}
 use Rattle.context_ops.specs.Operations.{unblock_context, drain_ipi_context_wakeups, block, hard_block}
 use Rattle.answer.specs.declared.Answer.{Answer}
 use Rattle.context_ops.specs.Reply.{Reply, reply, refuse, reply_to, reply_on}
-use Rattle.calls.specs.declared.Checked.{Checked}
-use Rattle.calls.specs.declared.Checked.TheVariants.{Refused, Passed}
 use Rattle.calls.specs.Call.{check, checked_by, call}
 use Rattle.calls.proofs.Called.{call_refused, call_done}
 use Rattle.operations.specs.Operation.{operation_reply}
@@ -61,10 +59,10 @@ both_same true x y e = refl
 both_same false x y e = e
 
 -- the check comes first, whatever the operation
-checked_is : (m : List ℕ) (operation cpu time context : ℕ) (w : Checked) → w ≡ check m time
+checked_is : (m : List ℕ) (operation cpu time context : ℕ) (w : Result (ℕ × ℕ) ℕ) → w ≡ check m time
     → call m operation cpu time context ≡ checked_by m (λ (M : Machine). operation_reply m M operation cpu time context) w
 unfolding call checked_by operation_reply
-checked_is m operation cpu time context (Refused r) e =
+checked_is m operation cpu time context (Err r) e =
     rw (← e)
     (both_same (eqb operation 1) _ _
     (both_same (eqb operation 2) _ _
@@ -73,19 +71,19 @@ checked_is m operation cpu time context (Refused r) e =
     (both_same (eqb operation 5) _ _
     (both_same (eqb operation 6) _ _
     (both_same (eqb operation 7) _ _ refl)))))))
-checked_is m operation cpu time context (Passed c n) e = rw (← e)
+checked_is m operation cpu time context (Ok (c, n)) e = rw (← e)
 
 pub call_is : (m : List ℕ) (operation cpu time context : ℕ)
     → call m operation cpu time context ≡ checked_by m (λ (M : Machine). operation_reply m M operation cpu time context) (check m time)
 call_is m operation cpu time context = checked_is m operation cpu time context (check m time) refl
 
 -- w: what the code's check gave
-module _ (m : List ℕ) (time : ℕ) (w : Checked) (e : w ≡ check m time) (operation cpu context : ℕ) where
-  pub refused_is : {a : Answer} (r : ℕ) → w ≡ Refused r → a ≡ record { refusal = r; result = 0; interrupt = 0; rule = 0 } → reply a m ≡ call m operation cpu time context
+module _ (m : List ℕ) (time : ℕ) (w : Result (ℕ × ℕ) ℕ) (e : w ≡ check m time) (operation cpu context : ℕ) where
+  pub refused_is : {a : Answer} (r : ℕ) → w ≡ Err r → a ≡ record { refusal = r; result = 0; interrupt = 0; rule = 0 } → reply a m ≡ call m operation cpu time context
   refused_is r g z =
       call_refused m time w e r (λ (M : Machine). operation_reply m M operation cpu time context) g z ∙ sym (call_is m operation cpu time context)
 
-  pub passed_is : {a : Answer} {m' : List ℕ} (c n : ℕ) → w ≡ Passed c n
+  pub passed_is : {a : Answer} {m' : List ℕ} (c n : ℕ) → w ≡ Ok (c, n)
       → ((M : Machine) → m ≡ encode M → Fits c n M → reply a m' ≡ operation_reply m M operation cpu time context) → reply a m' ≡ call m operation cpu time context
   passed_is c n g h =
       call_done m time w e c n (λ (M : Machine). operation_reply m M operation cpu time context) g h ∙ sym (call_is m operation cpu time context)

@@ -11,8 +11,8 @@ ghost use Rattle.context_ops.specs.Reply.{reply};
 ghost use Rattle.calls.specs.Call.{call};
 ghost use Rattle.operations.specs.Operation.{operation_reply};
 
-use answer::{Answer, refused};
-use calls::Checked;
+use answer::Answer;
+use refusal::{Refusal, refused};
 
 // On an image that passes the check, of c CPUs and n contexts.
 pub fn on_image(
@@ -37,7 +37,7 @@ pub fn on_image(
         5 => context_ops::drain_ipi_context_wakeups(image, c, n, cpu),
         6 => context_ops::block(image, c, n, cpu, context),
         7 => context_ops::hard_block(image, c, n, cpu, context),
-        _ => refused(5),
+        _ => refused(Refusal::Name),
     }
 }
 
@@ -47,7 +47,7 @@ pub fn call(image: &mut [u64], operation: u64, cpu: u64, time: u64, context: u64
 {
     let checked = calls::check(image, time);
     match checked {
-        Checked::Refused(number) => refused(number),
-        Checked::Passed(c, n) => on_image(image, c, n, operation, cpu, time, context),
+        Err(refusal) => refused(refusal),
+        Ok((c, n)) => on_image(image, c, n, operation, cpu, time, context),
     }
 }

@@ -1,4 +1,5 @@
 -- What is answered, from what was decided by value. Assumes nothing.
+use Rattle.std.specs.Prelude.{None, Option, Some}
 use mathlib.Core.Path.{◌≡◌, sym, ap, ◌∙◌, subst}
 use mathlib.Core.Bool.{true, false}
 use mathlib.Core.List.{List}
@@ -7,10 +8,6 @@ use native.Mathlib.Omega.{arith}
 use lib.ListN.{length}
 use borrow.Author.Tests.{ne_eqb}
 use Rattle.numbers.specs.Limits.{max_number}
-use Rattle.machine.specs.declared.Lookup.{Lookup}
-use Rattle.machine.specs.declared.Lookup.TheVariants.{Live, Gone}
-use Rattle.machine.specs.declared.CpuLookup.{CpuLookup}
-use Rattle.machine.specs.declared.CpuLookup.TheVariants.{Present, Absent}
 use Rattle.machine.specs.Machine.{Machine}
 use Rattle.machine.specs.Encode.{encode, cpu_place}
 use Rattle.machine.specs.Shape.{Image, Fits}
@@ -89,32 +86,32 @@ module _ (c n k time : ℕ) (d : Decision) (m : List ℕ) {r : ℕ} (hr : (M : M
       has_room y s h = passes z (with_room y s h)
 
 -- p: what looking up the CPU gave
-module _ (m : List ℕ) (M : Machine) (cpu time : ℕ) (call : Call) (p : CpuLookup) (hp : p ≡ get_percpu_block M cpu) where
-  pub absent : {a : Answer} → p ≡ Absent → a ≡ record { refusal = 5; result = 0; interrupt = 0; rule = 0 } → reply a m ≡ decide m M cpu time call
+module _ (m : List ℕ) (M : Machine) (cpu time : ℕ) (call : Call) (p : Option ℕ) (hp : p ≡ get_percpu_block M cpu) where
+  pub absent : {a : Answer} → p ≡ None → a ≡ record { refusal = 5; result = 0; interrupt = 0; rule = 0 } → reply a m ≡ decide m M cpu time call
   unfolding decide_by
   absent e h = rw (← hp, e) (ap (λ (b : Answer). reply b m) h)
 
-  pub present_on : {a : Answer} {m' : List ℕ} (k : ℕ) → p ≡ Present k → reply a m' ≡ decide_on m M k time call → reply a m' ≡ decide m M cpu time call
+  pub present_on : {a : Answer} {m' : List ℕ} (k : ℕ) → p ≡ Some k → reply a m' ≡ decide_on m M k time call → reply a m' ≡ decide m M cpu time call
   unfolding decide_by
   present_on k e f = rw (← hp, e) f
 
-pub present_below : {c n : ℕ} {m : List ℕ} (i : Image c n m) (cpu k : ℕ) (p : CpuLookup) → ((M : Machine) → m ≡ encode M → Fits c n M → p ≡ get_percpu_block M cpu) → p ≡ Present k → k < c
+pub present_below : {c n : ℕ} {m : List ℕ} (i : Image c n m) (cpu k : ℕ) (p : Option ℕ) → ((M : Machine) → m ≡ encode M → Fits c n M → p ≡ get_percpu_block M cpu) → p ≡ Some k → k < c
 present_below {c} i cpu k p h e =
     let w = present i.M cpu k (sym e ∙ h i.M i.eq i.fits) in
     let u : k ≡ cpu = w.is in
     omega (arith, w.below, i.fits.cpus)
 
 -- l: what looking up the context gave
-module _ (m : List ℕ) (M : Machine) (cpu time context : ℕ) (l : Lookup) (hl : l ≡ look_up M context) where
-  pub gone : {a : Answer} → l ≡ Gone → a ≡ record { refusal = 5; result = 0; interrupt = 0; rule = 0 } → reply a m ≡ direct_switch_by m M cpu time (look_up M context)
+module _ (m : List ℕ) (M : Machine) (cpu time context : ℕ) (l : Option ℕ) (hl : l ≡ look_up M context) where
+  pub gone : {a : Answer} → l ≡ None → a ≡ record { refusal = 5; result = 0; interrupt = 0; rule = 0 } → reply a m ≡ direct_switch_by m M cpu time (look_up M context)
   unfolding direct_switch_by
   gone e h = rw (← hl, e) (ap (λ (b : Answer). reply b m) h)
 
-  pub alive : {a : Answer} {m' : List ℕ} (x : ℕ) → l ≡ Live x → reply a m' ≡ decide m M cpu time (by_direct_switch x) → reply a m' ≡ direct_switch_by m M cpu time (look_up M context)
+  pub alive : {a : Answer} {m' : List ℕ} (x : ℕ) → l ≡ Some x → reply a m' ≡ decide m M cpu time (by_direct_switch x) → reply a m' ≡ direct_switch_by m M cpu time (look_up M context)
   unfolding direct_switch_by
   alive x e f = rw (← hl, e) f
 
-pub live_below : {c n : ℕ} {m : List ℕ} (i : Image c n m) (context x : ℕ) (l : Lookup) → ((M : Machine) → m ≡ encode M → Fits c n M → l ≡ look_up M context) → l ≡ Live x → TargetBelow n (DirectSwitchTo x)
+pub live_below : {c n : ℕ} {m : List ℕ} (i : Image c n m) (context x : ℕ) (l : Option ℕ) → ((M : Machine) → m ≡ encode M → Fits c n M → l ≡ look_up M context) → l ≡ Some x → TargetBelow n (DirectSwitchTo x)
 live_below {n = n} i context x l h e y z =
     let w = live i.M context x (sym e ∙ h i.M i.eq i.fits) in
     let u : x ≡ context = w.is in

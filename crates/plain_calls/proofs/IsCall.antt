@@ -1,5 +1,5 @@
 -- A plain call is the call: answer and every word, of any words, operation, CPU, time and context. Assumes nothing.
-use Rattle.std.specs.Prelude.{if◌then◌else◌}
+use Rattle.std.specs.Prelude.{if◌then◌else◌, None, Option, Some, Err, Ok, Result}
 use mathlib.Core.Path.{◌≡◌, refl}
 use mathlib.Core.Bool.{Bool, true, false}
 use mathlib.Core.List.{List, [], ◌∷◌}
@@ -9,10 +9,6 @@ use lib.Dec.{eqb}
 use lib.ListN.{length, get_or}
 use Rattle.columns.specs.Common.{All}
 use Rattle.percpu.specs.Cpu.{Cpu}
-use Rattle.machine.specs.declared.Lookup.{Lookup}
-use Rattle.machine.specs.declared.Lookup.TheVariants.{Live, Gone}
-use Rattle.machine.specs.declared.CpuLookup.{CpuLookup}
-use Rattle.machine.specs.declared.CpuLookup.TheVariants.{Present, Absent}
 use Rattle.machine.specs.Machine.{Machine, cpu_at, no_cpu}
 use Rattle.machine.specs.Encode.{decode}
 use Rattle.machine.specs.LookUp.{look_up, get_percpu_block}
@@ -21,8 +17,6 @@ use Rattle.image.proofs.Admitted.{passed, decoded_fits}
 use Rattle.model.specs.Accepted.{Call, by_tick, by_switch, by_direct_switch}
 use Rattle.context_ops.specs.Reply.{Reply}
 use Rattle.switch_ops.specs.Reply.{decide_on, decide_by, direct_switch_by}
-use Rattle.calls.specs.declared.Checked.{Checked}
-use Rattle.calls.specs.declared.Checked.TheVariants.{Refused, Passed}
 use Rattle.calls.specs.Call.{check, checked, checked_by, call}
 use Rattle.calls.proofs.Called.{call_none}
 use Rattle.plain_model.proofs.Sorted.{Rises, sorted_is}
@@ -44,21 +38,21 @@ rises {c} M f =
 
 -- on such a machine
 module _ (m : List ℕ) (M : Machine) (a : All Rises M.cpus) (cpu time : ℕ) where
-  by_is : (call : Call) (p : CpuLookup) → plain.decide_by m M time call p ≡ decide_by m M time call p
+  by_is : (call : Call) (p : Option ℕ) → plain.decide_by m M time call p ≡ decide_by m M time call p
   unfolding plain.decide_by decide_by plain.decide_on decide_on
-  by_is call Absent = refl
-  by_is call (Present k) = rw (sorted_is call k time M a)
+  by_is call None = refl
+  by_is call (Some k) = rw (sorted_is call k time M a)
 
-  direct_is : (l : Lookup) → plain.direct_switch_by m M cpu time l ≡ direct_switch_by m M cpu time l
+  direct_is : (l : Option ℕ) → plain.direct_switch_by m M cpu time l ≡ direct_switch_by m M cpu time l
   unfolding plain.direct_switch_by direct_switch_by
-  direct_is Gone = refl
-  direct_is (Live x) = by_is (by_direct_switch x) (get_percpu_block M cpu)
+  direct_is None = refl
+  direct_is (Some x) = by_is (by_direct_switch x) (get_percpu_block M cpu)
 
 module _ (m : List ℕ) (time : ℕ) (f g : Machine → Reply) (h : (M : Machine) → All Rises M.cpus → f M ≡ g M) where
-  past_check : (w : Checked) → w ≡ check m time → checked_by m f w ≡ checked_by m g w
+  past_check : (w : Result (ℕ × ℕ) ℕ) → w ≡ check m time → checked_by m f w ≡ checked_by m g w
   unfolding checked_by
-  past_check (Refused r) e = refl
-  past_check (Passed c n) e = h (decode m) (rises (decode m) (decoded_fits m (passed time m (call_none m time (Passed c n) e c n refl))))
+  past_check (Err r) e = refl
+  past_check (Ok (c, n)) e = h (decode m) (rises (decode m) (decoded_fits m (passed time m (call_none m time (Ok (c, n)) e c n refl))))
 
   checked_is : checked m time f ≡ checked m time g
   checked_is = past_check (check m time) refl

@@ -1,9 +1,5 @@
 -- What a plain call answers and the image it leaves, of any words, operation, CPU, time and context. Assumes nothing.
-use Rattle.std.specs.Prelude.{ℕ, List, eqb, if◌then◌else◌}
-use Rattle.machine.specs.declared.Lookup.{Lookup}
-use Rattle.machine.specs.declared.Lookup.TheVariants.{Live, Gone}
-use Rattle.machine.specs.declared.CpuLookup.{CpuLookup}
-use Rattle.machine.specs.declared.CpuLookup.TheVariants.{Present, Absent}
+use Rattle.std.specs.Prelude.{ℕ, List, eqb, if◌then◌else◌, None, Option, Some}
 use Rattle.machine.specs.Machine.{Machine}
 use Rattle.machine.specs.LookUp.{look_up, get_percpu_block}
 use Rattle.model.specs.Accepted.{Call, by_tick, by_switch, by_direct_switch}
@@ -18,16 +14,16 @@ decide_on m M k time call =
     if eqb (refusal call M k time) 0 then replied m (plain_outcome call k time M) else refuse (refusal call M k time) m
 
 -- refusal 5 comes before them
-unfoldable pub decide_by : List ℕ → Machine → (time : ℕ) → Call → CpuLookup → Reply
-decide_by m M time call Absent = refuse 5 m
-decide_by m M time call (Present k) = decide_on m M k time call
+unfoldable pub decide_by : List ℕ → Machine → (time : ℕ) → Call → Option ℕ → Reply
+decide_by m M time call None = refuse 5 m
+decide_by m M time call (Some k) = decide_on m M k time call
 
 abbrev pub decide : List ℕ → Machine → (cpu time : ℕ) → Call → Reply
 decide m M cpu time call = decide_by m M time call (get_percpu_block M cpu)
 
-unfoldable pub direct_switch_by : List ℕ → Machine → (cpu time : ℕ) → Lookup → Reply
-direct_switch_by m M cpu time Gone = refuse 5 m
-direct_switch_by m M cpu time (Live x) = decide m M cpu time (by_direct_switch x)
+unfoldable pub direct_switch_by : List ℕ → Machine → (cpu time : ℕ) → Option ℕ → Reply
+direct_switch_by m M cpu time None = refuse 5 m
+direct_switch_by m M cpu time (Some x) = decide m M cpu time (by_direct_switch x)
 
 -- refusals 1 to 4 come before all; what decides nothing is delegated
 unfoldable pub plain_call : List ℕ → (operation cpu time context : ℕ) → Reply

@@ -13,10 +13,10 @@ ghost use Rattle.context_ops.specs.Reply.{reply};
 ghost use Rattle.switch_ops.specs.Reply.{call_of, refusal, TargetBelow};
 ghost use Rattle.calls.specs.Call.{checked};
 ghost use Rattle.plain_calls.specs.Call.{decide_on, decide, direct_switch_by, plain_call};
+ghost use Rattle.refusal.specs.Number.{refusal_of};
 
-use answer::{Answer, refused};
-use calls::Checked;
-use machine::{CpuLookup, Lookup};
+use answer::Answer;
+use refusal::{Refusal, refused};
 use switch_ops::Decision;
 
 fn accepted(res: u64, rule: u64) -> Answer
@@ -31,15 +31,15 @@ fn accepted(res: u64, rule: u64) -> Answer
 }
 
 // Refusals 6 to 8.
-fn refusal(m: &[u64], c: usize, n: usize, k: usize, time: u64, d: Decision) -> u64
+fn check(m: &[u64], c: usize, n: usize, k: usize, time: u64, d: Decision) -> Result<(), Refusal>
     requires image { Image c n m.now }
     requires k_lt_c { (k < c) × (TargetBelow n d) }
-    ensures { (M : Machine) → m.now ≡ encode M → Fits c n M → result ≡ refusal (call_of d) M k time }
+    ensures { (M : Machine) → m.now ≡ encode M → Fits c n M → refusal_of result ≡ refusal (call_of d) M k time }
 {
     match d {
-        Decision::Tick => admission::decision_refusal(m, c, n, k, time),
-        Decision::Switch => admission::decision_refusal(m, c, n, k, time),
-        Decision::DirectSwitchTo(x) => admission::direct_refusal(m, c, n, k, time, x),
+        Decision::Tick => admission::check_decision(m, c, n, k, time),
+        Decision::Switch => admission::check_decision(m, c, n, k, time),
+        Decision::DirectSwitchTo(x) => admission::check_direct(m, c, n, k, time, x),
     }
 }
 
@@ -50,14 +50,13 @@ fn decide_on(m: &mut [u64], c: usize, n: usize, k: usize, time: u64, d: Decision
     requires ranged { Ranged c n max_number max_number m.old }
     ensures { (M : Machine) → m.old ≡ encode M → Fits c n M → reply result m.new ≡ decide_on m.old M k time (call_of d) }
 {
-    let number = refusal(m, c, n, k, time, d);
-    if number != 0 {
-        return refused(number);
+    if let Err(refusal) = check(m, c, n, k, time, d) {
+        return refused(refusal);
     }
     let decided = plain_ops::decide(m, c, n, k, time, d);
     let state = decided.state;
     if state.no_room {
-        return refused(9);
+        return refused(Refusal::NoRoom);
     }
     plain_ops::store(m, c, n, k, decided);
     accepted(decided.result, decided.rule)
@@ -71,8 +70,8 @@ fn decide(m: &mut [u64], c: usize, n: usize, cpu: u64, time: u64, d: Decision) -
 {
     let p = machine::get_percpu_block(m, c, n, cpu);
     match p {
-        CpuLookup::Present(k) => decide_on(m, c, n, k, time, d),
-        CpuLookup::Absent => refused(5),
+        Some(k) => decide_on(m, c, n, k, time, d),
+        None => refused(Refusal::Name),
     }
 }
 
@@ -83,8 +82,8 @@ fn direct_switch_to(m: &mut [u64], c: usize, n: usize, cpu: u64, time: u64, cont
     ensures { (M : Machine) → m.old ≡ encode M → Fits c n M → reply result m.new ≡ direct_switch_by m.old M cpu time (look_up M context) }
 {
     let l = machine::look_up(m, c, n, context);
-    let Lookup::Live(x) = l else {
-        return refused(5);
+    let Some(x) = l else {
+        return refused(Refusal::Name);
     };
     decide(m, c, n, cpu, time, Decision::DirectSwitchTo(x))
 }
@@ -95,8 +94,8 @@ fn tick_call(image: &mut [u64], cpu: u64, time: u64) -> Answer
 {
     let checked = calls::check(image, time);
     match checked {
-        Checked::Refused(number) => refused(number),
-        Checked::Passed(c, n) => decide(image, c, n, cpu, time, Decision::Tick),
+        Err(refusal) => refused(refusal),
+        Ok((c, n)) => decide(image, c, n, cpu, time, Decision::Tick),
     }
 }
 
@@ -106,8 +105,8 @@ fn switch_call(image: &mut [u64], cpu: u64, time: u64) -> Answer
 {
     let checked = calls::check(image, time);
     match checked {
-        Checked::Refused(number) => refused(number),
-        Checked::Passed(c, n) => decide(image, c, n, cpu, time, Decision::Switch),
+        Err(refusal) => refused(refusal),
+        Ok((c, n)) => decide(image, c, n, cpu, time, Decision::Switch),
     }
 }
 
@@ -117,8 +116,8 @@ fn direct_switch_call(image: &mut [u64], cpu: u64, time: u64, context: u64) -> A
 {
     let checked = calls::check(image, time);
     match checked {
-        Checked::Refused(number) => refused(number),
-        Checked::Passed(c, n) => direct_switch_to(image, c, n, cpu, time, context),
+        Err(refusal) => refused(refusal),
+        Ok((c, n)) => direct_switch_to(image, c, n, cpu, time, context),
     }
 }
 

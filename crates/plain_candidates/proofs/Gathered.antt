@@ -1,15 +1,13 @@
 -- The candidates gathered, entry by entry; and what a victim is judged by. Assumes nothing.
-use Rattle.std.specs.Prelude.{if◌then◌else◌}
+use Rattle.std.specs.Prelude.{if◌then◌else◌, Option}
 use mathlib.Core.Path.{◌≡◌, refl, sym, ap, ◌∙◌, subst}
 use mathlib.Core.Bool.{Bool, true, false, not, ◌&&◌}
 use mathlib.Core.List.{List, [], ◌∷◌, ◌++◌}
-use mathlib.Core.Option.{Option}
-use Prim.Native.Nat.{ℕ, zero, suc, ◌+◌, ◌-◌, ◌/◌, ◌<◌, ◌≤◌, min, max}
-use native.Mathlib.Numerals.{add-one}
+use Prim.Native.Nat.{ℕ, suc, ◌+◌, ◌-◌, ◌/◌, ◌<◌, ◌≤◌, min, max}
 use native.Mathlib.Omega.{arith}
 use lib.Dec.{leb, ltb}
 use lib.ListN.{length, get_or, take, length-append}
-use lib.Seq.{take-suc, take_all, get_or-take}
+use lib.Seq.{take_all}
 use borrow.Author.Tests.{eq-eqb, ne_eqb, ltb-true}
 use Rattle.columns.specs.Common.{fold, All}
 use Rattle.context.specs.declared.Context.{Context}
@@ -23,9 +21,10 @@ use Rattle.model.proofs.Cases.{by_test, pick}
 use Rattle.steal_judge.specs.Judged.{has_enough}
 use Rattle.plain_model.specs.Rank.{by_rank}
 use Rattle.plain_model.specs.Steal.{can_be_stolen, take_candidate, candidates}
-use Rattle.plain_lists.specs.declared.Queue.{Queue}
-use Rattle.plain_lists.specs.Lists.{entries_of, Sized, Stands}
-use Rattle.plain_lists.proofs.Listing.{length_entries}
+use Rattle.plain_lists.specs.Lists.{Queue}
+use Rattle.plain_lists.specs.Lists.{entries_of, Stands}
+use Rattle.plain_lists.proofs.Folds.{fold_next, all_get_d}
+use Rattle.plain_lists.proofs.Listing.{length_items}
 use Rattle.plain_state.specs.declared.Cpu.{Cpu}
 use Rattle.plain_state.specs.declared.State.{State}
 use Rattle.plain_state.specs.States.{cpu_in, state_in, Sound}
@@ -33,87 +32,66 @@ use Rattle.plain_state.proofs.Fitting.{all_behind, all_placed}
 use Rattle.plain_candidates.specs.Stolen.{stolen_record}
 use Rattle.plain_candidates.proofs.Judging.{stolen_is}
 
--- a fold goes on with the next item
-module _ {A B : Type 0} (f : B → A → B) where
-  fold_behind : (b : B) (l : List A) (x : A) → fold f b (l ++ (x ∷ [])) ≡ f (fold f b l) x
-  fold_behind b [] x = refl
-  fold_behind b (y ∷ l) x = fold_behind (f b y) l x
-
-  pub fold_next : (b : B) (l : List A) (i : ℕ) (d : A) → i < length l → fold f b (take (i + 1) l) ≡ f (fold f b (take i l)) (get_or l i d)
-  fold_next b l i d h = rw (add-one i, take-suc l i d h) (fold_behind b (take i l) (get_or l i d))
-
-pub all_get_d : {A : Type 0} (P : A → Type 0) (l : List A) (i : ℕ) (d : A) → i < length l → All P l → P (get_or l i d)
-all_get_d P [] i d h a = absurd (omega arith)
-all_get_d P (x ∷ l) zero d h a = a.0
-all_get_d P (x ∷ l) (suc i) d h a = all_get_d P l i d (omega arith) a.1
-
 -- one entry
-pub candidate_taken : (k : ℕ) (locked : List ℕ) (cs : List Context) (w : Option ℕ) (wanted : ℕ) (got : Queue) (e : Entry) {x : ℕ} {q : Context} {b d : Bool} {r : Queue} → Sized got → x ≡ e.context_ref
+pub candidate_taken : (k : ℕ) (locked : List ℕ) (cs : List Context) (w : Option ℕ) (wanted : ℕ) (got : Queue) (e : Entry) {x : ℕ} {q : Context} {b d : Bool} {r : Queue} → x ≡ e.context_ref
     → q ≡ context_at cs x → b ≡ stolen_record k locked w (entries_of got) x q → d ≡ (ltb got.len wanted && b)
     → Stands r (if d then entries_of got ++ (e ∷ []) else entries_of got) → Stands r (take_candidate k locked cs w wanted (entries_of got) e)
-candidate_taken k locked cs w wanted got e {x} {q} {b} {d} {r} s hx hq hb hd t =
+candidate_taken k locked cs w wanted got e {x} {q} {b} {d} {r} hx hq hb hd t =
     let y : b ≡ can_be_stolen k locked cs w (entries_of got) e
     = hb ∙ ap (stolen_record k locked w (entries_of got) x) (hq ∙ ap (context_at cs) hx) ∙ ap (λ (z : ℕ). stolen_record k locked w (entries_of got) z (context_at cs e.context_ref)) hx
     ∙ stolen_is k locked cs w (entries_of got) e
     in let z : d ≡ (ltb (length (entries_of got)) wanted && can_be_stolen k locked cs w (entries_of got) e)
-    = hd ∙ ap (λ (a : Bool). ltb got.len wanted && a) y ∙ ap (λ (a : ℕ). ltb a wanted && can_be_stolen k locked cs w (entries_of got) e) (sym (length_entries got s))
+    = hd ∙ ap (λ (a : Bool). ltb got.len wanted && a) y ∙ ap (λ (a : ℕ). ltb a wanted && can_be_stolen k locked cs w (entries_of got) e) (sym (length_items got))
     in subst (λ (a : Bool). Stands r (if a then entries_of got ++ (e ∷ []) else entries_of got)) z t
 
 -- all entries, in their turns
 module _ (k : ℕ) (locked : List ℕ) (cs : List Context) (w : Option ℕ) (wanted : ℕ) where
-  pub record Gathering (n : ℕ) (turns got : Queue) (i : ℕ) : Type 0 where
-    pub sized : Sized turns
-    pub fit : All (EntryFits n) (entries_of turns)
-    pub most : i ≤ turns.len
+  -- xs: the entries in their turns; got: those taken of the first i
+  pub record Gathering (n : ℕ) (xs : List Entry) (got : Queue) (i : ℕ) : Type 0 where
+    pub fit : All (EntryFits n) xs
+    pub many : length xs ≤ 64
     pub few : got.len ≤ i
-    pub stands : Stands got (fold (take_candidate k locked cs w wanted) [] (take i (entries_of turns)))
+    pub stands : Stands got (fold (take_candidate k locked cs w wanted) [] (take i xs))
 
-  pub gathering : (n : ℕ) (q turns got : Queue) → All (EntryFits n) (entries_of q) → Stands turns (by_rank entry_before (entries_of q)) → Stands got [] → got.len ≡ 0 → Gathering n turns got 0
-  gathering n q turns got a t g e =
+  pub gathering : (n : ℕ) (q turns got : Queue) (xs : List Entry) → All (EntryFits n) (entries_of q) → Stands turns (by_rank entry_before (entries_of q)) → xs ≡ entries_of turns → Stands got [] → got.len ≡ 0 → Gathering n xs got 0
+  gathering n q turns got xs a t same g e =
+      let u : turns.len ≤ 64 = turns.fits.used in
+      let l : length xs ≡ turns.len = ap length same ∙ length_items turns in
       record {
-        sized = t.sized;
-        fit = subst (All (EntryFits n)) (sym t.is) (all_placed (EntryFits n) entries_ordered (entries_of q) a);
-        most = omega arith;
+        fit = subst (All (EntryFits n)) (sym (same ∙ t.is)) (all_placed (EntryFits n) entries_ordered (entries_of q) a);
+        many = omega arith;
         few = omega arith;
         stands = g;
       }
 
-  module _ (n : ℕ) (turns got : Queue) (i : ℕ) (c : Gathering n turns got i) (h : i < turns.len) where
-    inside : i < length (entries_of turns)
-    inside = let e : length (entries_of turns) ≡ turns.len = length_entries turns c.sized in omega arith
-
+  module _ (n : ℕ) (xs : List Entry) (got : Queue) (i : ℕ) (c : Gathering n xs got i) (h : i < length xs) where
     pub gather_room : got.len < 64
-    gather_room = let u : turns.len ≤ 64 = c.sized.used in let l : got.len ≤ i = c.few in omega arith
+    gather_room = let u : length xs ≤ 64 = c.many in let l : got.len ≤ i = c.few in omega arith
 
     module _ (d : Entry) where
-      same : get_or (entries_of turns) i d ≡ get_or turns.entries i d
-      same = get_or-take turns.len turns.entries i d h
+      pub gather_fits : EntryFits n (get_or xs i d)
+      gather_fits = all_get_d (EntryFits n) xs i d h c.fit
 
-      pub gather_fits : EntryFits n (get_or turns.entries i d)
-      gather_fits = rw same at (all_get_d (EntryFits n) (entries_of turns) i d inside c.fit)
-
-      pub gathers : {r : Queue} → Stands r (take_candidate k locked cs w wanted (entries_of got) (get_or turns.entries i d)) → r.len ≤ suc got.len → Gathering n turns r (i + 1)
+      pub gathers : {r : Queue} → Stands r (take_candidate k locked cs w wanted (entries_of got) (get_or xs i d)) → r.len ≤ suc got.len → Gathering n xs r (i + 1)
       gathers {r} t l =
           let m : got.len ≤ i = c.few in
           record {
-            sized = c.sized;
             fit = c.fit;
-            most = omega arith;
+            many = c.many;
             few = omega arith;
             stands = record {
               sized = t.sized;
               is =
-                  t.is ∙ ap (λ (z : List Entry). take_candidate k locked cs w wanted z (get_or turns.entries i d)) c.stands.is
-                  ∙ ap (take_candidate k locked cs w wanted (fold (take_candidate k locked cs w wanted) [] (take i (entries_of turns)))) (sym same)
-                  ∙ sym (fold_next (take_candidate k locked cs w wanted) [] (entries_of turns) i d inside);
+                  t.is ∙ ap (λ (z : List Entry). take_candidate k locked cs w wanted z (get_or xs i d)) c.stands.is
+                  ∙ sym (fold_next (take_candidate k locked cs w wanted) [] xs i d h);
             };
           }
 
-  pub gathered : (n : ℕ) (q turns got : Queue) (i : ℕ) → Gathering n turns got i → turns.len ≤ i → Stands turns (by_rank entry_before (entries_of q)) → Stands got (candidates k locked cs w wanted (entries_of q))
+  pub gathered : (n : ℕ) (q turns got : Queue) (xs : List Entry) (i : ℕ) → Gathering n xs got i → length xs ≤ i → Stands turns (by_rank entry_before (entries_of q)) → xs ≡ entries_of turns
+      → Stands got (candidates k locked cs w wanted (entries_of q))
   unfolding candidates
-  gathered n q turns got i c h t =
-      let e : length (entries_of turns) ≡ turns.len = length_entries turns c.sized in
-      record { sized = c.stands.sized; is = c.stands.is ∙ ap (fold (take_candidate k locked cs w wanted) []) (take_all i (entries_of turns) (omega arith) ∙ t.is) }
+  gathered n q turns got xs i c h t same =
+      record { sized = c.stands.sized; is = c.stands.is ∙ ap (fold (take_candidate k locked cs w wanted) []) (take_all i xs h ∙ same ∙ t.is) }
 
   -- no more than are wanted, all of them entries of the queue
   step_few : (got : List Entry) (e : Entry) → length got ≤ wanted → length (take_candidate k locked cs w wanted got e) ≤ wanted
@@ -142,7 +120,7 @@ module _ (k : ℕ) (locked : List ℕ) (cs : List Context) (w : Option ℕ) (wan
 -- the victim
 module _ (n : ℕ) (s : State) (o : Sound n s) where
   here : length (entries_of s.cpu.queue) ≡ s.cpu.queue.len
-  here = length_entries s.cpu.queue o.queue
+  here = length_items s.cpu.queue
 
   pub idle_load : s.cpu.block.sched_ctxt ≡ s.cpu.block.idle_ctxt → (s.cpu.queue.len ≡ my_load (state_in n s)) × (s.cpu.queue.len ≤ 65)
   idle_load e =
@@ -154,13 +132,13 @@ module _ (n : ℕ) (s : State) (o : Sound n s) where
       let u : s.cpu.queue.len ≤ 64 = o.queue.used in
       (rw (ne_eqb s.cpu.block.sched_ctxt s.cpu.block.idle_ctxt e, here), omega arith)
 
-  module _ (v : Cpu) (z : Sized v.queue) where
+  module _ (v : Cpu) where
     pub can_steal : {load published : ℕ} {a b : Bool} → load ≡ my_load (state_in n s) → published ≡ v.block.queue_len → a ≡ has_enough v.block.stealable published v.block.queue_locked v.queue.len load
         → b ≡ (v.block.present && a) → b ≡ can_steal_from (state_in n s) (cpu_in v)
     unfolding can_steal_from has_enough
     can_steal {load} {published} {a} {b} hl hp ha hb =
         hb
-        ∙ ap (λ (y : Bool). v.block.present && y) (ha ∙ (let y : v.queue.len ≡ length (entries_of v.queue) = sym (length_entries v.queue z) in λ i. has_enough v.block.stealable (hp i) v.block.queue_locked (y i) (hl i)))
+        ∙ ap (λ (y : Bool). v.block.present && y) (ha ∙ (let y : v.queue.len ≡ length (entries_of v.queue) = sym (length_items v.queue) in λ i. has_enough v.block.stealable (hp i) v.block.queue_locked (y i) (hl i)))
         ∙ apart v.block.present v.block.stealable (leb (my_load (state_in n s) + 2) (v.block.queue_len + 1)) (not v.block.queue_locked) (leb (my_load (state_in n s) + 2) (length (entries_of v.queue) + 1))
       where
         apart : (p a b c d : Bool) → (p && (a && b && c && d)) ≡ (p && a && b && c && d)
@@ -169,4 +147,4 @@ module _ (n : ℕ) (s : State) (o : Sound n s) where
 
     pub wanted_is : {r : ℕ} → r ≡ max 1 (min max_steal ((v.queue.len - s.cpu.queue.len) / 2)) → r ≡ want (state_in n s) (cpu_in v)
     unfolding want
-    wanted_is e = rw (here, length_entries v.queue z) e
+    wanted_is e = rw (here, length_items v.queue) e

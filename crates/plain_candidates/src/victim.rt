@@ -2,7 +2,6 @@
 ghost use Rattle.std.specs.Prelude.{◌≡◌, ◌-◌, ◌/◌, ◌≤◌, min, max};
 ghost use Rattle.model.specs.Steal.{max_steal, my_load, can_steal_from, want};
 ghost use Rattle.steal_judge.specs.Judged.{has_enough};
-ghost use Rattle.plain_lists.specs.Lists.{Sized};
 ghost use Rattle.plain_state.specs.States.{cpu_in, state_in, Sound};
 
 use plain_state::{Cpu, State};
@@ -16,13 +15,11 @@ fn my_load(s: State, n: usize) -> usize
     requires { Sound n s }
     ensures { (result ≡ my_load (state_in n s)) × (result ≤ 65) }
 {
-    let cpu = s.cpu;
-    let b = cpu.block;
-    let queue = cpu.queue;
+    let b = s.cpu.block;
     if b.sched_ctxt == b.idle_ctxt {
-        return queue.len;
+        return s.cpu.queue.len;
     }
-    queue.len + 1
+    s.cpu.queue.len + 1
 }
 
 // The length is tested as published, then as it is.
@@ -44,14 +41,13 @@ fn has_enough(stealable: bool, published: usize, locked: bool, len: usize, load:
 }
 
 pub fn can_steal_from(s: State, n: usize, v: Cpu) -> bool
-    requires { (Sound n s) × (Sized v.queue) }
+    requires { Sound n s }
     ensures { result ≡ can_steal_from (state_in n s) (cpu_in v) }
 {
     let b = v.block;
-    let queue = v.queue;
     let load = my_load(s, n);
     let published = numbers::index(b.queue_len);
-    let enough = has_enough(b.stealable, published, b.queue_locked, queue.len, load);
+    let enough = has_enough(b.stealable, published, b.queue_locked, v.queue.len, load);
     numbers::both(b.present, enough)
 }
 
@@ -69,11 +65,8 @@ fn half_of(there: usize, here: usize) -> usize
 
 // Half of what it has more, at least one and at most MAX_STEAL.
 pub fn want(s: State, n: usize, v: Cpu) -> usize
-    requires { (Sound n s) × (Sized v.queue) }
+    requires { Sound n s }
     ensures { (result ≡ want (state_in n s) (cpu_in v)) × (result ≤ 2) }
 {
-    let cpu = s.cpu;
-    let here = cpu.queue;
-    let there = v.queue;
-    half_of(there.len, here.len)
+    half_of(v.queue.len, s.cpu.queue.len)
 }

@@ -1,8 +1,8 @@
 -- The table, from what the code's tests said. Assumes nothing.
+use Rattle.std.specs.Prelude.{None, Option, Some}
 use mathlib.Core.Path.{◌≡◌, refl, sym, ap, ◌∙◌}
 use mathlib.Core.Bool.{Bool, true, false, ◌&&◌}
 use mathlib.Core.List.{List, [], ◌∷◌}
-use mathlib.Core.Option.{Option, none, some}
 use Prim.Native.Nat.{ℕ}
 use lib.Dec.{ltb, leb, eqb}
 use Rattle.context.specs.declared.Context.{Context}
@@ -72,10 +72,10 @@ not_alone h late t k = rw t k
 module _ (h : Holder) (s : State) (f : Scan) (o : Holding h s) where
   nobody_is : (late : Option Entry) → nobody h late ≡ plain.nobody s f late
   unfolding alone late_entry
-  nobody_is none = rw (o.runnable, o.vtime, o.v)
-  nobody_is (some e) = rw (o.runnable, o.vtime, o.vd)
+  nobody_is None = rw (o.runnable, o.vtime, o.v)
+  nobody_is (Some e) = rw (o.runnable, o.vtime, o.vd)
 
-  without_is : (late : Option Entry) → late ≡ f.ineligible_best → without_entry h late ≡ plain.choice_by s f none
+  without_is : (late : Option Entry) → late ≡ f.ineligible_best → without_entry h late ≡ plain.choice_by s f None
   unfolding without_entry
   without_is late k = rw (nobody_is late, o.eligible, o.v, k)
 
@@ -84,11 +84,11 @@ module _ (h : Holder) (s : State) (f : Scan) (o : Holding h s) where
   against_is late e q k c = rw (o.eligible, o.vd, o.rem_slice, o.v, k, c)
 
   by_is : (best late : Option Entry) (q : Context) → late ≡ f.ineligible_best
-      → ((e : Entry) → best ≡ some e → q ≡ context_at f.contexts e.context_ref) → choice h best late q ≡ plain.choice_by s f best
-  by_is none late q k c = without_is late k
-  by_is (some e) late q k c = against_is late e q k (c e refl)
+      → ((e : Entry) → best ≡ Some e → q ≡ context_at f.contexts e.context_ref) → choice h best late q ≡ plain.choice_by s f best
+  by_is None late q k c = without_is late k
+  by_is (Some e) late q k c = against_is late e q k (c e refl)
 
   pub is_choice : (best late : Option Entry) (q : Context) → best ≡ f.eligible_best → late ≡ f.ineligible_best
-      → ((e : Entry) → best ≡ some e → q ≡ context_at f.contexts e.context_ref) → choice h best late q ≡ plain.choice s f
+      → ((e : Entry) → best ≡ Some e → q ≡ context_at f.contexts e.context_ref) → choice h best late q ≡ plain.choice s f
   unfolding plain.choice
   is_choice best late q b k c = by_is best late q k c ∙ ap (plain.choice_by s f) b

@@ -1,11 +1,9 @@
 -- The table of rules, of the holder as the choice sees it; `is_choice` in proofs/ says that it is the plain engine's. Assumes nothing.
-use Rattle.std.specs.Prelude.{◌&&◌, [], ◌∷◌, ltb, leb, eqb, if◌then◌else◌}
-use Rattle.std.proofs.Math.Option.{Option, none, some}
+use Rattle.std.specs.Prelude.{◌&&◌, [], ◌∷◌, ltb, leb, eqb, if◌then◌else◌, None, Option, Some, option_to_list}
 use Rattle.context.specs.declared.Context.{Context}
 use Rattle.entries.specs.declared.Entry.{Entry}
 use Rattle.answer.specs.declared.Rule.TheVariants.{FirstEligible, HolderDeadline, HolderSlice, HolderAlone, HolderVtime, HolderLateDeadline, EntryVtime, Idle}
 use Rattle.model.specs.Choice.{named}
-use Rattle.picked.specs.Names.{picked_of, names_of}
 use Rattle.select_judge.specs.declared.Holder.{Holder}
 use Rattle.plain_model.specs.Choice as plain
 use Rattle.plain_model.specs.Choice.{nobody_wins, wins_by}
@@ -13,7 +11,7 @@ use Rattle.plain_choice.specs.declared.Choice.{Choice}
 
 -- what the code's answer stands for
 abbrev pub choice_of : Choice → plain.Choice
-choice_of c = record { winner = picked_of c.winner; v = c.v; locked = names_of c.locked; rule = c.rule }
+choice_of c = record { winner = c.winner; v = c.v; locked = option_to_list c.locked; rule = c.rule }
 
 module _ (h : Holder) where
   unfoldable pub against : Option Entry → Entry → Context → plain.Choice
@@ -32,12 +30,12 @@ module _ (h : Holder) where
   alone = if h.runnable then nobody_wins HolderVtime h.vtime [] else nobody_wins Idle h.v []
 
   abbrev pub nobody : Option Entry → plain.Choice
-  nobody none = alone
-  nobody (some e) = late_entry e
+  nobody None = alone
+  nobody (Some e) = late_entry e
 
   unfoldable pub without_entry : Option Entry → plain.Choice
   without_entry late = if h.eligible then nobody_wins HolderAlone h.v (named late) else nobody late
 
   abbrev pub choice : Option Entry → Option Entry → Context → plain.Choice
-  choice none late q = without_entry late
-  choice (some e) late q = against late e q
+  choice None late q = without_entry late
+  choice (Some e) late q = against late e q

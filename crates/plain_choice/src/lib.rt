@@ -1,46 +1,43 @@
 // The choice of the plain engine, by value: one table of rules.
 #![tactic(auto)]
 
-ghost use Rattle.std.specs.Prelude.{◌≡◌};
+ghost use Rattle.std.specs.Prelude.{◌≡◌, option_to_list};
 ghost use Rattle.model.specs.Choice.{named};
-ghost use Rattle.select_judge.specs.Values.{best_of};
-ghost use Rattle.picked.specs.Names.{names_of};
 ghost use Rattle.plain_choice.specs.Table.{choice_of, against, late_entry, alone, without_entry, choice};
 
 use answer::Rule;
 use context::Context;
 use entries::Entry;
-use picked::Picked;
-use select_judge::{Best, Holder};
+use select_judge::Holder;
 
 // Who won, V, the context that stays locked besides the holder and the winner, and the rule where nothing is stolen.
 #[derive(Clone, Copy)]
 pub struct Choice {
-    pub winner: Picked,
+    pub winner: Option<usize>,
     pub v: u64,
-    pub locked: Picked,
+    pub locked: Option<usize>,
     pub rule: Rule,
 }
 
 // The context of the best late entry.
-fn named(late: Best) -> Picked
-    ensures { names_of result ≡ named (best_of late) }
+fn named(late: Option<Entry>) -> Option<usize>
+    ensures { option_to_list result ≡ named late }
 {
     match late {
-        Best::Nobody => Picked::Nobody,
-        Best::Found(e) => Picked::Somebody(numbers::index(e.context_ref)),
+        None => None,
+        Some(e) => Some(numbers::index(e.context_ref)),
     }
 }
 
 // An eligible entry, whose record is q: an eligible holder stays for an earlier deadline, or at the same one for more slice.
-fn against(h: Holder, late: Best, e: Entry, q: Context) -> Choice
-    ensures { choice_of result ≡ against h (best_of late) e q }
+fn against(h: Holder, late: Option<Entry>, e: Entry, q: Context) -> Choice
+    ensures { choice_of result ≡ against h late e q }
 {
     let kept = named(late);
     let sooner = h.vd < q.vd;
     if numbers::both(h.eligible, sooner) {
         return Choice {
-            winner: Picked::Nobody,
+            winner: None,
             v: h.v,
             locked: kept,
             rule: Rule::HolderDeadline,
@@ -51,14 +48,14 @@ fn against(h: Holder, late: Best, e: Entry, q: Context) -> Choice
     let longer = numbers::both(same, more);
     if numbers::both(h.eligible, longer) {
         return Choice {
-            winner: Picked::Nobody,
+            winner: None,
             v: h.v,
             locked: kept,
             rule: Rule::HolderSlice,
         };
     }
     Choice {
-        winner: Picked::Somebody(numbers::index(e.context_ref)),
+        winner: Some(numbers::index(e.context_ref)),
         v: h.v,
         locked: kept,
         rule: Rule::FirstEligible,
@@ -74,25 +71,25 @@ fn late_entry(h: Holder, e: Entry) -> Choice
     let earlier = h.vtime <= e.vtime;
     if numbers::both(h.runnable, earlier) {
         return Choice {
-            winner: Picked::Nobody,
+            winner: None,
             v: e.vtime,
-            locked: Picked::Somebody(x),
+            locked: Some(x),
             rule: Rule::HolderVtime,
         };
     }
     let sooner = h.vd <= key.vd;
     if numbers::both(h.runnable, sooner) {
         return Choice {
-            winner: Picked::Nobody,
+            winner: None,
             v: e.vtime,
-            locked: Picked::Somebody(x),
+            locked: Some(x),
             rule: Rule::HolderLateDeadline,
         };
     }
     Choice {
-        winner: Picked::Somebody(x),
+        winner: Some(x),
         v: e.vtime,
-        locked: Picked::Nobody,
+        locked: None,
         rule: Rule::EntryVtime,
     }
 }
@@ -103,44 +100,44 @@ fn alone(h: Holder) -> Choice
 {
     if h.runnable {
         return Choice {
-            winner: Picked::Nobody,
+            winner: None,
             v: h.vtime,
-            locked: Picked::Nobody,
+            locked: None,
             rule: Rule::HolderVtime,
         };
     }
     Choice {
-        winner: Picked::Nobody,
+        winner: None,
         v: h.v,
-        locked: Picked::Nobody,
+        locked: None,
         rule: Rule::Idle,
     }
 }
 
 // No eligible entry was found.
-fn without_entry(h: Holder, late: Best) -> Choice
-    ensures { choice_of result ≡ without_entry h (best_of late) }
+fn without_entry(h: Holder, late: Option<Entry>) -> Choice
+    ensures { choice_of result ≡ without_entry h late }
 {
     if h.eligible {
         return Choice {
-            winner: Picked::Nobody,
+            winner: None,
             v: h.v,
             locked: named(late),
             rule: Rule::HolderAlone,
         };
     }
     match late {
-        Best::Nobody => alone(h),
-        Best::Found(e) => late_entry(h, e),
+        None => alone(h),
+        Some(e) => late_entry(h, e),
     }
 }
 
 // Of what the scan found; q is the record of the eligible entry's context, if there is one.
-pub fn choose(h: Holder, best: Best, late: Best, q: Context) -> Choice
-    ensures { choice_of result ≡ choice h (best_of best) (best_of late) q }
+pub fn choose(h: Holder, best: Option<Entry>, late: Option<Entry>, q: Context) -> Choice
+    ensures { choice_of result ≡ choice h best late q }
 {
     match best {
-        Best::Nobody => without_entry(h, late),
-        Best::Found(e) => against(h, late, e, q),
+        None => without_entry(h, late),
+        Some(e) => against(h, late, e, q),
     }
 }

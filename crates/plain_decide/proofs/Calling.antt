@@ -1,7 +1,6 @@
 -- The calls, in the code's words. Assumes nothing.
 use mathlib.Core.Path.{◌≡◌, sym, ap, ◌∙◌, subst}
 use mathlib.Core.Bool.{true, false}
-use mathlib.Core.Option.{Option, none, some}
 use Prim.Native.Nat.{ℕ, ◌+◌, ◌<◌, ◌≤◌}
 use native.Mathlib.Omega.{arith}
 use lib.Dec.{eqb}
@@ -27,7 +26,9 @@ use Rattle.plain_state.proofs.Tracking.{became_tracks}
 use Rattle.plain_turn.specs.Turns.{CanBegin}
 use Rattle.plain_turn.proofs.Begun.{can_begin, ticked_begin}
 use Rattle.plain_handover.proofs.Settling.{is_itself}
-use Rattle.plain_switch.specs.declared.direct.DirectSwitch.{DirectSwitch}
+use Rattle.std.specs.Prelude as std
+use Rattle.std.proofs.Common.{refl}
+use Rattle.std.specs.Prelude.{None, Some, Option}
 use Rattle.plain_switch.specs.Direct.{Switches}
 use Rattle.plain_steal.specs.declared.cpus.Cpus.{Cpus}
 use Rattle.plain_steal.specs.Stealing.{cpus_in, CpusSound}
@@ -74,27 +75,27 @@ module _ (n c k time x : ℕ) (s : State) (cpus : Cpus) {w : ℕ} (e : w ≡ x) 
   current_already a o h f =
       rw (eq-eqb s.cpu.block.current_ctxt x (h ∙ e)) (directly k a (became_tracks (is_itself o)) f)
 
-  module _ {b : DirectSwitch} (hw : Switches n b (state_in n s) (direct_switch_by k time x (state_in n s) (update_runnable k time (eqb s.cpu.block.sched_ctxt w) false (at (state_in n s) x)))) where
+  module _ (b : std.Option State) (hw : Switches n b (state_in n s) (direct_switch_by k time x (state_in n s) (update_runnable k time (eqb s.cpu.block.sched_ctxt w) false (at (state_in n s) x)))) where
     switches : Switches n b (state_in n s) after
     switches =
         subst (λ (z : ℕ). Switches n b (state_in n s) (direct_switch_by k time x (state_in n s) (update_runnable k time (eqb s.cpu.block.sched_ctxt z) false (at (state_in n s) x)))) e hw
 
-    by_made : {r : Decided} (o : Option model.State) → CpusSound c cpus → Switches n b (state_in n s) o → b.switched ≡ true
-        → r ≡ record { state = b.state; cpus = cpus; result = result_number Switched; rule = 0 } → DecidedTracks n c k r (direct_switch_or k time (cpus_in c cpus) (state_in n s) o)
+    by_made : {u : State} {r : Decided} (o : Option model.State) → CpusSound c cpus → Switches n (Some u) (state_in n s) o
+        → r ≡ record { state = u; cpus = cpus; result = result_number Switched; rule = 0 } → DecidedTracks n c k r (direct_switch_or k time (cpus_in c cpus) (state_in n s) o)
     unfolding direct_switch_or
-    by_made none a y h f = never h y.switched
-    by_made (some S) a y h f = directly k a y.state f
+    by_made None a y f = never y.0 refl
+    by_made (Some S) a y f = directly k a y.1 f
 
-    pub made : {r : Decided} → CpusSound c cpus → (s.cpu.block.current_ctxt ≡ w → ⊥) → b.switched ≡ true
-        → r ≡ record { state = b.state; cpus = cpus; result = result_number Switched; rule = 0 } → DecidedTracks n c k r (direct_switch_of k time x (cpus_in c cpus) (state_in n s))
-    made a d h f = rw (ne_eqb s.cpu.block.current_ctxt x (λ z. d (z ∙ sym e))) (by_made after a switches h f)
+    pub made : {u : State} {r : Decided} → CpusSound c cpus → (s.cpu.block.current_ctxt ≡ w → ⊥) → b ≡ Some u
+        → r ≡ record { state = u; cpus = cpus; result = result_number Switched; rule = 0 } → DecidedTracks n c k r (direct_switch_of k time x (cpus_in c cpus) (state_in n s))
+    made a d h f = rw (ne_eqb s.cpu.block.current_ctxt x (λ z. d (z ∙ sym e))) (by_made after a (rw h at switches) f)
 
-    not_by : {r : Decided} (o : Option model.State) → Switches n b (state_in n s) o → b.switched ≡ false → DecidedTracks n c k r (switch_inner k time (cpus_in c cpus) (state_in n s))
+    not_by : {r : Decided} (o : Option model.State) → Switches n None (state_in n s) o → DecidedTracks n c k r (switch_inner k time (cpus_in c cpus) (state_in n s))
         → DecidedTracks n c k r (direct_switch_or k time (cpus_in c cpus) (state_in n s) o)
     unfolding direct_switch_or
-    not_by none y h t = t
-    not_by (some S) y h t = never y.switched h
+    not_by None y t = t
+    not_by (Some S) y t = never refl y
 
-    pub not_made : {r : Decided} → (s.cpu.block.current_ctxt ≡ w → ⊥) → b.switched ≡ false → DecidedTracks n c k r (switch_inner k time (cpus_in c cpus) (state_in n s))
+    pub not_made : {r : Decided} → (s.cpu.block.current_ctxt ≡ w → ⊥) → b ≡ None → DecidedTracks n c k r (switch_inner k time (cpus_in c cpus) (state_in n s))
         → DecidedTracks n c k r (direct_switch_of k time x (cpus_in c cpus) (state_in n s))
-    not_made d h t = rw (ne_eqb s.cpu.block.current_ctxt x (λ z. d (z ∙ sym e))) (not_by after switches h t)
+    not_made d h t = rw (ne_eqb s.cpu.block.current_ctxt x (λ z. d (z ∙ sym e))) (not_by after (rw h at switches) t)

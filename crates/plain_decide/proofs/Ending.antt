@@ -2,7 +2,6 @@
 use mathlib.Core.Path.{◌≡◌, sym, ap, ◌∙◌, subst}
 use mathlib.Core.Bool.{true, false}
 use mathlib.Core.List.{List}
-use mathlib.Core.Option.{Option, none, some}
 use Prim.Native.Nat.{ℕ, ◌<◌, ◌≤◌}
 use native.Mathlib.Omega.{arith}
 use lib.Dec.{eqb}
@@ -25,8 +24,6 @@ use Rattle.model.proofs.NoRoom.{Full, switch_to_full}
 use Rattle.stages.specs.Stage.{StateBelow}
 use Rattle.stages.specs.Bounds.{t_handed, b_advanced}
 use Rattle.stages.proofs.Kept.{state_more}
-use Rattle.picked.specs.declared.Picked.TheVariants.{Nobody, Somebody}
-use Rattle.picked.specs.Names.{picked_of}
 use Rattle.plain_model.specs.State.{placed}
 use Rattle.plain_model.specs.Schedule.{schedule, switch_inner_by, switch_inner}
 use Rattle.plain_state.specs.declared.State.{State}
@@ -34,7 +31,8 @@ use Rattle.plain_state.specs.States.{state_in, Sound, Became, Tracks}
 use Rattle.plain_state.proofs.Tracking.{became_tracks}
 use Rattle.plain_turn.specs.Turns.{CanBegin}
 use Rattle.plain_handover.proofs.Settling.{became_as, is_itself}
-use Rattle.plain_switch.specs.declared.direct.DirectSwitch.{DirectSwitch}
+use Rattle.std.specs.Prelude.{None, Some, Option}
+use Rattle.std.proofs.Common.{refl}
 use Rattle.plain_switch.specs.Direct.{Switches}
 use Rattle.plain_steal.specs.declared.cpus.Cpus.{Cpus}
 use Rattle.plain_steal.specs.Stealing.{cpus_in, CpusSound}
@@ -49,9 +47,9 @@ below_four {c = c} a =
     omega (arith, a.here)
 
 -- the CPU is marked Idle
-pub idle_marked : (n : ℕ) (s : State) {b : PercpuBlock} {t : CpuStats} {r : State} → t ≡ stats_state Idle s.cpu.block.stats → b ≡ block_stats t s.cpu.block
-    → Became n r (on_cpu (cpu_block b) (state_in n s)) → Became n r (marked_idle (state_in n s))
-idle_marked n s e f b = became_as (ap (λ (z : PercpuBlock). on_cpu (cpu_block z) (state_in n s)) (f ∙ ap (λ (z : CpuStats). block_stats z s.cpu.block) e)) b
+pub idle_marked : (n : ℕ) (s : State) {t : CpuStats} {r : State} → t ≡ stats_state Idle s.cpu.block.stats
+    → Became n r (on_cpu (cpu_block (block_stats t s.cpu.block)) (state_in n s)) → Became n r (marked_idle (state_in n s))
+idle_marked n s e b = became_as (ap (λ (z : CpuStats). on_cpu (cpu_block (block_stats z s.cpu.block)) (state_in n s)) e) b
 
 -- x may be the current context
 module _ (n k time x : ℕ) (s : State) {w : ℕ} (e : w ≡ x) where
@@ -67,7 +65,7 @@ module _ (n c k time : ℕ) (m : Next) (a : CpusSound c m.cpus) {u : ℕ} (hu : 
   ends w = switch_as k time (rule_number m.rule) (state_in n m.state) (cpus_in c m.cpus) w
 
   ends_idle : {t : State} {r : ℕ} → Became n t (marked_idle (state_in n m.state)) → r ≡ result_number AllContextsIdle
-      → DecidedTracks n c k (record { state = t; cpus = m.cpus; result = r; rule = u }) (ends none)
+      → DecidedTracks n c k (record { state = t; cpus = m.cpus; result = r; rule = u }) (ends None)
   unfolding switch_as
   ends_idle b e =
       record {
@@ -78,28 +76,28 @@ module _ (n c k time : ℕ) (m : Next) (a : CpusSound c m.cpus) {u : ℕ} (hu : 
       }
 
   ends_switched : (x : ℕ) {t : State} {r : ℕ} → Tracks n t (switched_to k time x (state_in n m.state)) → r ≡ result_number Switched
-      → DecidedTracks n c k (record { state = t; cpus = m.cpus; result = r; rule = u }) (ends (some x))
+      → DecidedTracks n c k (record { state = t; cpus = m.cpus; result = r; rule = u }) (ends (Some x))
   unfolding switch_as
   ends_switched x b e = record { sound = b.sound; cpus = a; room = b.room; is = λ z i. finish_by (hu i) k (cpus_in c m.cpus) (e i) (b.is z i) }
 
-  pub kept_slice : {t : State} {r : ℕ} → m.context ≡ Nobody → Became n t (marked_idle (state_in n m.state)) → r ≡ result_number AllContextsIdle
+  pub kept_slice : {t : State} {r : ℕ} → m.context ≡ None → Became n t (marked_idle (state_in n m.state)) → r ≡ result_number AllContextsIdle
       → DecidedTracks n c k (record { state = t; cpus = m.cpus; result = r; rule = u }) (after_schedule k time (next_in n c m))
   unfolding after_schedule
-  kept_slice {t} {r} h b e = subst (λ (w : Option ℕ). DecidedTracks n c k (record { state = t; cpus = m.cpus; result = r; rule = u }) (ends w)) (sym (ap picked_of h)) (ends_idle b e)
+  kept_slice {t} {r} h b e = subst (λ (w : Option ℕ). DecidedTracks n c k (record { state = t; cpus = m.cpus; result = r; rule = u }) (ends w)) (sym h) (ends_idle b e)
 
-  pub got_slice : {x : ℕ} {t : State} {r : ℕ} → m.context ≡ Somebody x → Tracks n t (switched_to k time x (state_in n m.state)) → r ≡ result_number Switched
+  pub got_slice : {x : ℕ} {t : State} {r : ℕ} → m.context ≡ Some x → Tracks n t (switched_to k time x (state_in n m.state)) → r ≡ result_number Switched
       → DecidedTracks n c k (record { state = t; cpus = m.cpus; result = r; rule = u }) (after_schedule k time (next_in n c m))
   unfolding after_schedule
-  got_slice {x} {t} {r} h b e = subst (λ (w : Option ℕ). DecidedTracks n c k (record { state = t; cpus = m.cpus; result = r; rule = u }) (ends w)) (sym (ap picked_of h)) (ends_switched x b e)
+  got_slice {x} {t} {r} h b e = subst (λ (w : Option ℕ). DecidedTracks n c k (record { state = t; cpus = m.cpus; result = r; rule = u }) (ends w)) (sym h) (ends_switched x b e)
 
-pub slice_named : {n t b x : ℕ} {m : Next} → NextFits n t b m → m.context ≡ Somebody x → x < n
-slice_named {x = x} f e = f.named x (ap picked_of e)
+pub slice_named : {n t b x : ℕ} {m : Next} → NextFits n t b m → m.context ≡ Some x → x < n
+slice_named {x = x} f e = f.named x e
 
 -- no room was found before
 as_full : (k time rule : ℕ) (s : model.State) (cpus : List Cpu) (o : Option ℕ) → Full s → (switch_as k time rule s cpus o).no_room ≡ true
 unfolding switch_as
-as_full k time rule s cpus none h = h
-as_full k time rule s cpus (some x) h = pick Full (eqb s.cpu.block.current_ctxt x) (λ t. h) (λ t. switch_to_full k time x s h)
+as_full k time rule s cpus None h = h
+as_full k time rule s cpus (Some x) h = pick Full (eqb s.cpu.block.current_ctxt x) (λ t. h) (λ t. switch_to_full k time x s h)
 
 after_full : (k time : ℕ) (d : Scheduled) → Full d.state → (after_schedule k time d).no_room ≡ true
 unfolding after_schedule
@@ -125,28 +123,28 @@ directly {n} {c} k {cpus} a {t = u} {S} {r} t e =
     (record { sound = t.sound; cpus = a; room = t.room; is = λ z i. finish k (cpus_in c cpus) (result_number Switched) (t.is z i) })
 
 -- back to the context in charge
-module _ (n c k time : ℕ) (s : State) (cpus : Cpus) {b : DirectSwitch} where
-  back_by : {r : Decided} (o : Option model.State) → CpusSound c cpus → Switches n b (state_in n s) o → b.switched ≡ true
-      → r ≡ record { state = b.state; cpus = cpus; result = result_number Switched; rule = 0 } → DecidedTracks n c k r (switch_inner_by k time (cpus_in c cpus) (state_in n s) o)
+module _ (n c k time : ℕ) (s : State) (cpus : Cpus) where
+  back_by : {b : State} {r : Decided} (o : Option model.State) → CpusSound c cpus → Switches n (Some b) (state_in n s) o
+      → r ≡ record { state = b; cpus = cpus; result = result_number Switched; rule = 0 } → DecidedTracks n c k r (switch_inner_by k time (cpus_in c cpus) (state_in n s) o)
   unfolding switch_inner_by
-  back_by none a w h e = never h w.switched
-  back_by (some S) a w h e = directly k a w.state e
+  back_by None a w e = never w.0 refl
+  back_by (Some S) a w e = directly k a w.1 e
 
-  pub switched_back : {r : Decided} → CpusSound c cpus → Switches n b (state_in n s) (try_direct_switch_back k time (state_in n s)) → b.switched ≡ true
-      → r ≡ record { state = b.state; cpus = cpus; result = result_number Switched; rule = 0 } → DecidedTracks n c k r (switch_inner k time (cpus_in c cpus) (state_in n s))
+  pub switched_back : {b : State} {r : Decided} → CpusSound c cpus → Switches n (Some b) (state_in n s) (try_direct_switch_back k time (state_in n s))
+      → r ≡ record { state = b; cpus = cpus; result = result_number Switched; rule = 0 } → DecidedTracks n c k r (switch_inner k time (cpus_in c cpus) (state_in n s))
   unfolding switch_inner
-  switched_back a w h e = back_by (try_direct_switch_back k time (state_in n s)) a w h e
+  switched_back a w e = back_by (try_direct_switch_back k time (state_in n s)) a w e
 
-  not_back_by : {r : Decided} (o : Option model.State) → Switches n b (state_in n s) o → b.switched ≡ false
+  not_back_by : {r : Decided} (o : Option model.State) → Switches n None (state_in n s) o
       → DecidedTracks n c k r (after_schedule k time (schedule k time (cpus_in c cpus) (state_in n s))) → DecidedTracks n c k r (switch_inner_by k time (cpus_in c cpus) (state_in n s) o)
   unfolding switch_inner_by
-  not_back_by none w h t = t
-  not_back_by (some S) w h t = never w.switched h
+  not_back_by None w t = t
+  not_back_by (Some S) w t = never refl w
 
-  pub not_back : {r : Decided} → Switches n b (state_in n s) (try_direct_switch_back k time (state_in n s)) → b.switched ≡ false
+  pub not_back : {r : Decided} → Switches n None (state_in n s) (try_direct_switch_back k time (state_in n s))
       → DecidedTracks n c k r (after_schedule k time (schedule k time (cpus_in c cpus) (state_in n s))) → DecidedTracks n c k r (switch_inner k time (cpus_in c cpus) (state_in n s))
   unfolding switch_inner
-  not_back w h t = not_back_by (try_direct_switch_back k time (state_in n s)) w h t
+  not_back w t = not_back_by (try_direct_switch_back k time (state_in n s)) w t
 
 pub back_below : {n time : ℕ} {S : model.State} → CanBegin n time S → StateBelow n t_handed b_advanced (placed S)
 back_below a = state_more (omega arith) (omega arith) a.below

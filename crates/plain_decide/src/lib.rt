@@ -20,8 +20,7 @@ fn count_tick(s: State, n: usize, time: u64) -> State
     requires { CanDecide n time s }
     ensures { Became n result (ticked (state_in n s)) }
 {
-    let cpu = s.cpu;
-    let mut b = cpu.block;
+    let mut b = s.cpu.block;
     b.pit_ticks = b.pit_ticks + 1;
     plain_handover::with_block(s, n, b)
 }
@@ -32,8 +31,7 @@ pub fn tick(s: State, n: usize, c: usize, k: usize, time: u64, cpus: Cpus) -> De
     ensures { DecidedTracks n c k result (tick_of k time (cpus_in c cpus) (state_in n s)) }
 {
     let counted = count_tick(s, n, time);
-    let cpu = counted.cpu;
-    let b = cpu.block;
+    let b = counted.cpu.block;
     if b.pit_ticks < ticks::TICK_INTERVAL {
         return Decided {
             state: counted,
@@ -65,17 +63,14 @@ pub fn direct_switch_to(
     requires { (CanDecide n time s) × (CpusHere n c k cpus) × (x < n) }
     ensures { DecidedTracks n c k result (direct_switch_of k time x (cpus_in c cpus) (state_in n s)) }
 {
-    let cpu = s.cpu;
-    let b = cpu.block;
     let name = numbers::word(x);
+    let b = s.cpu.block;
     if b.current_ctxt == name {
         return switching::switched(s, cpus);
     }
     let own = b.sched_ctxt == name;
-    let made = plain_switch::direct_switch_by(s, n, k, time, x, own);
-    if made.switched {
-        let state = made.state;
-        return switching::switched(state, cpus);
+    match plain_switch::direct_switch_by(s, n, k, time, x, own) {
+        Some(state) => switching::switched(state, cpus),
+        None => switching::switch_inner(s, n, c, k, time, cpus),
     }
-    switching::switch_inner(s, n, c, k, time, cpus)
 }

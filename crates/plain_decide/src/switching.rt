@@ -17,14 +17,13 @@ ghost use Rattle.plain_decide.specs.Decided.{DecidedTracks, CpusHere, marked_idl
 
 use answer::SwitchResult;
 use cpu_stats::CpuState;
-use cpu_stats::lent::Change;
-use picked::Picked;
 use plain_schedule::Next;
 use plain_state::State;
 use plain_steal::Cpus;
 
 // The state, every CPU (this one as it was), the number of what the switch came to and that of its rule, 0 where nothing was decided.
 // Where an insertion found no room, these say nothing.
+// Numbers and no enums, as in the definitions' outcome.
 #[derive(Clone, Copy)]
 pub struct Decided {
     pub state: State,
@@ -40,7 +39,7 @@ pub fn switched(state: State, cpus: Cpus) -> Decided
     Decided {
         state: state,
         cpus: cpus,
-        result: answer::result_number(SwitchResult::Switched),
+        result: u64::from(SwitchResult::Switched),
         rule: 0,
     }
 }
@@ -49,13 +48,9 @@ fn mark_idle(s: State, n: usize) -> State
     requires { Sound n s }
     ensures { Became n result (marked_idle (state_in n s)) }
 {
-    let cpu = s.cpu;
-    let b = cpu.block;
-    let before = b.stats;
-    let change = Change::State(CpuState::Idle);
-    let stats = cpu_stats::lent::update(before, change);
-    let after = b.with_stats(stats);
-    plain_handover::with_block(s, n, after)
+    let mut b = s.cpu.block;
+    b.stats.set_state(CpuState::Idle);
+    plain_handover::with_block(s, n, b)
 }
 
 fn switch_unless_current(s: State, n: usize, k: usize, time: u64, x: usize) -> State
@@ -63,8 +58,7 @@ fn switch_unless_current(s: State, n: usize, k: usize, time: u64, x: usize) -> S
     requires state_below { StateBelow n t_handed b_advanced (placed (state_in n s)) }
     ensures { Tracks n result (switched_to k time x (state_in n s)) }
 {
-    let cpu = s.cpu;
-    let b = cpu.block;
+    let b = s.cpu.block;
     if b.current_ctxt == numbers::word(x) {
         return s;
     }
@@ -77,22 +71,18 @@ fn switch_as(next: Next, n: usize, c: usize, k: usize, time: u64) -> Decided
     requires next_fits { NextFits n t_handed b_advanced next }
     ensures { DecidedTracks n c k result (after_schedule k time (next_in n c next)) }
 {
-    let state = next.state;
-    let cpus = next.cpus;
-    let context = next.context;
-    let rule = next.rule;
-    match context {
-        Picked::Nobody => Decided {
-            state: mark_idle(state, n),
-            cpus: cpus,
-            result: answer::result_number(SwitchResult::AllContextsIdle),
-            rule: answer::rule_number(rule),
+    match next.context {
+        None => Decided {
+            state: mark_idle(next.state, n),
+            cpus: next.cpus,
+            result: u64::from(SwitchResult::AllContextsIdle),
+            rule: u64::from(next.rule),
         },
-        Picked::Somebody(x) => Decided {
-            state: switch_unless_current(state, n, k, time, x),
-            cpus: cpus,
-            result: answer::result_number(SwitchResult::Switched),
-            rule: answer::rule_number(rule),
+        Some(x) => Decided {
+            state: switch_unless_current(next.state, n, k, time, x),
+            cpus: next.cpus,
+            result: u64::from(SwitchResult::Switched),
+            rule: u64::from(next.rule),
         },
     }
 }
@@ -121,10 +111,8 @@ pub fn switch_inner(s: State, n: usize, c: usize, k: usize, time: u64, cpus: Cpu
     requires can_begin { (CanBegin n time (state_in n s)) × (CpusHere n c k cpus) }
     ensures { DecidedTracks n c k result (switch_inner k time (cpus_in c cpus) (state_in n s)) }
 {
-    let back = plain_switch::try_direct_switch_back(s, n, k, time);
-    if back.switched {
-        let state = back.state;
-        return switched(state, cpus);
+    match plain_switch::try_direct_switch_back(s, n, k, time) {
+        Some(state) => switched(state, cpus),
+        None => decide(s, n, c, k, time, cpus),
     }
-    decide(s, n, c, k, time, cpus)
 }

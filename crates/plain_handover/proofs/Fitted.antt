@@ -1,8 +1,7 @@
 -- What the end of a decision leaves in its ranges, and what it adds to what grows. Assumes nothing.
-use Rattle.std.specs.Prelude.{if◌then◌else◌}
+use Rattle.std.specs.Prelude.{if◌then◌else◌, None, Option, Some, is_some}
 use mathlib.Core.Path.{◌≡◌, refl, subst}
 use mathlib.Core.Bool.{Bool, not, ◌&&◌, ◌||◌}
-use mathlib.Core.Option.{Option, none, some}
 use Prim.Native.Nat.{ℕ, ◌+◌, ◌/◌, ◌<◌, ◌≤◌}
 use lib.Dec.{eqb}
 use Rattle.columns.specs.Common.{is_empty}
@@ -13,7 +12,7 @@ use Rattle.weights.specs.Weights.{weight}
 use Rattle.numbers.specs.Limits.{max_number}
 use Rattle.percpu.specs.With.{block_v, block_stealable, block_sched_ctxt}
 use Rattle.machine.specs.Shape.{ContextFits, CpuFits}
-use Rattle.model.specs.State.{State, at, put_context, on_cpu, is_some, holder}
+use Rattle.model.specs.State.{State, at, put_context, on_cpu, holder}
 use Rattle.model.specs.Steal.{mark_stealable}
 use Rattle.model.specs.Handover.{advance, hand_over, next_context}
 use Rattle.model.proofs.Cases.{pick}
@@ -66,13 +65,13 @@ module _ {n : ℕ} (s : State) (f : StateFits n s) where
       (block_sched_ctxt y s.cpu.block) (record { current = f.cpu.current; sched = h; idle = f.cpu.idle })
 
   -- who gets the slice is one of the n contexts
-  pub next_below : (runs : Bool) (w : Option ℕ) → ((y : ℕ) → w ≡ some y → y < n) → (y : ℕ) → next_context runs w s ≡ some y → y < n
+  pub next_below : (runs : Bool) (w : Option ℕ) → ((y : ℕ) → w ≡ Some y → y < n) → (y : ℕ) → next_context runs w s ≡ Some y → y < n
   unfolding next_context
-  next_below runs (some z) g y e = g y e
-  next_below runs none g y e =
+  next_below runs (Some z) g y e = g y e
+  next_below runs None g y e =
       by_test (runs || eqb x s.cpu.block.idle_ctxt) (λ t. g y (rw t at e)) (λ t. subst (λ (j : ℕ). j < n) (same (rw t at e)) f.cpu.idle)
     where
-      same : ◌≡◌ {A = Option ℕ} (some s.cpu.block.idle_ctxt) (some y) → s.cpu.block.idle_ctxt ≡ y
+      same : ◌≡◌ {A = Option ℕ} (Some s.cpu.block.idle_ctxt) (Some y) → s.cpu.block.idle_ctxt ≡ y
       same z = cc
 
 pub settled_fits : {n : ℕ} (s : State) → StateFits n s → (runs : Bool) (w : Option ℕ) (ticks : ℕ) → StateFits n (settled runs ticks (stealing_of s w))

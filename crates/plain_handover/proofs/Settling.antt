@@ -1,7 +1,7 @@
 -- Advance, way back and stealable word, in the code's words. Assumes nothing.
+use Rattle.std.specs.Prelude.{None, Option, Some, is_some}
 use mathlib.Core.Path.{◌≡◌, refl, sym, ap, ◌∙◌}
 use mathlib.Core.Bool.{Bool, true, false, not, ◌&&◌, ◌||◌}
-use mathlib.Core.Option.{none, some}
 use Prim.Native.Nat.{ℕ}
 use lib.Dec.{eqb, ltb}
 use borrow.Author.Tests.{eq-eqb, ne_eqb}
@@ -10,18 +10,14 @@ use Rattle.percpu.specs.declared.PercpuBlock.{PercpuBlock}
 use Rattle.percpu.specs.Cpu as percpu
 use Rattle.percpu.specs.With.{block_stealable, cpu_block}
 use Rattle.model.specs.State as model
-use Rattle.model.specs.State.{on_cpu, is_some}
+use Rattle.model.specs.State.{on_cpu}
 use Rattle.model.specs.Steal.{mark_stealable}
 use Rattle.model.specs.Handover.{advance, next_context}
 use Rattle.model.proofs.Cases.{pick}
 use Rattle.handover.specs.Handed.{advanced_by, advance_by}
 use Rattle.handover.proofs.Advanced.{stealable_as}
-use Rattle.picked.specs.declared.Picked.{Picked}
-use Rattle.picked.specs.declared.Picked.TheVariants.{Nobody, Somebody}
-use Rattle.picked.specs.Names as names
-use Rattle.picked.specs.Names.{picked_of}
 use Rattle.plain_model.specs.Handover.{requeue, settled}
-use Rattle.plain_lists.proofs.Listing.{length_entries}
+use Rattle.plain_lists.proofs.Listing.{length_items}
 use Rattle.plain_state.specs.declared.State.{State}
 use Rattle.plain_state.specs.States.{state_in, Sound, Became, Tracks}
 use Rattle.plain_state.specs.Fits.{StateFits}
@@ -49,7 +45,7 @@ module _ (n : ℕ) (s : State) where
   stealable_became o b =
       became_as
       (ap (λ (p : percpu.Cpu). record { contexts = (state_in n s).contexts; cpu = p; no_room = s.no_room })
-      (stealable_as (state_in n s).cpu s.cpu.block s.cpu.queue.len refl (sym (length_entries s.cpu.queue o.queue)))) b
+      (stealable_as (state_in n s).cpu s.cpu.block s.cpu.queue.len refl (sym (length_items s.cpu.queue)))) b
 
 -- the holder
 pub holder_fits : {n : ℕ} {s : model.State} → StateFits n s → HolderFits n s
@@ -67,16 +63,16 @@ module _ (S : model.State) (won runs : Bool) {both : Bool} (e : both ≡ (won &&
   pub stays : both ≡ false → S ≡ sent_back won runs S
   stays h = let z : (won && runs) ≡ false = sym e ∙ h in rw z
 
-pub some_is : (w : Picked) → names.is_some w ≡ is_some (picked_of w)
-some_is Nobody = refl
-some_is (Somebody x) = refl
+pub some_is : (w : Option ℕ) → is_some w ≡ is_some w
+some_is None = refl
+some_is (Some x) = refl
 
-pub settled_all : (n : ℕ) (s : State) (runs : Bool) (winner : Picked) (ticks : ℕ) {won somebody : Bool} {t u r : State} → won ≡ names.is_some winner → somebody ≡ (won || runs)
+pub settled_all : (n : ℕ) (s : State) (runs : Bool) (winner : Option ℕ) (ticks : ℕ) {won somebody : Bool} {t u r : State} → won ≡ is_some winner → somebody ≡ (won || runs)
     → Became n t (advance_by somebody ticks (state_in n s)) → Tracks n u (sent_back won runs (state_in n t)) → Became n r (on_cpu mark_stealable (state_in n u))
-    → Tracks n r (settled runs ticks (stealing_of (state_in n s) (picked_of winner)))
+    → Tracks n r (settled runs ticks (stealing_of (state_in n s) winner))
 unfolding settled advance
 settled_all n s runs winner ticks {won} {somebody} {t} {u} {r} e f a b c =
-    let w : won ≡ is_some (picked_of winner) = e ∙ some_is winner in
+    let w : won ≡ is_some winner = e ∙ some_is winner in
     tracks_then (on_cpu mark_stealable) (λ S h. h)
     (tracks_as b
     (ap (sent_back won runs) (a.is ∙ ap (λ (z : Bool). advance_by z ticks (state_in n s)) f)
@@ -84,18 +80,18 @@ settled_all n s runs winner ticks {won} {somebody} {t} {u} {r} e f a b c =
 
 -- who gets the slice
 module _ (runs : Bool) (s : model.State) where
-  pub holder_runs : runs ≡ true → none ≡ next_context runs none s
+  pub holder_runs : runs ≡ true → None ≡ next_context runs None s
   unfolding next_context
   holder_runs e = rw e
 
-  pub holder_idles : runs ≡ false → s.cpu.block.sched_ctxt ≡ s.cpu.block.idle_ctxt → none ≡ next_context runs none s
+  pub holder_idles : runs ≡ false → s.cpu.block.sched_ctxt ≡ s.cpu.block.idle_ctxt → None ≡ next_context runs None s
   unfolding next_context
   holder_idles e d = rw (e, eq-eqb s.cpu.block.sched_ctxt s.cpu.block.idle_ctxt d)
 
-  pub idle_comes : {x : ℕ} → runs ≡ false → (s.cpu.block.sched_ctxt ≡ s.cpu.block.idle_ctxt → ⊥) → x ≡ s.cpu.block.idle_ctxt → some x ≡ next_context runs none s
+  pub idle_comes : {x : ℕ} → runs ≡ false → (s.cpu.block.sched_ctxt ≡ s.cpu.block.idle_ctxt → ⊥) → x ≡ s.cpu.block.idle_ctxt → Some x ≡ next_context runs None s
   unfolding next_context
   idle_comes e d f = rw (e, ne_eqb s.cpu.block.sched_ctxt s.cpu.block.idle_ctxt d, f)
 
-  pub winner_comes : (x : ℕ) → some x ≡ next_context runs (some x) s
+  pub winner_comes : (x : ℕ) → Some x ≡ next_context runs (Some x) s
   unfolding next_context
   winner_comes x = refl

@@ -1,6 +1,5 @@
 -- The end of a decision by the values that the code has read. Assumes nothing.
-use Rattle.std.specs.Prelude.{Bool, false, ◌&&◌, [], ℕ, ◌<◌, ◌≤◌, if◌then◌else◌}
-use Rattle.std.proofs.Math.Option.{Option}
+use Rattle.std.specs.Prelude.{Bool, false, ◌&&◌, [], ℕ, ◌<◌, ◌≤◌, if◌then◌else◌, Option}
 use Rattle.context.specs.declared.Context.{Context}
 use Rattle.context.specs.Key.{queue_key, with_new_key, entry_of}
 use Rattle.weights.specs.Weights.{weight}

@@ -1,4 +1,5 @@
 // Virtual time, and the word that says whether another CPU may steal.
+// Its own code and not handover's: the plain engine shares no function of a stage with the fast one.
 ghost use Rattle.std.specs.Prelude.{◌≡◌, ◌≤◌};
 ghost use Rattle.percpu.specs.With.{cpu_block};
 ghost use Rattle.model.specs.State.{on_cpu};
@@ -8,32 +9,15 @@ ghost use Rattle.plain_state.specs.States.{state_in, Sound, Became};
 ghost use Rattle.stages.specs.Bounds.{b_stolen, max_gain};
 
 use percpu::PercpuBlock;
-use plain_state::{Cpu, State};
+use plain_state::State;
 
 // The state with another block.
-pub fn with_block(s: State, n: usize, b: PercpuBlock) -> State
+pub fn with_block(mut s: State, n: usize, b: PercpuBlock) -> State
     requires { Sound n s }
     ensures { Became n result (on_cpu (cpu_block b) (state_in n s)) }
 {
-    let contexts = s.contexts;
-    let cpu = s.cpu;
-    let queue = cpu.queue;
-    let timers = cpu.timers;
-    let local = cpu.local;
-    let ipi = cpu.ipi;
-    let changed = Cpu {
-        block: b,
-        queue: queue,
-        timers: timers,
-        local: local,
-        ipi: ipi,
-        remainder: cpu.remainder,
-    };
-    State {
-        contexts: contexts,
-        cpu: changed,
-        no_room: s.no_room,
-    }
+    s.cpu.block = b;
+    s
 }
 
 fn advanced(mut b: PercpuBlock, elapsed_ticks: u64, somebody: bool) -> PercpuBlock
@@ -56,9 +40,7 @@ pub fn advance(s: State, n: usize, elapsed_ticks: u64, somebody: bool) -> State
     requires v_le_b_stolen { (s.cpu.block.v ≤ b_stolen) × (elapsed_ticks ≤ max_gain) }
     ensures { Became n result (advance_by somebody elapsed_ticks (state_in n s)) }
 {
-    let cpu = s.cpu;
-    let b = cpu.block;
-    let after = advanced(b, elapsed_ticks, somebody);
+    let after = advanced(s.cpu.block, elapsed_ticks, somebody);
     with_block(s, n, after)
 }
 
@@ -67,9 +49,7 @@ pub fn mark_stealable(s: State, n: usize) -> State
     requires { Sound n s }
     ensures { Became n result (on_cpu mark_stealable (state_in n s)) }
 {
-    let cpu = s.cpu;
-    let queue = cpu.queue;
-    let mut b = cpu.block;
-    b.stealable = 0 < queue.len;
+    let mut b = s.cpu.block;
+    b.stealable = 0 < s.cpu.queue.len;
     with_block(s, n, b)
 }

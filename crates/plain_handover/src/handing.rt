@@ -1,4 +1,5 @@
 // The slice goes from the holder to another context.
+// Its own code and not handover's: the plain engine shares no function of a stage with the fast one.
 ghost use Rattle.std.specs.Prelude.{◌≡◌, ◌<◌, ◌≤◌};
 ghost use Rattle.numbers.specs.Limits.{max_number};
 ghost use Rattle.model.specs.Handover.{hand_over};
@@ -22,7 +23,7 @@ fn give_up(mut q: Context, time: u64, was_idle: bool) -> Context
     if was_idle {
         return q;
     }
-    let elapsed = numbers::saturating_sub(time, q.schedule_time);
+    let elapsed = time.saturating_sub(q.schedule_time);
     q.sched_cpu_time = q.sched_cpu_time + elapsed;
     q
 }
@@ -42,8 +43,7 @@ fn take_over(s: State, n: usize, time: u64, x: usize) -> State
     let q = s.context(n, x);
     let after = take(q, time);
     let t = s.put_context(n, x, after);
-    let cpu = s.cpu;
-    let mut b = cpu.block;
+    let mut b = s.cpu.block;
     b.sched_ctxt = numbers::word(x);
     advancing::with_block(t, n, b)
 }
@@ -54,9 +54,7 @@ pub fn hand_over(s: State, n: usize, time: u64, was_idle: bool, x: usize) -> Sta
     requires state_below { StateBelow n t_timed b_advanced (placed (state_in n s)) }
     ensures { Became n result (hand_over time was_idle x (state_in n s)) }
 {
-    let cpu = s.cpu;
-    let b = cpu.block;
-    let y = numbers::index(b.sched_ctxt);
+    let y = numbers::index(s.cpu.block.sched_ctxt);
     let q = s.context(n, y);
     let after = give_up(q, time, was_idle);
     let t = s.put_context(n, y, after);

@@ -5,9 +5,7 @@ mod advancing;
 mod handing;
 mod requeuing;
 
-ghost use Rattle.std.specs.Prelude.{◌≡◌, ◌≤◌};
-ghost use Rattle.std.proofs.Math.Option.{none};
-ghost use Rattle.picked.specs.Names.{picked_of};
+ghost use Rattle.std.specs.Prelude.{◌≡◌, ◌≤◌, None};
 ghost use Rattle.model.specs.Handover.{next_context};
 ghost use Rattle.plain_model.specs.State.{placed};
 ghost use Rattle.plain_model.specs.Handover.{settled};
@@ -19,7 +17,6 @@ ghost use Rattle.plain_handover.specs.Settled.{HolderFits, stealing_of, sent_bac
 
 pub use advancing::with_block;
 pub use handing::hand_over;
-use picked::Picked;
 use plain_state::State;
 
 // A runnable holder that lost goes back to the queue.
@@ -34,10 +31,10 @@ fn send_back(s: State, n: usize, won: bool, runs: bool) -> State
 }
 
 // After the stealing. `runs`: the holder is runnable; `winner`: who won, if anybody.
-pub fn settle(s: State, n: usize, runs: bool, winner: Picked, elapsed_ticks: u64) -> State
+pub fn settle(s: State, n: usize, runs: bool, winner: Option<usize>, elapsed_ticks: u64) -> State
     requires sound { (Sound n s) × (StateFits n (state_in n s)) × (elapsed_ticks ≤ max_gain) }
     requires state_below { StateBelow n t_timed b_stolen (placed (state_in n s)) }
-    ensures { Tracks n result (settled runs elapsed_ticks (stealing_of (state_in n s) (picked_of winner))) }
+    ensures { Tracks n result (settled runs elapsed_ticks (stealing_of (state_in n s) winner)) }
 {
     let won = winner.is_some();
     let somebody = numbers::either(won, runs);
@@ -47,26 +44,25 @@ pub fn settle(s: State, n: usize, runs: bool, winner: Picked, elapsed_ticks: u64
 }
 
 // Nobody won: a runnable holder keeps the slice, and so does the idle context.
-fn without_winner(s: State, n: usize, runs: bool) -> Picked
-    ensures { picked_of result ≡ next_context runs none (state_in n s) }
+fn without_winner(s: State, n: usize, runs: bool) -> Option<usize>
+    ensures { result ≡ next_context runs None (state_in n s) }
 {
     if runs {
-        return Picked::Nobody;
+        return None;
     }
-    let cpu = s.cpu;
-    let b = cpu.block;
+    let b = s.cpu.block;
     if b.sched_ctxt == b.idle_ctxt {
-        return Picked::Nobody;
+        return None;
     }
-    Picked::Somebody(numbers::index(b.idle_ctxt))
+    Some(numbers::index(b.idle_ctxt))
 }
 
 // Who gets the slice. Nobody as an answer: the holder keeps it.
-pub fn next_context(s: State, n: usize, runs: bool, winner: Picked) -> Picked
-    ensures { picked_of result ≡ next_context runs (picked_of winner) (state_in n s) }
+pub fn next_context(s: State, n: usize, runs: bool, winner: Option<usize>) -> Option<usize>
+    ensures { result ≡ next_context runs winner (state_in n s) }
 {
     match winner {
-        Picked::Somebody(x) => Picked::Somebody(x),
-        Picked::Nobody => without_winner(s, n, runs),
+        Some(x) => Some(x),
+        None => without_winner(s, n, runs),
     }
 }

@@ -47,9 +47,7 @@ pub fn requeue(s: State, n: usize) -> State
     requires { (Sound n s) × (HolderFits n (state_in n s)) }
     ensures { Tracks n result (requeue (state_in n s)) }
 {
-    let cpu = s.cpu;
-    let b = cpu.block;
-    let x = numbers::index(b.sched_ctxt);
+    let x = numbers::index(s.cpu.block.sched_ctxt);
     let q = s.context(n, x);
     requeue_context(s, n, x, q)
 }

@@ -7,7 +7,7 @@ use lib.ListN.{length, get_or, take, set}
 use lib.Seq.{get_or-take}
 
 module _ {A : Type 0} where
-  any_default : (l : List A) (i : ℕ) (d e : A) → i < length l → get_or l i d ≡ get_or l i e
+  pub any_default : (l : List A) (i : ℕ) (d e : A) → i < length l → get_or l i d ≡ get_or l i e
   any_default [] i d e h = absurd (omega arith)
   any_default (x ∷ l) zero d e h = refl
   any_default (x ∷ l) (suc i) d e h = any_default l i d e (omega arith)

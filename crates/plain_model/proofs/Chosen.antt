@@ -1,9 +1,8 @@
 -- The choice and its rule are the kernel's, and so is what it takes out of the queue. Assumes nothing.
-use Rattle.std.specs.Prelude.{if◌then◌else◌}
+use Rattle.std.specs.Prelude.{if◌then◌else◌, None, Option, Some}
 use mathlib.Core.Path.{◌≡◌, refl, sym, ap, ◌∙◌}
 use mathlib.Core.Bool.{Bool, true, false, not, ◌&&◌, ◌||◌}
 use mathlib.Core.List.{List, [], ◌∷◌}
-use mathlib.Core.Option.{Option, none, some}
 use Prim.Native.Nat.{ℕ}
 use lib.Dec.{ltb, leb, eqb}
 use Rattle.context.specs.declared.Context.{Context}
@@ -60,20 +59,20 @@ module _ (s : State) (f : Scan) where
       eqb (holder s).vd c.vd && ltb c.rem_slice (holder s).rem_slice
 
   alone : (a : Bool) (x y : ℕ) (r t : Rule)
-      → record { winner = none; v = if a then x else y; locked = [] } ≡ choice_in (if a then plain.nobody_wins r x [] else plain.nobody_wins t y [])
+      → record { winner = None; v = if a then x else y; locked = [] } ≡ choice_in (if a then plain.nobody_wins r x [] else plain.nobody_wins t y [])
   alone true x y r t = refl
   alone false x y r t = refl
 
   nobody_is : (o : Option Entry) → nobody (placed s) o ≡ choice_in (plain.nobody s f o)
-  nobody_is none = alone (prev_runnable s) (holder s).vtime s.cpu.block.v HolderVtime Idle
-  nobody_is (some e) =
+  nobody_is None = alone (prev_runnable s) (holder s).vtime s.cpu.block.v HolderVtime Idle
+  nobody_is (Some e) =
       two_tests choice_in (prev_runnable s) (leb (holder s).vtime e.vtime) (leb (holder s).vd e.key.vd) (plain.wins_by EntryVtime e.context_ref e.vtime []) refl refl
 
   choice_by_is : (o : Option Entry) → choice_by (placed s) f o ≡ choice_in (plain.choice_by s f o)
-  choice_by_is (some e) =
+  choice_by_is (Some e) =
       two_tests choice_in (prev_is_eligible s) (earlier e) (longer e)
       (plain.wins_by FirstEligible e.context_ref s.cpu.block.v (named f.ineligible_best)) refl refl
-  choice_by_is none =
+  choice_by_is None =
       through_if choice_in (prev_is_eligible s) {u = plain.nobody_wins HolderAlone s.cpu.block.v (named f.ineligible_best)} refl (nobody_is f.ineligible_best)
 
   pub choice_is : choice (placed s) f ≡ choice_in (plain.choice s f)
@@ -85,18 +84,18 @@ module _ (s : State) (f : Scan) where
   rule_in stole w = plain.rule_after stole w.rule
 
   rule_nobody_is : (stole : Bool) (o : Option Entry) → rule_nobody (placed s) stole o ≡ rule_in stole (plain.nobody s f o)
-  rule_nobody_is stole none =
+  rule_nobody_is stole None =
       through_if (rule_in stole) (prev_runnable s) {u = plain.nobody_wins HolderVtime (holder s).vtime []} {w = plain.nobody_wins Idle s.cpu.block.v []} refl refl
-  rule_nobody_is stole (some e) =
+  rule_nobody_is stole (Some e) =
       through_if (rule_in stole) (prev_runnable s && leb (holder s).vtime e.vtime) {u = plain.nobody_wins HolderVtime e.vtime (e.context_ref ∷ [])} refl
       (through_if (rule_in stole) (prev_runnable s && leb (holder s).vd e.key.vd) {u = plain.nobody_wins HolderLateDeadline e.vtime (e.context_ref ∷ [])}
       {w = plain.wins_by EntryVtime e.context_ref e.vtime []} refl refl)
 
   rule_by_is : (stole : Bool) (o : Option Entry) → rule_by (placed s) stole f o ≡ rule_in stole (plain.choice_by s f o)
-  rule_by_is stole (some e) =
+  rule_by_is stole (Some e) =
       first_test (rule_in stole) (prev_is_eligible s) (earlier e) (longer e)
       (plain.wins_by FirstEligible e.context_ref s.cpu.block.v (named f.ineligible_best)) refl refl
-  rule_by_is stole none =
+  rule_by_is stole None =
       through_if (rule_in stole) (prev_is_eligible s) {u = plain.nobody_wins HolderAlone s.cpu.block.v (named f.ineligible_best)} refl (rule_nobody_is stole f.ineligible_best)
 
   pub rule_is : (stole : Bool) → rule_of (placed s) stole f ≡ plain.rule_after stole (plain.choice s f).rule
@@ -136,8 +135,8 @@ dequeued_placed x s d =
     (by_placed (lists.remove_key (queue_key c)) (remove_key (queue_key c)) (λ u h. remove_placed u h (queue_key c)) (put_placed s d x (without_key c))) (places s d)
 
 taken_placed : (w : Option ℕ) (s : State) → Different s.cpu → Places (plain.taken_out w s) (taken_out w (placed s))
-taken_placed none s d = places s d
-taken_placed (some x) s d = dequeued_placed x s d
+taken_placed None s d = places s d
+taken_placed (Some x) s d = dequeued_placed x s d
 
 pub chosen_placed : (w : plain.Choice) (f : Scan) (s : State) → Different s.cpu → Places (plain.chosen w f s) (chosen (choice_in w) f (placed s))
 unfolding plain.chosen chosen

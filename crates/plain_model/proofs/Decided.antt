@@ -1,9 +1,8 @@
 -- The plain engine's outcome is the kernel's, where the keys of each queue and the timers differ. Assumes nothing.
-use Rattle.std.specs.Prelude.{if◌then◌else◌}
+use Rattle.std.specs.Prelude.{if◌then◌else◌, None, Option, Some, is_some}
 use mathlib.Core.Path.{◌≡◌, refl, sym, ap, ◌∙◌}
 use mathlib.Core.Bool.{Bool, false}
 use mathlib.Core.List.{List, ◌∷◌}
-use mathlib.Core.Option.{Option, none, some}
 use Prim.Native.Nat.{ℕ}
 use lib.Dec.{ltb, eqb}
 use Rattle.columns.specs.Common.{All}
@@ -18,7 +17,7 @@ use Rattle.machine.specs.Machine.{Machine, cpu_at}
 use Rattle.answer.specs.declared.Rule.{Rule}
 use Rattle.answer.specs.declared.SwitchResult.TheVariants.{Switched, AllContextsIdle}
 use Rattle.answer.specs.Number.{result_number, rule_number}
-use Rattle.model.specs.State.{State, at, on_cpu, state_of, is_some, prev_runnable}
+use Rattle.model.specs.State.{State, at, on_cpu, state_of, prev_runnable}
 use Rattle.model.specs.Turn.{spent, was_idle, before_choice}
 use Rattle.model.specs.Scan.{Scan}
 use Rattle.model.specs.Choice.{choice, chosen, ineligible_holder}
@@ -84,8 +83,8 @@ module _ (k time : ℕ) where
   picked_is : (b : Bool) (r : Rule) (cpus : List Cpu) (o : Option ℕ) (s : State)
       → placed_scheduled (picked_as time b r cpus o s) ≡ picked_as time b r (placed_cpus cpus) o (placed s)
   unfolding picked_as
-  picked_is b r cpus none s = refl
-  picked_is b r cpus (some x) s = rw (handed_is time b x s)
+  picked_is b r cpus None s = refl
+  picked_is b r cpus (Some x) s = rw (handed_is time b x s)
 
   module _ (cpus : List Cpu) (a : All Different cpus) (s : State) (d : Different s.cpu) where
     schedule_is : placed_scheduled (plain.schedule k time cpus s) ≡ schedule k time (placed_cpus cpus) (placed s)
@@ -100,8 +99,8 @@ module _ (k time : ℕ) where
 
   as_is : (rule : ℕ) (s : State) (cpus : List Cpu) (o : Option ℕ) → placed_outcome (switch_as k time rule s cpus o) ≡ switch_as k time rule (placed s) (placed_cpus cpus) o
   unfolding switch_as
-  as_is rule s cpus none = finished rule k cpus (result_number AllContextsIdle) (on_cpu (λ p. cpu_stats (stats_state Idle p.block.stats) p) s)
-  as_is rule s cpus (some x) =
+  as_is rule s cpus None = finished rule k cpus (result_number AllContextsIdle) (on_cpu (λ p. cpu_stats (stats_state Idle p.block.stats) p) s)
+  as_is rule s cpus (Some x) =
       let t : State = if eqb s.cpu.block.current_ctxt x then s else switch_to k time x s in
       finished rule k cpus (result_number Switched) t
       ∙ ap (finish_by rule k (placed_cpus cpus) (result_number Switched))
@@ -114,8 +113,8 @@ module _ (k time : ℕ) where
   module _ (cpus : List Cpu) (a : All Different cpus) (s : State) (d : Different s.cpu) where
     inner_by_is : (o : Option State) → placed_outcome (plain.switch_inner_by k time cpus s o) ≡ switch_inner_by k time (placed_cpus cpus) (placed s) (placed_option o)
     unfolding plain.switch_inner_by switch_inner_by
-    inner_by_is (some t) = finished 0 k cpus (result_number Switched) t
-    inner_by_is none = after_is (plain.schedule k time cpus s) ∙ ap (after_schedule k time) (schedule_is cpus a s d)
+    inner_by_is (Some t) = finished 0 k cpus (result_number Switched) t
+    inner_by_is None = after_is (plain.schedule k time cpus s) ∙ ap (after_schedule k time) (schedule_is cpus a s d)
 
     inner_is : placed_outcome (plain.switch_inner k time cpus s) ≡ switch_inner k time (placed_cpus cpus) (placed s)
     unfolding plain.switch_inner switch_inner
@@ -123,8 +122,8 @@ module _ (k time : ℕ) where
 
     direct_or_is : (o : Option State) → placed_outcome (plain.direct_switch_or k time cpus s o) ≡ direct_switch_or k time (placed_cpus cpus) (placed s) (placed_option o)
     unfolding plain.direct_switch_or direct_switch_or
-    direct_or_is (some t) = finished 0 k cpus (result_number Switched) t
-    direct_or_is none = inner_is
+    direct_or_is (Some t) = finished 0 k cpus (result_number Switched) t
+    direct_or_is None = inner_is
 
   module _ (M : Machine) (a : All Different M.cpus) where
     cpu_is : cpu_at (placed_machine M) k ≡ placed_cpu (cpu_at M k)

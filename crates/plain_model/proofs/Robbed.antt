@@ -1,9 +1,8 @@
 -- Stealing in turns is the kernel's. Assumes nothing.
-use Rattle.std.specs.Prelude.{if◌then◌else◌}
+use Rattle.std.specs.Prelude.{if◌then◌else◌, Option, Some}
 use mathlib.Core.Path.{◌≡◌, refl, ap, ◌∙◌}
 use mathlib.Core.Bool.{Bool, true, false, not, ◌&&◌, ◌||◌}
 use mathlib.Core.List.{List, [], ◌∷◌, map}
-use mathlib.Core.Option.{Option, some}
 use Prim.Native.Nat.{ℕ, zero, suc, ◌+◌}
 use lib.Dec.{eqb}
 use lib.ListN.{length, get_or, set}
@@ -113,7 +112,7 @@ module _ (runs : Bool) (e : Entry) (m : Moving) (d : Different m.state.cpu) (t :
   unfolding plain.move_entry move_entry
   move_placed =
       let f : Entry = entry_of x e.weight c in
-      if_moves (first_wins runs m.winner) (joined (some x) (stored c) (give_up_is e m.victim t) (give_up_differs e m.victim t))
+      if_moves (first_wins runs m.winner) (joined (Some x) (stored c) (give_up_is e m.victim t) (give_up_differs e m.victim t))
       (joined m.winner (by_placed (lists.insert_entry f) (insert_entry f) (λ u h. insert_placed u h f) (stored (with_new_key c)))
       (give_up_is e m.victim t) (give_up_differs e m.victim t))
 

@@ -1,7 +1,7 @@
 -- What comes after the stealing is the kernel's. Assumes nothing.
+use Rattle.std.specs.Prelude.{None, Option, Some, is_some}
 use mathlib.Core.Path.{◌≡◌, refl, sym, ap}
 use mathlib.Core.Bool.{Bool, true, false, not, ◌&&◌, ◌||◌}
-use mathlib.Core.Option.{Option, none, some}
 use Prim.Native.Nat.{ℕ}
 use lib.Dec.{eqb}
 use Rattle.context.specs.declared.Context.{Context}
@@ -12,7 +12,7 @@ use Rattle.entries.specs.declared.Entry.{Entry}
 use Rattle.runnable.specs.declared.UpdateResult.{UpdateResult}
 use Rattle.runnable.specs.declared.UpdateResult.TheVariants.{CanSwitch, Skip, Blocked}
 use Rattle.runnable.specs.Runnable.{update_runnable}
-use Rattle.model.specs.State.{State, at, put_context, push_local, on_cpu, insert_entry, is_some, holder}
+use Rattle.model.specs.State.{State, at, put_context, push_local, on_cpu, insert_entry, holder}
 use Rattle.model.specs.Steal.{Stealing, mark_stealable}
 use Rattle.model.specs.Handover.{advance, requeue, settled, next_context, hand_over}
 use Rattle.model.specs.SwitchTo.{saved, switch_to, direct_switch_by, try_direct_switch_back}
@@ -58,8 +58,8 @@ settled_placed runs n {l} {L} p = rw (← p.is) (settled_of runs n l p.here)
 -- from here on no entry and no timer moves
 pub next_is : (runs : Bool) (w : Option ℕ) (s : State) → next_context runs w (placed s) ≡ next_context runs w s
 unfolding next_context
-next_is runs none s = refl
-next_is runs (some x) s = refl
+next_is runs None s = refl
+next_is runs (Some x) s = refl
 
 pub handed_is : (time : ℕ) (was_idle : Bool) (x : ℕ) (s : State) → placed (hand_over time was_idle x s) ≡ hand_over time was_idle x (placed s)
 unfolding hand_over
@@ -67,8 +67,8 @@ handed_is time was_idle x s = refl
 
 -- an Option of a state, placed
 abbrev pub placed_option : Option State → Option State
-placed_option none = none
-placed_option (some s) = some (placed s)
+placed_option None = None
+placed_option (Some s) = Some (placed s)
 
 module _ (k time : ℕ) where
   saved_is : (s : State) → placed (saved k time s) ≡ saved k time (placed s)
@@ -85,11 +85,11 @@ module _ (k time : ℕ) where
   unfolding direct_switch_by
   direct_is x s Skip = refl
   direct_is x s Blocked = refl
-  direct_is x s (CanSwitch c) = ap some (switched_is x (put_context x c s))
+  direct_is x s (CanSwitch c) = ap Some (switched_is x (put_context x c s))
 
   pub back_is : (s : State) → placed_option (try_direct_switch_back k time s) ≡ try_direct_switch_back k time (placed s)
   unfolding try_direct_switch_back
   back_is s =
       let x : ℕ = s.cpu.block.sched_ctxt in
       let u : UpdateResult = update_runnable k time true false (at s x) in
-      sym (through_if placed_option (eqb s.cpu.block.current_ctxt x) {u = none} {w = direct_switch_by k time x s u} refl (sym (direct_is x s u)))
+      sym (through_if placed_option (eqb s.cpu.block.current_ctxt x) {u = None} {w = direct_switch_by k time x s u} refl (sym (direct_is x s u)))

@@ -1,7 +1,7 @@
 -- Wake-ups by their turns are the kernel's. Assumes nothing.
+use Rattle.std.specs.Prelude.{None, Option, Some}
 use mathlib.Core.Path.{◌≡◌, refl}
 use mathlib.Core.List.{List}
-use mathlib.Core.Option.{Option, none, some}
 use Prim.Native.Nat.{ℕ}
 use Rattle.context.specs.declared.Context.{Context}
 use Rattle.context.specs.Key.{queue_key, entry_of}
@@ -46,8 +46,8 @@ module _ (s : State) (d : Different s.cpu) where
       in by_placed (lists.insert_entry e) (insert_entry e) (λ u h. insert_placed u h e) (old_key_placed x c (entering s.cpu.block.v c))
 
   back_placed : (w : Option ℕ) (x : ℕ) → Places (plain.put_back w x s) (put_back w x (placed s))
-  back_placed none x = push_placed s d x
-  back_placed (some wake) x = timer_placed s d _
+  back_placed None x = push_placed s d x
+  back_placed (Some wake) x = timer_placed s d _
 
   as_placed : (w : Wakeup) (r : WakeupResult) → Places (plain.wake_as s w r) (wake_as (placed s) w r)
   unfolding plain.wake_as wake_as

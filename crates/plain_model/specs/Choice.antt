@@ -1,6 +1,5 @@
 -- The choice by the written rule, and what it takes out of the queue. Assumes nothing.
-use Rattle.std.specs.Prelude.{Bool, ◌&&◌, List, [], ◌∷◌, ℕ, ◌-◌, ltb, leb, eqb, length, if◌then◌else◌}
-use Rattle.std.proofs.Math.Option.{Option, none, some}
+use Rattle.std.specs.Prelude.{Bool, ◌&&◌, List, [], ◌∷◌, ℕ, ◌-◌, ltb, leb, eqb, length, if◌then◌else◌, None, Option, Some}
 use Rattle.columns.specs.Common.{fold}
 use Rattle.context.specs.Key.{queue_key, without_key}
 use Rattle.entries.specs.declared.Key.{Key}
@@ -24,10 +23,10 @@ pub record Choice : Type 0 where
 
 -- the holder, or idle, keeps the CPU; or the entry of x wins
 abbrev pub nobody_wins : Rule → ℕ → List ℕ → Choice
-nobody_wins rule v locked = record { winner = none; v = v; locked = locked; rule = rule }
+nobody_wins rule v locked = record { winner = None; v = v; locked = locked; rule = rule }
 
 abbrev pub wins_by : Rule → ℕ → ℕ → List ℕ → Choice
-wins_by rule x v locked = record { winner = some x; v = v; locked = locked; rule = rule }
+wins_by rule x v locked = record { winner = Some x; v = v; locked = locked; rule = rule }
 
 -- s: the state before the choice; f: what the scan found
 module _ (s : State) (f : Scan) where
@@ -43,9 +42,9 @@ module _ (s : State) (f : Scan) where
 
   -- nobody is eligible: V becomes the least vtime, and stays where nobody waits
   abbrev pub nobody : Option Entry → Choice
-  nobody none =
+  nobody None =
       if prev_runnable s then nobody_wins HolderVtime (holder s).vtime [] else nobody_wins Idle s.cpu.block.v []
-  nobody (some e) =
+  nobody (Some e) =
       if prev_runnable s && leb (holder s).vtime e.vtime
       then nobody_wins HolderVtime e.vtime (e.context_ref ∷ []) else
       if prev_runnable s && leb (holder s).vd e.key.vd
@@ -53,8 +52,8 @@ module _ (s : State) (f : Scan) where
       else wins_by EntryVtime e.context_ref e.vtime []
 
   abbrev pub choice_by : Option Entry → Choice
-  choice_by (some e) = against e
-  choice_by none =
+  choice_by (Some e) = against e
+  choice_by None =
       if prev_is_eligible s then nobody_wins HolderAlone s.cpu.block.v (named f.ineligible_best) else nobody f.ineligible_best
 
   unfoldable pub choice : Choice
@@ -85,8 +84,8 @@ dequeued x s =
     if c.has_queue_key then remove_key (queue_key c) (put_context x (without_key c) s) else s
 
 abbrev pub taken_out : Option ℕ → State → State
-taken_out none s = s
-taken_out (some x) s = dequeued x s
+taken_out None s = s
+taken_out (Some x) s = dequeued x s
 
 unfoldable pub chosen : Choice → Scan → State → State
 chosen w f s = taken_out w.winner (on_cpu (cpu_v w.v) (cleaned_up f s))

@@ -1,8 +1,8 @@
 -- After the choice and the stealing: V advances, and a runnable holder that lost goes back to the queue. Assumes nothing.
-use Rattle.std.specs.Prelude.{Bool, ◌&&◌, ℕ, if◌then◌else◌}
+use Rattle.std.specs.Prelude.{Bool, ◌&&◌, ℕ, if◌then◌else◌, is_some}
 use Rattle.context.specs.Key.{queue_key, with_new_key, entry_of}
 use Rattle.weights.specs.Weights.{weight}
-use Rattle.model.specs.State.{State, put_context, on_cpu, is_some, holder}
+use Rattle.model.specs.State.{State, put_context, on_cpu, holder}
 use Rattle.model.specs.Steal.{Stealing, mark_stealable}
 use Rattle.model.specs.Handover.{advance}
 use Rattle.plain_model.specs.State.{insert_entry, remove_key}

@@ -1,13 +1,11 @@
 -- The scan: every entry is looked at in its turn, and flags say what is passed over. Assumes nothing.
-use Rattle.std.specs.Prelude.{Bool, not, ◌&&◌, ◌||◌, List, [], ◌∷◌, ◌++◌, ℕ, ◌+◌, set, if◌then◌else◌}
-use Rattle.std.proofs.Math.Option.{Option, none, some}
+use Rattle.std.specs.Prelude.{Bool, not, ◌&&◌, ◌||◌, List, [], ◌∷◌, ◌++◌, ℕ, ◌+◌, set, if◌then◌else◌, None, Option, Some, is_some}
 use Rattle.columns.specs.Common.{fold}
 use Rattle.context.specs.declared.Context.{Context}
 use Rattle.entries.specs.declared.Entry.{Entry}
 use Rattle.entries.specs.Order.{entry_before}
 use Rattle.percpu.specs.Cpu.{Cpu}
 use Rattle.machine.specs.Machine.{context_at}
-use Rattle.model.specs.State.{is_some}
 use Rattle.model.specs.Scan.{Scan, Visit, pass, gone, blocked, no_addr_space, ready, above, below, is_of, ineligible_min_vtime, is_eligible, judge}
 use Rattle.plain_model.specs.Rank.{by_rank}
 
@@ -56,10 +54,10 @@ module _ (k time : ℕ) (p : Cpu) (h : Option ℕ) where
   taken e s =
       record {
         contexts = s.contexts;
-        eligible_best = if is_eligible p e then some e else s.eligible_best;
+        eligible_best = if is_eligible p e then Some e else s.eligible_best;
         ineligible_best =
             if is_eligible p e then s.ineligible_best else
-            if below (ineligible_min_vtime s.ineligible_best h) e.vtime then some e else s.ineligible_best;
+            if below (ineligible_min_vtime s.ineligible_best h) e.vtime then Some e else s.ineligible_best;
         weight_change = s.weight_change;
         contexts_to_remove = s.contexts_to_remove;
       }
@@ -77,7 +75,7 @@ module _ (k time : ℕ) (p : Cpu) (h : Option ℕ) where
       looked_at s e (judge k time p (context_at s.contexts e.context_ref) e)
 
   abbrev pub scan_start : List Context → Scan
-  scan_start cs = record { contexts = cs; eligible_best = none; ineligible_best = none; weight_change = 0; contexts_to_remove = [] }
+  scan_start cs = record { contexts = cs; eligible_best = None; ineligible_best = None; weight_change = 0; contexts_to_remove = [] }
 
   unfoldable pub scan : List Context → List Entry → Scan
   scan cs q = fold scan_step (scan_start cs) (by_rank entry_before q)

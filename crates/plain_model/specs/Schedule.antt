@@ -1,6 +1,5 @@
 -- The plain decision, and the calls that decide: `tick`, `switch` and `direct_switch_to`. Assumes nothing.
-use Rattle.std.specs.Prelude.{false, List, ◌∷◌, ℕ, ltb, eqb, if◌then◌else◌}
-use Rattle.std.proofs.Math.Option.{Option, none, some}
+use Rattle.std.specs.Prelude.{false, List, ◌∷◌, ℕ, ltb, eqb, if◌then◌else◌, None, Option, Some, is_some}
 use Rattle.ticks.specs.declared.Spent.{Spent}
 use Rattle.ticks.specs.Ticks.{tick_interval}
 use Rattle.runnable.specs.Runnable.{update_runnable}
@@ -9,7 +8,7 @@ use Rattle.machine.specs.Machine.{Machine}
 use Rattle.machine.specs.Outcome.{Outcome}
 use Rattle.answer.specs.declared.SwitchResult.TheVariants.{Switched}
 use Rattle.answer.specs.Number.{result_number}
-use Rattle.model.specs.State.{State, at, state_of, is_some, prev_runnable}
+use Rattle.model.specs.State.{State, at, state_of, prev_runnable}
 use Rattle.model.specs.Turn.{spent, was_idle}
 use Rattle.model.specs.Scan.{Scan}
 use Rattle.model.specs.Choice.{ineligible_holder}
@@ -56,8 +55,8 @@ module _ (k time : ℕ) where
 
   -- back to the context in charge, where that can be; else a decision
   unfoldable pub switch_inner_by : List Cpu → State → Option State → Outcome
-  switch_inner_by cpus s (some s') = finish k cpus (result_number Switched) s'
-  switch_inner_by cpus s none = after_schedule k time (schedule cpus s)
+  switch_inner_by cpus s (Some s') = finish k cpus (result_number Switched) s'
+  switch_inner_by cpus s None = after_schedule k time (schedule cpus s)
 
   unfoldable pub switch_inner : List Cpu → State → Outcome
   switch_inner cpus s = switch_inner_by cpus s (try_direct_switch_back k time s)
@@ -71,8 +70,8 @@ module _ (k time : ℕ) where
   switch M = switch_inner M.cpus (state_of k M)
 
   unfoldable pub direct_switch_or : List Cpu → State → Option State → Outcome
-  direct_switch_or cpus s (some s') = finish k cpus (result_number Switched) s'
-  direct_switch_or cpus s none = switch_inner cpus s
+  direct_switch_or cpus s (Some s') = finish k cpus (result_number Switched) s'
+  direct_switch_or cpus s None = switch_inner cpus s
 
   unfoldable pub direct_switch_to : ℕ → Machine → Outcome
   direct_switch_to x M =

@@ -1,6 +1,5 @@
 -- Stealing: every other CPU is tried in its turn, and flags say when it is enough. Assumes nothing.
-use Rattle.std.specs.Prelude.{Bool, true, false, not, ◌&&◌, ◌||◌, List, [], ◌∷◌, ◌++◌, ℕ, ◌+◌, ◌-◌, ◌%◌, ltb, eqb, length, get_or, set, if◌then◌else◌}
-use Rattle.std.proofs.Math.Option.{Option, some}
+use Rattle.std.specs.Prelude.{Bool, true, false, not, ◌&&◌, ◌||◌, List, [], ◌∷◌, ◌++◌, ℕ, ◌+◌, ◌-◌, ◌%◌, ltb, eqb, length, get_or, set, if◌then◌else◌, Option, Some}
 use Rattle.columns.specs.Common.{fold, tabulate}
 use Rattle.context.specs.declared.Context.{Context}
 use Rattle.context.specs.Status.{is_runnable}
@@ -51,7 +50,7 @@ move_entry runs m e =
     let c = moved m.state.cpu.block.v m.victim.block.v e.weight (at m.state x) in
     let s = on_cpu (λ p. cpu_total_weight (p.block.total_weight + e.weight) p) m.state in
     if first_wins runs m.winner
-    then record { state = put_context x c s; victim = give_up e m.victim; winner = some x }
+    then record { state = put_context x c s; victim = give_up e m.victim; winner = Some x }
     else record {
       state = insert_entry (entry_of x e.weight c) (put_context x (with_new_key c) s);
       victim = give_up e m.victim;

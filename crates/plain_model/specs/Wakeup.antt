@@ -1,6 +1,5 @@
 -- Wake-ups: each timer in its turn, then the local list. Assumes nothing.
-use Rattle.std.specs.Prelude.{List, [], ◌++◌, map, ℕ, if◌then◌else◌}
-use Rattle.std.proofs.Math.Option.{Option, none, some}
+use Rattle.std.specs.Prelude.{List, [], ◌++◌, map, ℕ, if◌then◌else◌, None, Option, Some}
 use Rattle.columns.specs.Common.{fold, keep}
 use Rattle.context.specs.declared.Context.{Context}
 use Rattle.context.specs.Key.{queue_key, entry_of}
@@ -25,8 +24,8 @@ drained time s = on_cpu (λ p. cpu_timers (keep (stays time s) p.timers) (cpu_lo
 
 -- a context that is locked is tried again at the next decision
 abbrev pub put_back : Option ℕ → ℕ → State → State
-put_back none x s = push_local x s
-put_back (some wake) x s = insert_timer (record { wake = wake; context_ref = x }) s
+put_back None x s = push_local x s
+put_back (Some wake) x s = insert_timer (record { wake = wake; context_ref = x }) s
 
 abbrev pub without_old_key : Context → List Entry → List Entry
 without_old_key c q = if c.has_queue_key then queue_without (queue_key c) q else q

@@ -2,10 +2,10 @@
 use mathlib.Core.Path.{◌≡◌, refl, sym, ap, ◌∙◌, subst}
 use mathlib.Core.Bool.{Bool, false}
 use mathlib.Core.List.{List}
-use Prim.Native.Nat.{ℕ, ◌+◌, ◌-◌, ◌*◌, ◌<◌, ◌≤◌}
+use Prim.Native.Nat.{ℕ, ◌+◌, ◌*◌, ◌<◌, ◌≤◌}
 use native.Mathlib.Omega.{arith}
 use lib.ListN.{length, get_or, take}
-use lib.Seq.{take_all, get_or-take}
+use lib.Seq.{take_all}
 use Rattle.columns.specs.Common.{fold, All}
 use Rattle.context.specs.declared.Context.{Context}
 use Rattle.context.specs.Key.{with_new_key}
@@ -19,12 +19,11 @@ use Rattle.model.specs.Steal as model_steal
 use Rattle.model.specs.Steal.{moved, first_wins}
 use Rattle.model.proofs.Cases.{by_test, never}
 use Rattle.plain_model.specs.Steal.{move_entry}
-use Rattle.plain_lists.specs.declared.Queue.{Queue}
-use Rattle.plain_lists.specs.Lists.{entries_of, Sized}
-use Rattle.plain_lists.proofs.Listing.{length_entries}
-use Rattle.plain_state.specs.declared.State.{State}
+use Rattle.plain_lists.specs.Lists.{Queue}
+use Rattle.plain_lists.specs.Lists.{entries_of}
+use Rattle.plain_lists.proofs.Listing.{length_items}
 use Rattle.plain_state.specs.States.{state_in, Sound}
-use Rattle.plain_candidates.proofs.Gathered.{fold_next, all_get_d}
+use Rattle.plain_lists.proofs.Folds.{fold_next, all_get_d}
 use Rattle.stages.specs.Bounds.{b_charged}
 use Rattle.plain_moves.specs.declared.Moving.{Moving}
 use Rattle.plain_moves.specs.Moves.{CpuSound, moving_in, MovingTracks, Movable, MovedBelow, stolen_record}
@@ -94,52 +93,40 @@ moves_then n runs e {m} {r} {M} a b =
     })
     (λ h. subst (λ (z : model_steal.Moving). MovingTracks n r (move_entry runs z e)) (a.is h) b)
 
--- m: after the first i of them, from M
-pub record Going (n : ℕ) (runs : Bool) (M : model_steal.Moving) (es : Queue) (m : Moving) (i : ℕ) : Type 0 where
-  pub sized : Sized es
-  pub few : es.len ≤ 2
-  pub fit : All (EntryFits n) (entries_of es)
-  pub most : i ≤ es.len
-  pub below : MovedBelow n i (fold (move_entry runs) M (take i (entries_of es))).state
-  pub tracks : MovingTracks n m (fold (move_entry runs) M (take i (entries_of es)))
+-- m: after the first i of xs, from M
+pub record Going (n : ℕ) (runs : Bool) (M : model_steal.Moving) (xs : List Entry) (m : Moving) (i : ℕ) : Type 0 where
+  pub few : length xs ≤ 2
+  pub fit : All (EntryFits n) xs
+  pub below : MovedBelow n i (fold (move_entry runs) M (take i xs)).state
+  pub tracks : MovingTracks n m (fold (move_entry runs) M (take i xs))
 
-pub goes : (n : ℕ) (runs : Bool) (es : Queue) (m : Moving) → Sound n m.state → CpuSound m.victim → Sized es → es.len ≤ 2 → All (EntryFits n) (entries_of es)
-    → MovedBelow n 0 (state_in n m.state) → Going n runs (moving_in n m) es m 0
-goes n runs es m o v z h f b =
-    record { sized = z; few = h; fit = f; most = omega arith; below = b; tracks = record { state = o; victim = v; room = refl; is = λ k. refl } }
+pub goes : (n : ℕ) (runs : Bool) (es : Queue) (xs : List Entry) (m : Moving) → xs ≡ entries_of es → Sound n m.state → CpuSound m.victim → es.len ≤ 2 → All (EntryFits n) (entries_of es)
+    → MovedBelow n 0 (state_in n m.state) → Going n runs (moving_in n m) xs m 0
+goes n runs es xs m e o v h f b =
+    let l : length xs ≡ es.len = ap length e ∙ length_items es in
+    record { few = omega arith; fit = rw e f; below = b; tracks = record { state = o; victim = v; room = refl; is = λ k. refl } }
 
-module _ (n : ℕ) (runs : Bool) (M : model_steal.Moving) (es : Queue) (m : Moving) (i : ℕ) (c : Going n runs M es m i) (h : i < es.len) where
-  inside : i < length (entries_of es)
-  inside = let e : length (entries_of es) ≡ es.len = length_entries es c.sized in omega arith
-
+module _ (n : ℕ) (runs : Bool) (M : model_steal.Moving) (xs : List Entry) (m : Moving) (i : ℕ) (c : Going n runs M xs m i) (h : i < length xs) where
   pub can_move : m.state.no_room ≡ false → Movable n (state_in n m.state)
   can_move z =
-      let l : es.len ≤ 2 = c.few in
-      let y : moving_in n m ≡ fold (move_entry runs) M (take i (entries_of es)) = c.tracks.is (sym c.tracks.room ∙ z) in
-      subst (λ (a : model_steal.Moving). Movable n a.state) (sym y) (movable n i (fold (move_entry runs) M (take i (entries_of es))).state (omega arith) c.below)
+      let l : length xs ≤ 2 = c.few in
+      let y : moving_in n m ≡ fold (move_entry runs) M (take i xs) = c.tracks.is (sym c.tracks.room ∙ z) in
+      subst (λ (a : model_steal.Moving). Movable n a.state) (sym y) (movable n i (fold (move_entry runs) M (take i xs)).state (omega arith) c.below)
 
   module _ (d : Entry) where
-    same : get_or (entries_of es) i d ≡ get_or es.entries i d
-    same = get_or-take es.len es.entries i d h
+    pub goes_fits : EntryFits n (get_or xs i d)
+    goes_fits = all_get_d (EntryFits n) xs i d h c.fit
 
-    pub goes_fits : EntryFits n (get_or es.entries i d)
-    goes_fits = rw same at (all_get_d (EntryFits n) (entries_of es) i d inside c.fit)
-
-    pub goes_on : {r : Moving} → MovingTracks n r (move_entry runs (moving_in n m) (get_or es.entries i d)) → Going n runs M es r (i + 1)
+    pub goes_on : {r : Moving} → MovingTracks n r (move_entry runs (moving_in n m) (get_or xs i d)) → Going n runs M xs r (i + 1)
     goes_on {r} t =
-        let N : model_steal.Moving = fold (move_entry runs) M (take i (entries_of es)) in
-        let y : move_entry runs N (get_or es.entries i d) ≡ fold (move_entry runs) M (take (i + 1) (entries_of es))
-        = ap (move_entry runs N) (sym same) ∙ sym (fold_next (move_entry runs) M (entries_of es) i d inside)
-        in record {
-          sized = c.sized;
+        let N : model_steal.Moving = fold (move_entry runs) M (take i xs) in
+        let y : move_entry runs N (get_or xs i d) ≡ fold (move_entry runs) M (take (i + 1) xs) = sym (fold_next (move_entry runs) M xs i d h) in
+        record {
           few = c.few;
           fit = c.fit;
-          most = omega arith;
-          below = subst (λ (a : model_steal.Moving). MovedBelow n (i + 1) a.state) y (move_adds n i runs N (get_or es.entries i d) goes_fits c.below);
-          tracks = subst (λ (a : model_steal.Moving). MovingTracks n r a) y (moves_then n runs (get_or es.entries i d) c.tracks t);
+          below = subst (λ (a : model_steal.Moving). MovedBelow n (i + 1) a.state) y (move_adds n i runs N (get_or xs i d) goes_fits c.below);
+          tracks = subst (λ (a : model_steal.Moving). MovingTracks n r a) y (moves_then n runs (get_or xs i d) c.tracks t);
         }
 
-pub gone_through : (n : ℕ) (runs : Bool) (M : model_steal.Moving) (es : Queue) (m : Moving) (i : ℕ) → Going n runs M es m i → es.len ≤ i → MovingTracks n m (fold (move_entry runs) M (entries_of es))
-gone_through n runs M es m i c h =
-    let e : length (entries_of es) ≡ es.len = length_entries es c.sized in
-    subst (λ (l : List Entry). MovingTracks n m (fold (move_entry runs) M l)) (take_all i (entries_of es) (omega arith)) c.tracks
+pub gone_through : (n : ℕ) (runs : Bool) (M : model_steal.Moving) (xs : List Entry) (m : Moving) (i : ℕ) → Going n runs M xs m i → length xs ≤ i → MovingTracks n m (fold (move_entry runs) M xs)
+gone_through n runs M xs m i c h = subst (λ (l : List Entry). MovingTracks n m (fold (move_entry runs) M l)) (take_all i xs h) c.tracks

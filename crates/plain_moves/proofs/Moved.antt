@@ -1,7 +1,7 @@
 -- One entry moved, in the code's words. Assumes nothing.
+use Rattle.std.specs.Prelude.{None, Option, Some}
 use mathlib.Core.Path.{◌≡◌, refl, sym, ap, ◌∙◌, subst}
 use mathlib.Core.Bool.{Bool, true, false, not}
-use mathlib.Core.Option.{some}
 use Prim.Native.Nat.{ℕ, ◌+◌, ◌-◌, ◌≤◌}
 use native.Mathlib.Omega.{arith}
 use Rattle.context.specs.declared.Context.{Context}
@@ -16,12 +16,9 @@ use Rattle.model.specs.State.{at, put_context}
 use Rattle.model.specs.Steal as model_steal
 use Rattle.model.specs.Steal.{moved, first_wins}
 use Rattle.model.proofs.Cases.{by_test, never}
-use Rattle.picked.specs.declared.Picked.{Picked}
-use Rattle.picked.specs.declared.Picked.TheVariants.{Nobody, Somebody}
-use Rattle.picked.specs.Names.{picked_of}
 use Rattle.plain_model.specs.State.{insert_entry, queue_without}
 use Rattle.plain_model.specs.Steal.{give_up, move_entry}
-use Rattle.plain_lists.specs.declared.Queue.{Queue}
+use Rattle.plain_lists.specs.Lists.{Queue}
 use Rattle.plain_lists.specs.Lists.{entries_of, Stands}
 use Rattle.plain_state.specs.declared.Cpu.{Cpu}
 use Rattle.plain_state.specs.declared.State.{State}
@@ -72,10 +69,10 @@ queued_in n s x q weight {q'} {t} {r} {name} {e} f a g h c =
     (ap (λ (z : Entry). insert_entry z (state_in n t)) (h ∙ ap (λ (y : ℕ). entry_of y weight q) g)
     ∙ ap (insert_entry (entry_of x weight q)) (a.is ∙ ap (λ (z : Context). put_context x z (state_in n s)) f))
 
-pub wins_first : (runs : Bool) (w : Picked) → w ≡ Nobody → not runs ≡ first_wins runs (picked_of w)
+pub wins_first : (runs : Bool) (w : Option ℕ) → w ≡ None → not runs ≡ first_wins runs w
 wins_first runs w e = rw e
 
-pub won_before : (runs : Bool) (w : Picked) {x : ℕ} → w ≡ Somebody x → false ≡ first_wins runs (picked_of w)
+pub won_before : (runs : Bool) (w : Option ℕ) {x : ℕ} → w ≡ Some x → false ≡ first_wins runs w
 won_before runs w e = rw e
 
 -- the mark stays
@@ -100,29 +97,29 @@ module _ (n : ℕ) (m : Moving) (runs : Bool) (e : Entry) where
 
 pub weight_gone : (n : ℕ) (m : Moving) (e : Entry) {t : State} {u : Cpu} → Became n t (heavier e.weight (state_in n m.state)) → CpuBecame u (give_up e (cpu_in m.victim))
     → MovingBecame n (record { state = t; victim = u; winner = m.winner }) (weight_moved e (moving_in n m))
-weight_gone n m e a b = record { state = a.sound; victim = b.sound; is = λ i. record { state = a.is i; victim = b.is i; winner = picked_of m.winner } }
+weight_gone n m e a b = record { state = a.sound; victim = b.sound; is = λ i. record { state = a.is i; victim = b.is i; winner = m.winner } }
 
-module _ (n : ℕ) (m : Moving) (runs : Bool) (x : ℕ) (q : Context) (weight : ℕ) (v : CpuSound m.victim) {b : Bool} (hb : b ≡ first_wins runs (picked_of m.winner)) where
+module _ (n : ℕ) (m : Moving) (runs : Bool) (x : ℕ) (q : Context) (weight : ℕ) (v : CpuSound m.victim) {b : Bool} (hb : b ≡ first_wins runs m.winner) where
   pub first_taken : {p : State} → b ≡ true → Became n p (put_context x q (state_in n m.state))
-      → MovingTracks n (record { state = p; victim = m.victim; winner = Somebody x }) (taken_in runs x q weight (moving_in n m))
+      → MovingTracks n (record { state = p; victim = m.victim; winner = Some x }) (taken_in runs x q weight (moving_in n m))
   first_taken t a =
-      let y : first_wins runs (picked_of m.winner) ≡ true = sym hb ∙ t in
+      let y : first_wins runs m.winner ≡ true = sym hb ∙ t in
       rw y
       (record {
         state = a.sound;
         victim = v;
         room = ap (λ (z : model.State). z.no_room) a.is;
-        is = λ k. λ i. record { state = a.is i; victim = cpu_in m.victim; winner = some x };
+        is = λ k. λ i. record { state = a.is i; victim = cpu_in m.victim; winner = Some x };
       })
 
   pub queued_taken : {p : State} → b ≡ false → Tracks n p (insert_entry (entry_of x weight q) (put_context x (with_new_key q) (state_in n m.state)))
       → MovingTracks n (record { state = p; victim = m.victim; winner = m.winner }) (taken_in runs x q weight (moving_in n m))
   queued_taken t a =
-      let y : first_wins runs (picked_of m.winner) ≡ false = sym hb ∙ t in
+      let y : first_wins runs m.winner ≡ false = sym hb ∙ t in
       rw y
       (record {
         state = a.sound;
         victim = v;
         room = a.room;
-        is = λ k. let z = a.is k in λ i. record { state = z i; victim = cpu_in m.victim; winner = picked_of m.winner };
+        is = λ k. let z = a.is k in λ i. record { state = z i; victim = cpu_in m.victim; winner = m.winner };
       })

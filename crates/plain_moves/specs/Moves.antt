@@ -1,6 +1,5 @@
 -- What the code's moves stand for, and what no sum of them wraps by. Assumes nothing.
-use Rattle.std.specs.Prelude.{◌≡◌, Bool, false, ℕ, ◌+◌, ◌*◌, ◌<◌, ◌≤◌, if◌then◌else◌}
-use Rattle.std.proofs.Math.Option.{some}
+use Rattle.std.specs.Prelude.{◌≡◌, Bool, false, ℕ, ◌+◌, ◌*◌, ◌<◌, ◌≤◌, if◌then◌else◌, Some}
 use Rattle.context.specs.declared.Context.{Context}
 use Rattle.context.specs.Key.{with_new_key, entry_of}
 use Rattle.entries.specs.declared.Entry.{Entry}
@@ -12,7 +11,6 @@ use Rattle.model.specs.State as model
 use Rattle.model.specs.State.{at, put_context, on_cpu}
 use Rattle.model.specs.Steal as model_steal
 use Rattle.model.specs.Steal.{moved, first_wins}
-use Rattle.picked.specs.Names.{picked_of}
 use Rattle.plain_model.specs.State.{insert_entry}
 use Rattle.plain_model.specs.Steal.{give_up}
 use Rattle.plain_state.specs.declared.Cpu.{Cpu}
@@ -28,7 +26,7 @@ pub record CpuBecame (p : Cpu) (P : percpu.Cpu) : Type 0 where
 
 -- of n contexts
 abbrev pub moving_in : ℕ → Moving → model_steal.Moving
-moving_in n m = record { state = state_in n m.state; victim = cpu_in m.victim; winner = picked_of m.winner }
+moving_in n m = record { state = state_in n m.state; victim = cpu_in m.victim; winner = m.winner }
 
 -- r stands for M
 pub record MovingBecame (n : ℕ) (r : Moving) (M : model_steal.Moving) : Type 0 where
@@ -71,5 +69,5 @@ weight_moved e m = record { state = heavier e.weight m.state; victim = give_up e
 abbrev pub taken_in : (runs : Bool) → ℕ → Context → ℕ → model_steal.Moving → model_steal.Moving
 taken_in runs x q weight m =
     if first_wins runs m.winner
-    then record { state = put_context x q m.state; victim = m.victim; winner = some x }
+    then record { state = put_context x q m.state; victim = m.victim; winner = Some x }
     else record { state = insert_entry (entry_of x weight q) (put_context x (with_new_key q) m.state); victim = m.victim; winner = m.winner }

@@ -9,10 +9,9 @@ ghost use Rattle.context.specs.Key.{with_new_key, entry_of};
 ghost use Rattle.machine.specs.Shape.{EntryFits};
 ghost use Rattle.model.specs.State.{put_context};
 ghost use Rattle.model.specs.Steal.{first_wins};
-ghost use Rattle.picked.specs.Names.{picked_of};
 ghost use Rattle.plain_model.specs.State.{insert_entry};
 ghost use Rattle.plain_model.specs.Steal.{give_up, move_entry};
-ghost use Rattle.plain_lists.specs.Lists.{entries_of, Sized};
+ghost use Rattle.plain_lists.specs.Lists.{entries_of};
 ghost use Rattle.plain_state.specs.States.{cpu_in, state_in, Sound, Became, Tracks};
 ghost use Rattle.stages.specs.Bounds.{b_moving};
 ghost use Rattle.weights.specs.Weights.{max_weight};
@@ -20,7 +19,6 @@ ghost use Rattle.plain_moves.specs.Moves.{CpuSound, CpuBecame, moving_in, Moving
 
 use context::Context;
 use entries::Entry;
-use picked::Picked;
 use plain_lists::Queue;
 use plain_state::{Cpu, State};
 
@@ -29,7 +27,7 @@ use plain_state::{Cpu, State};
 pub struct Moving {
     pub state: State,
     pub victim: Cpu,
-    pub winner: Picked,
+    pub winner: Option<usize>,
 }
 
 // The record of the entry's context as it will stand on this CPU.
@@ -37,37 +35,19 @@ fn stolen_record(m: Moving, n: usize, e: Entry) -> Context
     requires { (Sound n m.state) × (Movable n (state_in n m.state)) × (EntryFits n e) }
     ensures { result ≡ stolen_record (moving_in n m) e }
 {
-    let s = m.state;
-    let cpu = s.cpu;
-    let here = cpu.block;
-    let victim = m.victim;
-    let there = victim.block;
     let x = numbers::index(e.context_ref);
-    let q = s.context(n, x);
-    stolen::moved(q, here.v, there.v, e.weight)
+    let q = m.state.context(n, x);
+    stolen::moved(q, m.state.cpu.block.v, m.victim.block.v, e.weight)
 }
 
 // The entry and its weight leave the victim.
-fn give_up(v: Cpu, e: Entry) -> Cpu
+fn give_up(mut v: Cpu, e: Entry) -> Cpu
     requires { CpuSound v }
     ensures { CpuBecame result (give_up e (cpu_in v)) }
 {
-    let mut block = v.block;
-    let queue = v.queue;
-    let timers = v.timers;
-    let local = v.local;
-    let ipi = v.ipi;
-    let key = e.key;
-    let q = queue.leave_out(key);
-    block.total_weight = numbers::saturating_sub(block.total_weight, e.weight);
-    Cpu {
-        block: block,
-        queue: q,
-        timers: timers,
-        local: local,
-        ipi: ipi,
-        remainder: v.remainder,
-    }
+    v.queue = v.queue.leave_out(e.key);
+    v.block.total_weight = v.block.total_weight.saturating_sub(e.weight);
+    v
 }
 
 // Its weight comes here.
@@ -75,8 +55,7 @@ fn add_weight(s: State, n: usize, weight: u64) -> State
     requires { (Sound n s) × (s.cpu.block.total_weight ≤ b_moving) × (weight ≤ max_weight) }
     ensures { Became n result (heavier weight (state_in n s)) }
 {
-    let cpu = s.cpu;
-    let mut b = cpu.block;
+    let mut b = s.cpu.block;
     b.total_weight = b.total_weight + weight;
     plain_handover::with_block(s, n, b)
 }
@@ -94,12 +73,12 @@ fn queue_in(s: State, n: usize, x: usize, q: Context, weight: u64) -> State
 }
 
 // The first stolen wins where nobody else runs.
-fn first_wins(runs: bool, w: Picked) -> bool
-    ensures { result ≡ first_wins runs (picked_of w) }
+fn first_wins(runs: bool, w: Option<usize>) -> bool
+    ensures { result ≡ first_wins runs w }
 {
     match w {
-        Picked::Nobody => !runs,
-        Picked::Somebody(_) => false,
+        None => !runs,
+        Some(_) => false,
     }
 }
 
@@ -108,15 +87,10 @@ fn move_weight(m: Moving, n: usize, e: Entry) -> Moving
     requires { (Sound n m.state) × (CpuSound m.victim) × (Movable n (state_in n m.state)) × (EntryFits n e) }
     ensures { MovingBecame n result (weight_moved e (moving_in n m)) }
 {
-    let s = m.state;
-    let v = m.victim;
-    let w = m.winner;
-    let t = add_weight(s, n, e.weight);
-    let u = give_up(v, e);
     Moving {
-        state: t,
-        victim: u,
-        winner: w,
+        state: add_weight(m.state, n, e.weight),
+        victim: give_up(m.victim, e),
+        winner: m.winner,
     }
 }
 
@@ -125,22 +99,17 @@ fn take_in(m: Moving, n: usize, runs: bool, x: usize, q: Context, weight: u64) -
     requires { (Sound n m.state) × (CpuSound m.victim) × (x < n) }
     ensures { MovingTracks n result (taken_in runs x q weight (moving_in n m)) }
 {
-    let s = m.state;
-    let v = m.victim;
-    let w = m.winner;
-    if first_wins(runs, w) {
-        let p = s.put_context(n, x, q);
+    if first_wins(runs, m.winner) {
         return Moving {
-            state: p,
-            victim: v,
-            winner: Picked::Somebody(x),
+            state: m.state.put_context(n, x, q),
+            victim: m.victim,
+            winner: Some(x),
         };
     }
-    let p = queue_in(s, n, x, q, weight);
     Moving {
-        state: p,
-        victim: v,
-        winner: w,
+        state: queue_in(m.state, n, x, q, weight),
+        victim: m.victim,
+        winner: m.winner,
     }
 }
 
@@ -150,8 +119,7 @@ fn move_entry(m: Moving, n: usize, runs: bool, e: Entry) -> Moving
     requires movable { m.state.no_room ≡ false → Movable n (state_in n m.state) }
     ensures { MovingTracks n result (move_entry runs (moving_in n m) e) }
 {
-    let s = m.state;
-    if s.no_room {
+    if m.state.no_room {
         return m;
     }
     let q = stolen_record(m, n, e);
@@ -162,16 +130,13 @@ fn move_entry(m: Moving, n: usize, runs: bool, e: Entry) -> Moving
 
 // At most two entries.
 pub fn move_entries(m: Moving, n: usize, runs: bool, es: Queue) -> Moving
-    requires sound { (Sound n m.state) × (CpuSound m.victim) × (Sized es) × (es.len ≤ 2) }
+    requires sound { (Sound n m.state) × (CpuSound m.victim) × (es.len ≤ 2) }
     requires all { (All (EntryFits n) (entries_of es)) × (MovedBelow n 0 (state_in n m.state)) }
     ensures { MovingTracks n result (fold (move_entry runs) (moving_in n m) (entries_of es)) }
 {
     let mut out = m;
-    let mut i = 0;
-    while i < es.len {
-        let e = es.entries[i];
-        out = move_entry(out, n, runs, e);
-        i += 1;
+    for e in es.as_slice() {
+        out = move_entry(out, n, runs, *e);
     }
     out
 }

@@ -1,5 +1,5 @@
 -- The scan's records, and what leaves. Assumes nothing.
-use Rattle.std.specs.Prelude.{if◌then◌else◌}
+use Rattle.std.specs.Prelude.{if◌then◌else◌, Option, Some, is_some}
 use mathlib.Core.Path.{◌≡◌, refl, sym, ap, ◌∙◌}
 use mathlib.Core.Bool.{Bool, true, false, not, ◌&&◌}
 use mathlib.Core.List.{List, [], ◌∷◌, ◌++◌, map}
@@ -11,18 +11,15 @@ use Rattle.entries.specs.declared.Entry.{Entry}
 use Rattle.machine.specs.Machine.{no_context}
 use borrow.Author.Tests.{le-leb, lt-leb}
 use Rattle.plain_model.specs.Scan.{stored, given_up, taken, looked_at, scan_step}
-use Rattle.select_judge.specs.declared.Best.{Best}
-use Rattle.select_judge.specs.declared.Best.TheVariants.{Found}
 use Rattle.select_judge.specs.declared.Visit.{Visit}
 use Rattle.select_judge.specs.declared.Visit.TheVariants.{Pass, Gone, Blocked, NoAddrSpace, Ready}
-use Rattle.plain_lists.specs.declared.Queue.{Queue}
+use Rattle.plain_lists.specs.Lists.{Queue}
 use Rattle.plain_lists.proofs.Arrays.{read_front, take_set}
 use Rattle.plain_lists.specs.Lists.{entries_of, Stands}
 use Rattle.plain_scan.specs.declared.Scan.{Scan}
 use Rattle.plain_scan.specs.Scanned.{scan_of, record_in, passed_over, Sound, Grows}
 use Rattle.select_judge.specs.declared.Scanner.{Scanner}
-use Rattle.select_judge.specs.Values.{best_of, BestBelow, vtime_of, visit_of, scanner_cpu}
-use Rattle.model.specs.State.{is_some}
+use Rattle.select_judge.specs.Values.{BestBelow, visit_of, scanner_cpu}
 use Rattle.model.specs.Scan as model
 use Rattle.model.specs.Scan.{above, below, is_of, judge, ineligible_min_vtime, is_eligible}
 
@@ -59,13 +56,13 @@ given_up_is n s e w {q} o t h = (
 -- three flags, from what the code's tests said
 module _ (n : ℕ) (t : Scanner) (s : Scan) (e : Entry) where
   abbrev found : Bool
-  found = is_some (best_of s.eligible_best)
+  found = is_some s.eligible_best
 
   abbrev late : Bool
-  late = above (ineligible_min_vtime (best_of s.ineligible_best) (vtime_of t.ineligible_holder)) e.vtime && not (is_eligible (scanner_cpu t) e)
+  late = above (ineligible_min_vtime s.ineligible_best t.ineligible_holder) e.vtime && not (is_eligible (scanner_cpu t) e)
 
   abbrev same : Bool
-  same = is_of (best_of s.ineligible_best) e.context_ref
+  same = is_of s.ineligible_best e.context_ref
 
   pub over_found : {r : Bool} → r ≡ found → r ≡ true → true ≡ passed_over n t s e
   unfolding passed_over
@@ -87,23 +84,23 @@ module _ (n : ℕ) (t : Scanner) (s : Scan) (e : Entry) where
 
 -- a ready entry
 module _ (n : ℕ) (t : Scanner) (e : Entry) (s : Scan) (o : Sound n s) (b : e.context_ref < n) where
-  abbrev after : Best → Best → Scan
+  abbrev after : (Option Entry) → (Option Entry) → Scan
   after best late = record { contexts = s.contexts; eligible_best = best; ineligible_best = late; weight_change = s.weight_change; leaving = s.leaving }
 
   abbrev Taken : Scan → Type 0
-  Taken r = (scan_of n r ≡ taken t.cpu_id t.time (scanner_cpu t) (vtime_of t.ineligible_holder) e (scan_of n s)) × Grows n 0 0 s r
+  Taken r = (scan_of n r ≡ taken t.cpu_id t.time (scanner_cpu t) t.ineligible_holder e (scan_of n s)) × Grows n 0 0 s r
 
-  kept : (best late : Best) → BestBelow n best → BestBelow n late → Grows n 0 0 s (after best late)
+  kept : (best late : (Option Entry)) → BestBelow n best → BestBelow n late → Grows n 0 0 s (after best late)
   kept best late x y = record { sound = record { contexts = o.contexts; few = o.few; leaving = o.leaving; best = x; late = y }; leaving = omega arith; weight = omega arith }
 
-  pub taken_eligible : e.vtime ≤ t.v → Taken (after (Found e) s.ineligible_best)
-  taken_eligible h = (rw (le-leb e.vtime t.v h), kept (Found e) s.ineligible_best b o.late)
+  pub taken_eligible : e.vtime ≤ t.v → Taken (after (Some e) s.ineligible_best)
+  taken_eligible h = (rw (le-leb e.vtime t.v h), kept (Some e) s.ineligible_best b o.late)
 
   abbrev earlier : Bool
-  earlier = below (ineligible_min_vtime (best_of s.ineligible_best) (vtime_of t.ineligible_holder)) e.vtime
+  earlier = below (ineligible_min_vtime s.ineligible_best t.ineligible_holder) e.vtime
 
-  pub taken_late : {u : Bool} → t.v < e.vtime → u ≡ earlier → u ≡ true → Taken (after s.eligible_best (Found e))
-  taken_late h p q = (rw (lt-leb e.vtime t.v h, sym p ∙ q), kept s.eligible_best (Found e) o.best b)
+  pub taken_late : {u : Bool} → t.v < e.vtime → u ≡ earlier → u ≡ true → Taken (after s.eligible_best (Some e))
+  taken_late h p q = (rw (lt-leb e.vtime t.v h, sym p ∙ q), kept s.eligible_best (Some e) o.best b)
 
   pub taken_not : {u : Bool} → t.v < e.vtime → u ≡ earlier → u ≡ false → Taken s
   taken_not h p q = (rw (lt-leb e.vtime t.v h, sym p ∙ q), kept s.eligible_best s.ineligible_best o.best o.late)
@@ -112,7 +109,7 @@ module _ (n : ℕ) (t : Scanner) (e : Entry) (s : Scan) (o : Sound n s) (b : e.c
 module _ (n : ℕ) (t : Scanner) (e : Entry) (s : Scan) where
   abbrev Looked : Visit → Scan → Type 0
   Looked v r =
-      (scan_of n r ≡ looked_at t.cpu_id t.time (scanner_cpu t) (vtime_of t.ineligible_holder) (scan_of n s) e (visit_of v)) × Grows n 1 e.weight s r
+      (scan_of n r ≡ looked_at t.cpu_id t.time (scanner_cpu t) t.ineligible_holder (scan_of n s) e (visit_of v)) × Grows n 1 e.weight s r
 
   pub look_pass : (v : Visit) → v ≡ Pass → Sound n s → Looked v s
   unfolding looked_at
@@ -138,16 +135,16 @@ module _ (n : ℕ) (t : Scanner) (e : Entry) (s : Scan) where
   look_space v q p (a, g) = rw p (a, record { sound = g.sound; leaving = omega (arith, g.leaving); weight = omega (arith, g.weight) })
 
   pub look_ready : (v : Visit) (q : Context) {u r : Scan} → v ≡ Ready q → (scan_of n u ≡ stored e q (scan_of n s)) × Grows n 0 0 s u
-      → (scan_of n r ≡ taken t.cpu_id t.time (scanner_cpu t) (vtime_of t.ineligible_holder) e (scan_of n u)) × Grows n 0 0 u r → Looked v r
+      → (scan_of n r ≡ taken t.cpu_id t.time (scanner_cpu t) t.ineligible_holder e (scan_of n u)) × Grows n 0 0 u r → Looked v r
   unfolding looked_at
   look_ready v q {u} {r} p (a, g) (c, h) =
       rw p (
-        c ∙ ap (λ (f : model.Scan). taken t.cpu_id t.time (scanner_cpu t) (vtime_of t.ineligible_holder) e f) a,
+        c ∙ ap (λ (f : model.Scan). taken t.cpu_id t.time (scanner_cpu t) t.ineligible_holder e f) a,
         record { sound = h.sound; leaving = omega (arith, g.leaving, h.leaving); weight = omega (arith, g.weight, h.weight) },
       )
 
   abbrev Stepped : Scan → Type 0
-  Stepped r = (scan_of n r ≡ scan_step t.cpu_id t.time (scanner_cpu t) (vtime_of t.ineligible_holder) (scan_of n s) e) × Grows n 1 e.weight s r
+  Stepped r = (scan_of n r ≡ scan_step t.cpu_id t.time (scanner_cpu t) t.ineligible_holder (scan_of n s) e) × Grows n 1 e.weight s r
 
   pub step_passes : {b : Bool} → Sound n s → b ≡ passed_over n t s e → b ≡ true → Stepped s
   unfolding passed_over scan_step

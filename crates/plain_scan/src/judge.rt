@@ -1,57 +1,57 @@
 // An entry judged by itself, and against the best ones so far.
-ghost use Rattle.std.specs.Prelude.{◌≡◌, false, ◌&&◌, not, ◌<◌, ◌≤◌, if◌then◌else◌};
-ghost use Rattle.model.specs.State.{is_some};
+// Its own code and not select_judge's: the plain engine shares no function of a stage with the fast one.
+ghost use Rattle.std.specs.Prelude.{◌≡◌, false, ◌&&◌, not, ◌<◌, ◌≤◌, if◌then◌else◌, is_some};
 ghost use Rattle.model.specs.Scan.{above, below, is_of, ineligible_min_vtime, is_eligible, by_update, judge};
-ghost use Rattle.select_judge.specs.Values.{vtime_of, best_of, visit_of, scanner_cpu, deactivated};
+ghost use Rattle.select_judge.specs.Values.{visit_of, scanner_cpu, deactivated};
 
 use context::Context;
 use entries::Entry;
 use runnable::UpdateResult;
-use select_judge::{Best, MinVtime, Scanner, Visit};
+use select_judge::{Scanner, Visit};
 
 // Earlier than a late holder's vtime.
-fn is_earlier_than(h: MinVtime, v: u64) -> bool
-    ensures { result ≡ below (vtime_of h) v }
+fn is_earlier_than(h: Option<u64>, v: u64) -> bool
+    ensures { result ≡ below h v }
 {
     match h {
-        MinVtime::Nobody => true,
-        MinVtime::At(m) => v < m,
+        None => true,
+        Some(m) => v < m,
     }
 }
 
 // Earlier than the least late vtime so far.
-pub fn is_earlier(late: Best, h: MinVtime, v: u64) -> bool
-    ensures { result ≡ below (ineligible_min_vtime (best_of late) (vtime_of h)) v }
+pub fn is_earlier(late: Option<Entry>, h: Option<u64>, v: u64) -> bool
+    ensures { result ≡ below (ineligible_min_vtime late h) v }
 {
     match late {
-        Best::Nobody => is_earlier_than(h, v),
-        Best::Found(b) => v < b.vtime,
+        None => is_earlier_than(h, v),
+        Some(b) => v < b.vtime,
     }
 }
 
 // Later than a late holder's vtime.
-fn is_later_than(h: MinVtime, v: u64) -> bool
-    ensures { result ≡ above (vtime_of h) v }
+fn is_later_than(h: Option<u64>, v: u64) -> bool
+    ensures { result ≡ above h v }
 {
     match h {
-        MinVtime::Nobody => false,
-        MinVtime::At(m) => m < v,
+        None => false,
+        Some(m) => m < v,
     }
 }
 
 // Later than the least late vtime so far.
-fn is_after(late: Best, h: MinVtime, v: u64) -> bool
-    ensures { result ≡ above (ineligible_min_vtime (best_of late) (vtime_of h)) v }
+fn is_after(late: Option<Entry>, h: Option<u64>, v: u64) -> bool
+    ensures { result ≡ above (ineligible_min_vtime late h) v }
 {
     match late {
-        Best::Nobody => is_later_than(h, v),
-        Best::Found(b) => b.vtime < v,
+        None => is_later_than(h, v),
+        Some(b) => b.vtime < v,
     }
 }
 
 // So late that it is passed over.
-pub fn is_later(t: Scanner, late: Best, e: Entry) -> bool
-    ensures { result ≡ (above (ineligible_min_vtime (best_of late) (vtime_of t.ineligible_holder)) e.vtime && not (is_eligible (scanner_cpu t) e)) }
+pub fn is_later(t: Scanner, late: Option<Entry>, e: Entry) -> bool
+    ensures { result ≡ (above (ineligible_min_vtime late t.ineligible_holder) e.vtime && not (is_eligible (scanner_cpu t) e)) }
 {
     let h = t.ineligible_holder;
     let after = is_after(late, h, e.vtime);
@@ -60,22 +60,22 @@ pub fn is_later(t: Scanner, late: Best, e: Entry) -> bool
 }
 
 // An entry was found.
-pub fn is_over(best: Best) -> bool
-    ensures { result ≡ is_some (best_of best) }
+pub fn is_over(best: Option<Entry>) -> bool
+    ensures { result ≡ is_some best }
 {
     match best {
-        Best::Nobody => false,
-        Best::Found(_) => true,
+        None => false,
+        Some(_) => true,
     }
 }
 
 // The best late entry so far keeps the lock of context x.
-pub fn locks(late: Best, x: u64) -> bool
-    ensures { result ≡ is_of (best_of late) x }
+pub fn locks(late: Option<Entry>, x: u64) -> bool
+    ensures { result ≡ is_of late x }
 {
     match late {
-        Best::Nobody => false,
-        Best::Found(e) => e.context_ref == x,
+        None => false,
+        Some(e) => e.context_ref == x,
     }
 }
 

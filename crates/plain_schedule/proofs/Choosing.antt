@@ -1,8 +1,8 @@
 -- The choice and the stealing, in the code's words. Assumes nothing.
+use Rattle.std.specs.Prelude.{None, Option, Some, is_some, option_to_list}
 use mathlib.Core.Path.{◌≡◌, refl, sym, ap, ◌∙◌, subst}
 use mathlib.Core.Bool.{Bool, true, false, ◌&&◌}
 use mathlib.Core.List.{◌∷◌}
-use mathlib.Core.Option.{some}
 use Prim.Native.Nat.{ℕ, ◌<◌, ◌≤◌}
 use native.Mathlib.Omega.{arith}
 use lib.Dec.{eqb}
@@ -13,14 +13,10 @@ use Rattle.answer.specs.declared.Rule.{Rule}
 use Rattle.answer.specs.declared.Rule.TheVariants.{Stolen, Idle}
 use Rattle.answer.specs.Number.{rule_number}
 use Rattle.model.specs.State as model
-use Rattle.model.specs.State.{at, is_some, prev_runnable}
+use Rattle.model.specs.State.{at, prev_runnable}
 use Rattle.model.specs.Steal as model_steal
 use Rattle.stages.specs.Stage.{StateBelow}
 use Rattle.stages.specs.Bounds.{t_timed, b_charged, b_stolen}
-use Rattle.picked.specs.declared.Picked.{Picked}
-use Rattle.picked.specs.declared.Picked.TheVariants.{Nobody, Somebody}
-use Rattle.picked.specs.Names as names
-use Rattle.picked.specs.Names.{picked_of, names_of}
 use Rattle.select_judge.specs.Values.{WinnerBelow}
 use Rattle.plain_model.specs.State.{placed}
 use Rattle.plain_model.specs.Choice as plain
@@ -61,13 +57,13 @@ module _ (rule : Rule) (stole : Bool) {a b : ℕ} {z : Bool} (ha : a ≡ rule_nu
   pub as_chosen : z ≡ false → rule ≡ rule_after stole rule
   as_chosen t = let y : (eqb (rule_number rule) (rule_number Idle) && stole) ≡ false = sym same ∙ t in rw y
 
-some_is : (w : Picked) → names.is_some w ≡ is_some (picked_of w)
-some_is Nobody = refl
-some_is (Somebody x) = refl
+some_is : (w : Option ℕ) → is_some w ≡ is_some w
+some_is None = refl
+some_is (Some x) = refl
 
-named : (n : ℕ) (w : Picked) → WinnerBelow n w → (x : ℕ) → picked_of w ≡ some x → x < n
-named n Nobody b x e = let z : ◌≡◌ {A = ℕ} 0 1 = cc in absurd (omega arith)
-named n (Somebody y) b x e = let z : y ≡ x = cc in subst (λ (j : ℕ). j < n) z b
+named : (n : ℕ) (w : Option ℕ) → WinnerBelow n w → (x : ℕ) → w ≡ Some x → x < n
+named n None b x e = let z : ◌≡◌ {A = ℕ} 0 1 = cc in absurd (omega arith)
+named n (Some y) b x e = let z : y ≡ x = cc in subst (λ (j : ℕ). j < n) z b
 
 pub few : {n c k : ℕ} {s : State} {cpus : Cpus} → CanChoose n c k s cpus → k < 64
 few {c = c} a =
@@ -100,15 +96,15 @@ module _ (n c k time : ℕ) (s : State) (cpus : Cpus) (a : CanChoose n c k s cpu
 
   -- l: after the stealing
   module _ {runs : Bool} {x : ℕ} {l : Stealing} (hr : runs ≡ prev_runnable (state_in n s)) (hx : x ≡ s.cpu.block.sched_ctxt)
-      (hl : StealingTracks n c l (steal k runs (x ∷ names_of w.locked) (cpus_in c cpus) (picked_of w.winner) (state_in n t))) where
-    steals : steal k runs (x ∷ names_of w.locked) (cpus_in c cpus) (picked_of w.winner) (state_in n t) ≡ choose_and_steal k time (cpus_in c cpus) (state_in n s)
+      (hl : StealingTracks n c l (steal k runs (x ∷ option_to_list w.locked) (cpus_in c cpus) w.winner (state_in n t))) where
+    steals : steal k runs (x ∷ option_to_list w.locked) (cpus_in c cpus) w.winner (state_in n t) ≡ choose_and_steal k time (cpus_in c cpus) (state_in n s)
     unfolding choose_and_steal
     steals = λ i. steal k (hr i) (hx i ∷ (hw i).locked) (cpus_in c cpus) (hw i).winner (ht.is i)
 
     tracks : StealingTracks n c l (choose_and_steal k time (cpus_in c cpus) (state_in n s))
     tracks = subst (StealingTracks n c l) steals hl
 
-    pub moved : {stole : Bool} {rule : Rule} → stole ≡ names.is_some l.winner → rule ≡ rule_after stole w.rule
+    pub moved : {stole : Bool} {rule : Rule} → stole ≡ is_some l.winner → rule ≡ rule_after stole w.rule
         → NextTracks n c (record { state = l.state; cpus = l.cpus; context = l.winner; rule = rule }) (stolen k time (cpus_in c cpus) (state_in n s))
     moved {stole} {rule} hs hu =
         let L : model_steal.Stealing = choose_and_steal k time (cpus_in c cpus) (state_in n s) in
@@ -126,12 +122,12 @@ module _ (n c k time : ℕ) (s : State) (cpus : Cpus) (a : CanChoose n c k s cpu
 
     pub moved_fits : {rule : Rule} → l.state.no_room ≡ false → NextFits n t_timed b_stolen (record { state = l.state; cpus = l.cpus; context = l.winner; rule = rule })
     moved_fits h =
-        let L : model_steal.Stealing = steal k runs (x ∷ names_of w.locked) (cpus_in c cpus) (picked_of w.winner) (state_in n t) in
+        let L : model_steal.Stealing = steal k runs (x ∷ option_to_list w.locked) (cpus_in c cpus) w.winner (state_in n t) in
         let p : stealing_in n c l ≡ L = hl.is (sym hl.room ∙ h) in
-        let f : StealingFits n L = steal_fits k runs (x ∷ names_of w.locked) (cpus_in c cpus) (picked_of w.winner) (state_in n t) a.others.fit (named n w.winner hb) t_fits in
+        let f : StealingFits n L = steal_fits k runs (x ∷ option_to_list w.locked) (cpus_in c cpus) w.winner (state_in n t) a.others.fit (named n w.winner hb) t_fits in
         record {
           fits = subst (λ (z : model_steal.Stealing). StateFits n z.state) (sym p) f.state;
           below = subst (λ (z : model_steal.Stealing). StateBelow n t_timed b_stolen (placed z.state)) (sym p)
-              (steal_below k runs (x ∷ names_of w.locked) (cpus_in c cpus) (picked_of w.winner) (state_in n t) t_fits a.others.fit (cpus_ranged cpus a.all a.others) t_below);
+              (steal_below k runs (x ∷ option_to_list w.locked) (cpus_in c cpus) w.winner (state_in n t) t_fits a.others.fit (cpus_ranged cpus a.all a.others) t_below);
           named = λ y e. f.named y (ap (λ (z : model_steal.Stealing). z.winner) (sym p) ∙ e);
         }

@@ -1,7 +1,7 @@
 -- The choice leaves every state in its ranges, and what grows within its bounds. Assumes nothing.
+use Rattle.std.specs.Prelude.{None, Option, Some, is_some}
 use mathlib.Core.Path.{◌≡◌, refl, sym, ◌∙◌, subst}
 use mathlib.Core.List.{List, [], ◌∷◌, map}
-use mathlib.Core.Option.{Option, none, some}
 use Prim.Native.Nat.{ℕ, zero, suc, ◌-◌, ◌<◌, ◌≤◌}
 use lib.ListN.{length, set, take, length-set}
 use Rattle.columns.specs.Common.{All}
@@ -17,7 +17,7 @@ use Rattle.percpu.specs.With.{block_v, block_total_weight, block_published_weigh
 use Rattle.machine.specs.Machine.{context_at, no_context}
 use Rattle.machine.specs.Shape.{ContextFits, EntryFits}
 use Rattle.machine.proofs.Steps.{get_d_set}
-use Rattle.model.specs.State.{State, at, put_context, on_cpu, is_some}
+use Rattle.model.specs.State.{State, at, put_context, on_cpu}
 use Rattle.model.specs.Scan.{Scan, Visit, pass, gone, blocked, no_addr_space, ready, visit, visited, scan_step, scan_start, scan}
 use Rattle.model.specs.Choice as kernel
 use Rattle.model.specs.Choice.{ineligible_holder}
@@ -35,7 +35,7 @@ use Rattle.plain_model.specs.Schedule.{scanned, choice_of}
 use Rattle.plain_model.proofs.Placing.{leave_out_differs}
 use Rattle.plain_model.proofs.Chosen.{chosen_placed}
 use Rattle.plain_model.proofs.Decided.{scanned_is, choice_of_is}
-use Rattle.plain_lists.proofs.Listing.{length_entries}
+use Rattle.plain_lists.proofs.Listing.{length_items}
 use Rattle.plain_state.specs.declared.Cpu.{Cpu}
 use Rattle.plain_state.specs.States.{cpu_in, CpuSound}
 use Rattle.plain_state.specs.Fits.{StateFits}
@@ -109,9 +109,9 @@ module _ {n : ℕ} (k time : ℕ) (s : State) (f : StateFits n s) where
 v_fits : {n : ℕ} (v : ℕ) (s : State) → StateFits n s → StateFits n (on_cpu (cpu_v v) s)
 v_fits v s f = block_changed s f (block_v v s.cpu.block) (record { current = f.cpu.current; sched = f.cpu.sched; idle = f.cpu.idle })
 
-taken_fits : {n : ℕ} (o : Option ℕ) (s : State) → ((x : ℕ) → o ≡ some x → x < n) → StateFits n s → StateFits n (taken_out o s)
-taken_fits none s h f = f
-taken_fits {n} (some x) s h f =
+taken_fits : {n : ℕ} (o : Option ℕ) (s : State) → ((x : ℕ) → o ≡ Some x → x < n) → StateFits n s → StateFits n (taken_out o s)
+taken_fits None s h f = f
+taken_fits {n} (Some x) s h f =
     let o : ContextFits 4 (at s x) = f.context x (h x refl) in
     pick (StateFits n) (at s x).has_queue_key
     (λ e. key_removed (put_context x (without_key (at s x)) s) (context_put s f x (without_key (at s x)) (record { cpu_id = o.cpu_id; prio = o.prio; rem_slice = o.rem_slice })) (queue_key (at s x)))
@@ -119,7 +119,7 @@ taken_fits {n} (some x) s h f =
 
 -- the scan, the choice and what leaves the queue
 module _ {n : ℕ} (k time : ℕ) (s : State) (f : StateFits n s) where
-  pub chosen_fits : ((x : ℕ) → (choice_of k time s).winner ≡ some x → x < n) → StateFits n (chosen (choice_of k time s) (scanned k time s) s)
+  pub chosen_fits : ((x : ℕ) → (choice_of k time s).winner ≡ Some x → x < n) → StateFits n (chosen (choice_of k time s) (scanned k time s) s)
   unfolding chosen
   chosen_fits h =
       taken_fits (choice_of k time s).winner (on_cpu (cpu_v (choice_of k time s).v) (cleaned_up (scanned k time s) s)) h
@@ -138,7 +138,7 @@ all_ranged zero l a b = tt
 all_ranged (suc c) [] a b = tt
 all_ranged (suc c) (p ∷ l) a b =
     let z : p.queue.len ≤ 64 = a.0.queue.used in
-    (record { below = b.0; few = rw (length_entries p.queue a.0.queue) z }, all_ranged c l a.1 b.1)
+    (record { below = b.0; few = rw (length_items p.queue) z }, all_ranged c l a.1 b.1)
 
 pub cpus_ranged : {n c : ℕ} (x : Cpus) → CpusSound c x → CpusReady n (cpus_in c x) → All (CpuRanged t_timed b_charged) (cpus_in c x)
 cpus_ranged {c = c} x o r = all_ranged c x.cpus o.each r.below

@@ -1,9 +1,8 @@
 -- Once an insertion found no room the mark stays to the end of a decision. Assumes nothing.
-use Rattle.std.specs.Prelude.{if◌then◌else◌}
+use Rattle.std.specs.Prelude.{if◌then◌else◌, None, Option, Some, is_some}
 use mathlib.Core.Path.{◌≡◌, refl, ◌∙◌}
 use mathlib.Core.Bool.{Bool, true, not, ◌&&◌, ◌||◌}
 use mathlib.Core.List.{List, [], ◌∷◌}
-use mathlib.Core.Option.{Option, none, some}
 use Prim.Native.Nat.{ℕ}
 use lib.Dec.{eqb}
 use lib.ListN.{get_or, length}
@@ -14,7 +13,7 @@ use Rattle.ticks.specs.declared.Spent.{Spent}
 use Rattle.percpu.specs.Cpu.{Cpu}
 use Rattle.machine.specs.Machine.{no_cpu}
 use Rattle.answer.specs.declared.Rule.{Rule}
-use Rattle.model.specs.State.{State, at, put_context, is_some, holder}
+use Rattle.model.specs.State.{State, at, put_context, holder}
 use Rattle.model.specs.Scan.{Scan}
 use Rattle.model.specs.Steal.{Stealing, Moving, should_steal, can_steal_from}
 use Rattle.model.specs.Handover.{advance, hand_over}
@@ -33,8 +32,8 @@ Full s = s.no_room ≡ true
 
 -- the choice inserts nothing
 taken_room : (o : Option ℕ) (s : State) → (taken_out o s).no_room ≡ s.no_room
-taken_room none s = refl
-taken_room (some x) s = pick (λ (z : State). z.no_room ≡ s.no_room) (at s x).has_queue_key (λ t. refl) (λ t. refl)
+taken_room None s = refl
+taken_room (Some x) s = pick (λ (z : State). z.no_room ≡ s.no_room) (at s x).has_queue_key (λ t. refl) (λ t. refl)
 
 pub chosen_room : (w : Choice) (f : Scan) (s : State) → (chosen w f s).no_room ≡ s.no_room
 unfolding chosen cleaned_up
@@ -85,5 +84,5 @@ selected_full k time n cpus s h = settled_full _ _ _ (steal_full k _ _ cpus _ _ 
 
 pub picked_full : (time : ℕ) (was : Bool) (rule : Rule) (cpus : List Cpu) (o : Option ℕ) (s : State) → Full s → Full (picked_as time was rule cpus o s).state
 unfolding picked_as hand_over
-picked_full time was rule cpus none s h = h
-picked_full time was rule cpus (some x) s h = h
+picked_full time was rule cpus None s h = h
+picked_full time was rule cpus (Some x) s h = h

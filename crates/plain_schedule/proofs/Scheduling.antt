@@ -1,7 +1,7 @@
 -- The stages of a decision put together. Assumes nothing.
+use Rattle.std.specs.Prelude.{None, Option, Some}
 use mathlib.Core.Path.{◌≡◌, refl, sym, ap, ◌∙◌, subst}
 use mathlib.Core.Bool.{Bool, true, false}
-use mathlib.Core.Option.{Option, none, some}
 use Prim.Native.Nat.{ℕ, ◌<◌, ◌≤◌}
 use native.Mathlib.Omega.{arith}
 use Rattle.numbers.specs.Limits.{max_number}
@@ -18,9 +18,6 @@ use Rattle.model.proofs.Cases.{never}
 use Rattle.stages.specs.Stage.{StateBelow}
 use Rattle.stages.specs.Bounds.{t_timed, t_handed, b_stolen, b_advanced, max_gain}
 use Rattle.stages.proofs.Kept.{state_more}
-use Rattle.picked.specs.declared.Picked.{Picked}
-use Rattle.picked.specs.declared.Picked.TheVariants.{Nobody, Somebody}
-use Rattle.picked.specs.Names.{picked_of}
 use Rattle.plain_model.specs.State.{placed}
 use Rattle.plain_model.specs.Turn.{before_choice}
 use Rattle.plain_model.specs.Handover.{settled}
@@ -56,8 +53,8 @@ module _ (n c k time : ℕ) (s : State) (cpus : Cpus) (e : Spent) {runs : Bool} 
     settle_asks l = record { sound = (hm.sound, (fm h).fits, omega arith); state_below = (fm h).below }
 
     -- t: V has advanced, and a holder that lost is back in the queue; w: who gets the slice
-    module _ {t : State} {w : Picked} (ht : Tracks n t (settled runs e.ticks (stealing_of (state_in n m.state) (picked_of m.context))))
-        (hw : picked_of w ≡ next_context runs (picked_of m.context) (state_in n t)) where
+    module _ {t : State} {w : Option ℕ} (ht : Tracks n t (settled runs e.ticks (stealing_of (state_in n m.state) m.context)))
+        (hw : w ≡ next_context runs m.context (state_in n t)) where
       pub settled_next : NextTracks n c (record { state = t; cpus = m.cpus; context = w; rule = m.rule }) (of_selected (selected k time e (cpus_in c cpus) (state_in n s)))
       unfolding selected settled
       settled_next =
@@ -71,7 +68,7 @@ module _ (n c k time : ℕ) (s : State) (cpus : Cpus) (e : Spent) {runs : Bool} 
             is =
                 λ z.
                 let q : state_in n t ≡ settled (prev_runnable (state_in n s)) e.ticks L = v.is z in
-                let u : picked_of w ≡ next_context (prev_runnable (state_in n s)) L.winner (settled (prev_runnable (state_in n s)) e.ticks L)
+                let u : w ≡ next_context (prev_runnable (state_in n s)) L.winner (settled (prev_runnable (state_in n s)) e.ticks L)
                 = hw ∙ (λ i. next_context (hr i) (p i).picked (q i)) in
                 λ i. record { state = q i; cpus = (p i).cpus; picked = u i; rule = (p i).rule };
           }
@@ -79,16 +76,16 @@ module _ (n c k time : ℕ) (s : State) (cpus : Cpus) (e : Spent) {runs : Bool} 
       pub settled_next_fits : e.ticks ≤ max_ticks → t.no_room ≡ false → NextFits n t_timed b_advanced (record { state = t; cpus = m.cpus; context = w; rule = m.rule })
       settled_next_fits l y =
           let S : model.State = state_in n m.state in
-          let q : state_in n t ≡ settled runs e.ticks (stealing_of S (picked_of m.context)) = ht.is (sym ht.room ∙ y) in
-          let f : StateFits n (state_in n t) = subst (StateFits n) (sym q) (settled_fits S (fm h).fits runs (picked_of m.context) e.ticks) in
+          let q : state_in n t ≡ settled runs e.ticks (stealing_of S m.context) = ht.is (sym ht.room ∙ y) in
+          let f : StateFits n (state_in n t) = subst (StateFits n) (sym q) (settled_fits S (fm h).fits runs m.context e.ticks) in
           record {
             fits = f;
             below = subst (λ (z : model.State). StateBelow n t_timed b_advanced (placed z)) (sym q)
-                (settled_below S (fm h).fits (sound_fits m.state hm.sound (fm h).fits) (fm h).below runs (picked_of m.context) e.ticks (omega arith));
-            named = λ x j. next_below (state_in n t) f runs (picked_of m.context) (fm h).named x (sym hw ∙ j);
+                (settled_below S (fm h).fits (sound_fits m.state hm.sound (fm h).fits) (fm h).below runs m.context e.ticks (omega arith));
+            named = λ x j. next_below (state_in n t) f runs m.context (fm h).named x (sym hw ∙ j);
           }
 
-same : {x y : ℕ} → some x ≡ some y → x ≡ y
+same : {x y : ℕ} → Some x ≡ Some y → x ≡ y
 same e = cc
 
 -- the slice changes hands, or the holder keeps it
@@ -96,36 +93,36 @@ module _ {n c : ℕ} (time : ℕ) (was : Bool) (m : Next) (o : Sound n m.state) 
   abbrev handed : Option ℕ → Scheduled
   handed w = picked_as time was m.rule (cpus_in c m.cpus) w (state_in n m.state)
 
-  nobody : m.context ≡ Nobody → NextTracks n c m (handed none)
+  nobody : m.context ≡ None → NextTracks n c m (handed None)
   unfolding picked_as
   nobody e =
-      record { sound = o; cpus = a; room = refl; is = λ z i. record { state = state_in n m.state; cpus = cpus_in c m.cpus; picked = ap picked_of e i; rule = m.rule } }
+      record { sound = o; cpus = a; room = refl; is = λ z i. record { state = state_in n m.state; cpus = cpus_in c m.cpus; picked = e i; rule = m.rule } }
 
-  pub kept : m.context ≡ Nobody → NextTracks n c m (handed (picked_of m.context))
-  kept e = subst (λ (w : Option ℕ). NextTracks n c m (handed w)) (sym (ap picked_of e)) (nobody e)
+  pub kept : m.context ≡ None → NextTracks n c m (handed m.context)
+  kept e = subst (λ (w : Option ℕ). NextTracks n c m (handed w)) (sym e) (nobody e)
 
   pub kept_fits : NextFits n t_handed b_advanced m
   kept_fits = record { fits = f.fits; below = state_more (omega arith) (omega arith) f.below; named = f.named }
 
-  module _ {x : ℕ} (e : m.context ≡ Somebody x) where
+  module _ {x : ℕ} (e : m.context ≡ Some x) where
     pub next_named : x < n
-    next_named = f.named x (ap picked_of e)
+    next_named = f.named x e
 
     module _ {t : State} (b : Became n t (hand_over time was x (state_in n m.state))) where
-      somebody : NextTracks n c (record { state = t; cpus = m.cpus; context = Somebody x; rule = m.rule }) (handed (some x))
+      somebody : NextTracks n c (record { state = t; cpus = m.cpus; context = Some x; rule = m.rule }) (handed (Some x))
       unfolding picked_as
       somebody =
           record {
             sound = b.sound;
             cpus = a;
             room = ap (λ (z : model.State). z.no_room) b.is;
-            is = λ z i. record { state = b.is i; cpus = cpus_in c m.cpus; picked = some x; rule = m.rule };
+            is = λ z i. record { state = b.is i; cpus = cpus_in c m.cpus; picked = Some x; rule = m.rule };
           }
 
-      pub given : NextTracks n c (record { state = t; cpus = m.cpus; context = Somebody x; rule = m.rule }) (handed (picked_of m.context))
-      given = subst (λ (w : Option ℕ). NextTracks n c (record { state = t; cpus = m.cpus; context = Somebody x; rule = m.rule }) (handed w)) (sym (ap picked_of e)) somebody
+      pub given : NextTracks n c (record { state = t; cpus = m.cpus; context = Some x; rule = m.rule }) (handed m.context)
+      given = subst (λ (w : Option ℕ). NextTracks n c (record { state = t; cpus = m.cpus; context = Some x; rule = m.rule }) (handed w)) (sym e) somebody
 
-      pub given_fits : time ≤ max_number → NextFits n t_handed b_advanced (record { state = t; cpus = m.cpus; context = Somebody x; rule = m.rule })
+      pub given_fits : time ≤ max_number → NextFits n t_handed b_advanced (record { state = t; cpus = m.cpus; context = Some x; rule = m.rule })
       given_fits l =
           record {
             fits = subst (StateFits n) (sym b.is) (hand_over_fits (state_in n m.state) f.fits time was x next_named);
@@ -139,7 +136,7 @@ module _ (n c k time : ℕ) (s : State) (cpus : Cpus) (a : CpusSound c cpus) {r 
   abbrev ends : Selected
   ends = selected k time (spent time (state_in n s).cpu) (cpus_in c cpus) (before_choice time (state_in n s))
 
-  pub no_turn : {w : Picked} {u : Rule} → r.state.no_room ≡ true → NextTracks n c (record { state = r.state; cpus = cpus; context = w; rule = u }) (schedule k time (cpus_in c cpus) (state_in n s))
+  pub no_turn : {w : Option ℕ} {u : Rule} → r.state.no_room ≡ true → NextTracks n c (record { state = r.state; cpus = cpus; context = w; rule = u }) (schedule k time (cpus_in c cpus) (state_in n s))
   unfolding schedule
   no_turn h =
       without_room e.tracks.sound a h
@@ -165,7 +162,7 @@ module _ (n c k time : ℕ) (s : State) (cpus : Cpus) (a : CpusSound c cpus) {r 
           (picked_full time (was_idle (state_in n s).cpu) ends.rule ends.cpus ends.next ends.state (sym turned.room ∙ y))
 
       pub scheduled : {g : Next} → m.state.no_room ≡ false
-          → NextTracks n c g (picked_as time r.was_idle m.rule (cpus_in c m.cpus) (picked_of m.context) (state_in n m.state))
+          → NextTracks n c g (picked_as time r.was_idle m.rule (cpus_in c m.cpus) m.context (state_in n m.state))
           → NextTracks n c g (schedule k time (cpus_in c cpus) (state_in n s))
       unfolding schedule
       scheduled {g} y hg =

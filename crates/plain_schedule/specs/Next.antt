@@ -1,11 +1,8 @@
 -- What the parts of a decision ask for, and what they leave. Assumes nothing.
-use Rattle.std.specs.Prelude.{◌≡◌, false, List, ℕ, ◌<◌}
-use Rattle.std.proofs.Math.Option.{some}
+use Rattle.std.specs.Prelude.{◌≡◌, false, List, ℕ, ◌<◌, Some, is_some}
 use Rattle.columns.specs.Common.{All}
 use Rattle.percpu.specs.Cpu.{Cpu}
-use Rattle.picked.specs.Names.{picked_of}
 use Rattle.model.specs.State as model
-use Rattle.model.specs.State.{is_some}
 use Rattle.model.specs.Schedule.{Selected, Scheduled}
 use Rattle.plain_model.specs.State.{placed, placed_cpu}
 use Rattle.plain_model.specs.Choice.{rule_after}
@@ -36,7 +33,7 @@ pub record CanChoose (n c k : ℕ) (s : State) (cpus : Cpus) : Type 0 where
 
 -- of c CPUs and n contexts
 abbrev pub next_in : ℕ → ℕ → Next → Scheduled
-next_in n c r = record { state = state_in n r.state; cpus = cpus_in c r.cpus; picked = picked_of r.context; rule = r.rule }
+next_in n c r = record { state = state_in n r.state; cpus = cpus_in c r.cpus; picked = r.context; rule = r.rule }
 
 -- r stands for D where there was room; whether there was, in any case
 pub record NextTracks (n c : ℕ) (r : Next) (D : Scheduled) : Type 0 where
@@ -49,7 +46,7 @@ pub record NextTracks (n c : ℕ) (r : Next) (D : Scheduled) : Type 0 where
 pub record NextFits (n t b : ℕ) (r : Next) : Type 0 where
   pub fits : StateFits n (state_in n r.state)
   pub below : StateBelow n t b (placed (state_in n r.state))
-  pub named : (x : ℕ) → picked_of r.context ≡ some x → x < n
+  pub named : (x : ℕ) → r.context ≡ Some x → x < n
 
 -- the choice and the stealing, where s is the state before them: who won, and by which rule
 abbrev pub stolen : (k time : ℕ) → List Cpu → model.State → Scheduled

@@ -5,7 +5,6 @@
 ghost use Rattle.std.specs.Prelude.{◌≡◌, false, ◌<◌, ◌≤◌};
 ghost use Rattle.numbers.specs.Limits.{max_number};
 ghost use Rattle.ticks.specs.Ticks.{max_ticks};
-ghost use Rattle.picked.specs.Names.{picked_of};
 ghost use Rattle.model.specs.State.{prev_runnable};
 ghost use Rattle.model.specs.Schedule.{picked_as};
 ghost use Rattle.plain_model.specs.Choice.{rule_after};
@@ -17,7 +16,6 @@ ghost use Rattle.plain_steal.specs.Stealing.{cpus_in, CpusSound};
 ghost use Rattle.plain_schedule.specs.Next.{CpusReady, CanChoose, NextTracks, NextFits, stolen, of_selected};
 
 use answer::Rule;
-use picked::Picked;
 use plain_candidates::Locked;
 use plain_state::State;
 use plain_steal::Cpus;
@@ -28,7 +26,7 @@ use ticks::Spent;
 pub struct Next {
     pub state: State,
     pub cpus: Cpus,
-    pub context: Picked,
+    pub context: Option<usize>,
     pub rule: Rule,
 }
 
@@ -37,23 +35,20 @@ fn prev_runnable(s: State, n: usize) -> bool
     requires { (Sound n s) × (s.cpu.block.sched_ctxt < n) }
     ensures { result ≡ prev_runnable (state_in n s) }
 {
-    let cpu = s.cpu;
-    let b = cpu.block;
+    let b = s.cpu.block;
     if b.sched_ctxt == b.idle_ctxt {
         return false;
     }
     let x = numbers::index(b.sched_ctxt);
     let q = s.context(n, x);
-    let status = q.status;
-    status.is_runnable()
+    q.status.is_runnable()
 }
 
 // Where nobody waited, the one who won was stolen.
 fn rule_after(stole: bool, rule: Rule) -> Rule
     ensures { result ≡ rule_after stole rule }
 {
-    let idle = answer::rule_number(rule) == answer::rule_number(Rule::Idle);
-    if numbers::both(idle, stole) {
+    if stole && rule == Rule::Idle {
         return Rule::Stolen;
     }
     rule
@@ -74,27 +69,18 @@ fn choose_and_steal(
     ensures next_tracks { NextTracks n c result (stolen k time (cpus_in c cpus) (state_in n s)) }
     ensures next_fits { result.state.no_room ≡ false → NextFits n t_timed b_stolen result }
 {
-    let cpu = s.cpu;
-    let b = cpu.block;
     let selected = plain_select::select(s, n, k, time);
     let choice = selected.choice;
-    let chosen = selected.state;
-    let winner = choice.winner;
-    let best = choice.locked;
-    let rule = choice.rule;
     let locked = Locked {
-        sched_ctxt: numbers::index(b.sched_ctxt),
-        best: best,
+        sched_ctxt: numbers::index(s.cpu.block.sched_ctxt),
+        best: choice.locked,
     };
-    let moved = plain_steal::steal(chosen, n, c, k, runs, locked, cpus, winner);
-    let state = moved.state;
-    let others = moved.cpus;
-    let left = moved.winner;
+    let moved = plain_steal::steal(selected.state, n, c, k, runs, locked, cpus, choice.winner);
     Next {
-        state: state,
-        cpus: others,
-        context: left,
-        rule: rule_after(left.is_some(), rule),
+        state: moved.state,
+        cpus: moved.cpus,
+        context: moved.winner,
+        rule: rule_after(moved.winner.is_some(), choice.rule),
     }
 }
 
@@ -111,15 +97,12 @@ fn selected(s: State, n: usize, c: usize, k: usize, time: u64, spent: Spent, cpu
     if after.no_room {
         return moved;
     }
-    let winner = moved.context;
-    let others = moved.cpus;
-    let rule = moved.rule;
-    let state = plain_handover::settle(after, n, runs, winner, spent.ticks);
+    let state = plain_handover::settle(after, n, runs, moved.context, spent.ticks);
     Next {
-        state: state,
-        cpus: others,
-        context: plain_handover::next_context(state, n, runs, winner),
-        rule: rule,
+        state,
+        cpus: moved.cpus,
+        context: plain_handover::next_context(state, n, runs, moved.context),
+        rule: moved.rule,
     }
 }
 
@@ -127,24 +110,17 @@ fn selected(s: State, n: usize, c: usize, k: usize, time: u64, spent: Spent, cpu
 fn hand_over(next: Next, n: usize, c: usize, time: u64, was_idle: bool) -> Next
     requires sound { (Sound n next.state) × (CpusSound c next.cpus) × (time ≤ max_number) }
     requires next_fits { NextFits n t_timed b_advanced next }
-    ensures next_tracks { NextTracks n c result (picked_as time was_idle next.rule (cpus_in c next.cpus) (picked_of next.context) (state_in n next.state)) }
+    ensures next_tracks { NextTracks n c result (picked_as time was_idle next.rule (cpus_in c next.cpus) next.context (state_in n next.state)) }
     ensures next_fits_2 { NextFits n t_handed b_advanced result }
 {
-    let context = next.context;
-    match context {
-        Picked::Nobody => next,
-        Picked::Somebody(x) => {
-            let state = next.state;
-            let cpus = next.cpus;
-            let rule = next.rule;
-            let after = plain_handover::hand_over(state, n, time, was_idle, x);
-            Next {
-                state: after,
-                cpus: cpus,
-                context: Picked::Somebody(x),
-                rule: rule,
-            }
-        }
+    match next.context {
+        None => next,
+        Some(x) => Next {
+            state: plain_handover::hand_over(next.state, n, time, was_idle, x),
+            cpus: next.cpus,
+            context: Some(x),
+            rule: next.rule,
+        },
     }
 }
 
@@ -161,9 +137,9 @@ pub fn schedule(s: State, n: usize, c: usize, k: usize, time: u64, cpus: Cpus) -
     let spent = turned.spent;
     if state.no_room {
         return Next {
-            state: state,
-            cpus: cpus,
-            context: Picked::Nobody,
+            state,
+            cpus,
+            context: None,
             rule: Rule::Idle,
         };
     }

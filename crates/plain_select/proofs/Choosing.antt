@@ -1,7 +1,7 @@
 -- The choice of what the scan found, and the whole of it. Assumes nothing.
+use Rattle.std.specs.Prelude.{None, Option, Some}
 use mathlib.Core.Path.{◌≡◌, refl, sym, ap, ◌∙◌}
 use mathlib.Core.Bool.{◌&&◌}
-use mathlib.Core.Option.{Option, none, some}
 use Prim.Native.Nat.{ℕ, ◌<◌}
 use native.Mathlib.Omega.{arith}
 use lib.Dec.{ltb, leb, eqb}
@@ -9,13 +9,8 @@ use Rattle.context.specs.declared.Context.{Context}
 use Rattle.entries.specs.declared.Entry.{Entry}
 use Rattle.model.specs.State as model
 use Rattle.model.proofs.Cases.{pick}
-use Rattle.picked.specs.declared.Picked.{Picked}
-use Rattle.picked.specs.declared.Picked.TheVariants as picked
-use Rattle.picked.specs.Names.{picked_of}
-use Rattle.select_judge.specs.declared.Best.{Best}
-use Rattle.select_judge.specs.declared.Best.TheVariants.{Nobody, Found}
 use Rattle.select_judge.specs.declared.Holder.{Holder}
-use Rattle.select_judge.specs.Values.{best_of, BestBelow, WinnerBelow}
+use Rattle.select_judge.specs.Values.{BestBelow, WinnerBelow}
 use Rattle.select_judge.specs.Holding.{Holding}
 use Rattle.plain_model.specs.Choice as plain
 use Rattle.plain_model.specs.Schedule.{scanned}
@@ -28,24 +23,24 @@ use Rattle.plain_scan.specs.declared.Scan.{Scan}
 use Rattle.plain_scan.specs.Scanned as scans
 use Rattle.plain_select.specs.Started.{BestContext}
 
-pub nobody_best : BestContext Nobody 0
+pub nobody_best : BestContext None 0
 nobody_best = record { below = λ n h b. h; is = λ e h. let z : ◌≡◌ {A = ℕ} 0 1 = cc in absurd (omega arith) }
 
-pub found_best : (best : Best) (e : Entry) {x : ℕ} → best ≡ Found e → x ≡ e.context_ref → BestContext best x
+pub found_best : (best : (Option Entry)) (e : Entry) {x : ℕ} → best ≡ Some e → x ≡ e.context_ref → BestContext best x
 found_best best e {x} p y =
     record {
-      below = λ n h b. let c : BestBelow n (Found e) = rw p at b in rw y c;
-      is = λ f h. let q : some e ≡ some f = sym (ap best_of p) ∙ h in y ∙ (let z : e ≡ f = cc in ap (λ (g : Entry). g.context_ref) z);
+      below = λ n h b. let c : BestBelow n (Some e) = rw p at b in rw y c;
+      is = λ f h. let q : Some e ≡ Some f = sym p ∙ h in y ∙ (let z : e ≡ f = cc in ap (λ (g : Entry). g.context_ref) z);
     }
 
 -- whoever wins is one of the entries found
 Below : ℕ → Option ℕ → Type 0
-Below n none = Unit {0}
-Below n (some x) = x < n
+Below n None = Unit {0}
+Below n (Some x) = x < n
 
 EntryBelow : (n : ℕ) → Option Entry → Type 0
-EntryBelow n none = Unit {0}
-EntryBelow n (some e) = e.context_ref < n
+EntryBelow n None = Unit {0}
+EntryBelow n (Some e) = e.context_ref < n
 
 module _ (n : ℕ) (h : Holder) (q : Context) where
   Wins : plain.Choice → Type 0
@@ -59,36 +54,36 @@ module _ (n : ℕ) (h : Holder) (q : Context) where
 
   nobody_below : (late : Option Entry) → EntryBelow n late → Wins (nobody h late)
   unfolding alone late_entry Below Wins EntryBelow
-  nobody_below none b = pick Wins h.runnable (λ t. tt) (λ t. tt)
-  nobody_below (some e) b =
+  nobody_below None b = pick Wins h.runnable (λ t. tt) (λ t. tt)
+  nobody_below (Some e) b =
       pick Wins (h.runnable && leb h.vtime e.vtime) (λ t. tt) (λ t. pick Wins (h.runnable && leb h.vd e.key.vd) (λ u. tt) (λ u. b))
 
   table_below : (best late : Option Entry) → EntryBelow n best → EntryBelow n late → Wins (choice h best late q)
   unfolding without_entry Below Wins EntryBelow
-  table_below none late a b = pick Wins h.eligible (λ t. tt) (λ t. nobody_below late b)
-  table_below (some e) late a b = against_below late e a
+  table_below None late a b = pick Wins h.eligible (λ t. tt) (λ t. nobody_below late b)
+  table_below (Some e) late a b = against_below late e a
 
-best_is : (n : ℕ) (b : Best) → BestBelow n b → EntryBelow n (best_of b)
+best_is : (n : ℕ) (b : (Option Entry)) → BestBelow n b → EntryBelow n b
 unfolding EntryBelow
-best_is n Nobody h = tt
-best_is n (Found e) h = h
+best_is n None h = tt
+best_is n (Some e) h = h
 
-winner_is : (n : ℕ) (w : Picked) → Below n (picked_of w) → WinnerBelow n w
+winner_is : (n : ℕ) (w : Option ℕ) → Below n w → WinnerBelow n w
 unfolding Below
-winner_is n picked.Nobody h = tt
-winner_is n (picked.Somebody x) h = h
+winner_is n None h = tt
+winner_is n (Some x) h = h
 
-module _ (n : ℕ) (f : Scan) (h : Holder) (o : scans.Sound n f) (q : Context) (r : Choice) (e : choice_of r ≡ choice h (best_of f.eligible_best) (best_of f.ineligible_best) q) where
+module _ (n : ℕ) (f : Scan) (h : Holder) (o : scans.Sound n f) (q : Context) (r : Choice) (e : choice_of r ≡ choice h f.eligible_best f.ineligible_best q) where
   pub winner_fits : WinnerBelow n r.winner
   unfolding Wins
   winner_fits =
       winner_is n r.winner
-      (rw (← (ap (λ (c : plain.Choice). c.winner) e)) at (table_below n h q (best_of f.eligible_best) (best_of f.ineligible_best) (best_is n f.eligible_best o.best) (best_is n f.ineligible_best o.late)))
+      (rw (← (ap (λ (c : plain.Choice). c.winner) e)) at (table_below n h q f.eligible_best f.ineligible_best (best_is n f.eligible_best o.best) (best_is n f.ineligible_best o.late)))
 
   pub chooses : {x : ℕ} → BestContext f.eligible_best x → q ≡ scans.record_in n f x → (s : model.State) → Holding h s → choice_of r ≡ plain.choice s (scans.scan_of n f)
   chooses {x} b k s g =
       e
-      ∙ is_choice h s (scans.scan_of n f) g (best_of f.eligible_best) (best_of f.ineligible_best) q refl refl
+      ∙ is_choice h s (scans.scan_of n f) g f.eligible_best f.ineligible_best q refl refl
       (λ d m. k ∙ ap (scans.record_in n f) (b.is d m))
 
 -- the scan, the choice and the clean-up together

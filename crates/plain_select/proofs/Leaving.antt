@@ -6,7 +6,6 @@ use mathlib.Core.List.{List, [], ◌∷◌, ◌++◌, map}
 use Rattle.columns.proofs.Tests.{never}
 use Rattle.context.specs.declared.Context.{Context}
 use Rattle.context.specs.Key.{queue_key, without_key}
-use Rattle.picked.specs.Names.{picked_of}
 use Rattle.plain_choice.specs.declared.Choice.{Choice}
 use Rattle.plain_choice.specs.Table.{choice_of}
 use Prim.Native.Nat.{ℕ, ◌+◌, ◌-◌, ◌<◌, ◌≤◌}
@@ -21,9 +20,9 @@ use Rattle.model.specs.State as model
 use Rattle.model.specs.State.{at, put_context, on_cpu}
 use Rattle.plain_model.specs.State.{queue_without, remove_key}
 use Rattle.plain_model.specs.Choice.{without_keys, cleaned_up, dequeued, taken_out, chosen}
-use Rattle.plain_lists.specs.declared.Queue.{Queue}
+use Rattle.plain_lists.specs.Lists.{Queue}
 use Rattle.plain_lists.specs.Lists.{entries_of, Sized, Stands}
-use Rattle.plain_lists.proofs.Listing.{length_entries}
+use Rattle.plain_lists.proofs.Listing.{sized, length_items}
 use Rattle.plain_state.specs.declared.State.{State}
 use Rattle.plain_state.specs.States.{state_in, Sound, Became}
 use Rattle.plain_scan.specs.declared.Scan.{Scan}
@@ -31,14 +30,6 @@ use Rattle.plain_scan.specs.Scanned as scanned
 
 abbrev pub keys_of : List Entry → List Key
 keys_of l = map (λ (e : Entry). e.key) l
-
-pub record Leaving (q leaving out : Queue) (i : ℕ) : Type 0 where
-  pub sized : Sized leaving
-  pub most : i ≤ leaving.len
-  pub stands : Stands out (without_keys (entries_of q) (keys_of (take i (entries_of leaving))))
-
-pub none_left : (q leaving : Queue) → Sized q → Sized leaving → Leaving q leaving q 0
-none_left q l s t = record { sized = t; most = omega arith; stands = record { sized = s; is = refl } }
 
 keys_behind : (l : List Entry) (e : Entry) → keys_of (l ++ (e ∷ [])) ≡ keys_of l ++ (e.key ∷ [])
 keys_behind [] e = refl
@@ -48,27 +39,15 @@ without_behind : (q : List Entry) (ks : List Key) (k : Key) → without_keys q (
 without_behind q [] k = refl
 without_behind q (x ∷ ks) k = without_behind (queue_without x q) ks k
 
-module _ (q l out : Queue) (i : ℕ) (c : Leaving q l out i) (h : i < l.len) (d : Entry) where
-  pub one_leaves : {r : Queue} → Stands r (queue_without (get_or l.entries i d).key (entries_of out)) → Leaving q l r (i + 1)
-  one_leaves {r} s =
-      let n : length (entries_of l) ≡ l.len = length_entries l c.sized in
-      record {
-        sized = c.sized;
-        most = omega arith;
-        stands = record {
-          sized = s.sized;
-          is =
-              s.is ∙ ap (queue_without (get_or l.entries i d).key) c.stands.is
-              ∙ sym
-              (rw (add-one i, take-suc (entries_of l) i d (omega arith), get_or-take l.len l.entries i d h, keys_behind (take i (entries_of l)) (get_or l.entries i d))
-              (without_behind (entries_of q) (keys_of (take i (entries_of l))) (get_or l.entries i d).key));
-        };
-      }
+-- m: without the keys of the first i of l
+pub one_leaves : (q l m : List Entry) (i : ℕ) (d : Entry) → i < length l → m ≡ without_keys q (keys_of (take i l))
+    → {r : Queue} → Stands r (queue_without (get_or l i d).key m) → entries_of r ≡ without_keys q (keys_of (take (i + 1) l))
+one_leaves q l m i d h c {r} s =
+    s.is ∙ ap (queue_without (get_or l i d).key) c
+    ∙ sym (rw (add-one i, take-suc l i d h, keys_behind (take i l) (get_or l i d)) (without_behind q (keys_of (take i l)) (get_or l i d).key))
 
-pub all_left : (q l out : Queue) (i : ℕ) → Leaving q l out i → l.len ≤ i → Stands out (without_keys (entries_of q) (keys_of (entries_of l)))
-all_left q l out i c h =
-    let n : length (entries_of l) ≡ l.len = length_entries l c.sized in
-    record { sized = c.stands.sized; is = c.stands.is ∙ ap (λ (z : List Entry). without_keys (entries_of q) (keys_of z)) (take_all i (entries_of l) (omega arith)) }
+pub all_left : (q l m : List Entry) (out : Queue) (i : ℕ) → entries_of out ≡ without_keys q (keys_of (take i l)) → length l ≤ i → l ≡ m → Stands out (without_keys q (keys_of m))
+all_left q l m out i c h e = record { sized = sized out; is = c ∙ ap (λ (z : List Entry). without_keys q (keys_of z)) (take_all i l h ∙ e) }
 
 -- the state after it
 module _ (n : ℕ) (s : State) (f : Scan) (o : Sound n s) (g : scanned.Sound n f) where
@@ -113,7 +92,7 @@ module _ (n : ℕ) (s : State) (f : Scan) (o : Sound n s) (g : scanned.Sound n f
         sound = record { few = o.few; contexts = g.contexts; queue = t.sized; timers = o.timers; local = o.local; ipi = o.ipi; flat = o.flat };
         is =
             ap (λ (z : List Entry). placed_as z len total) t.is
-            ∙ ap (λ (m : ℕ). placed_as left m total) (e ∙ sym (length_entries q t.sized) ∙ ap length t.is)
+            ∙ ap (λ (m : ℕ). placed_as left m total) (e ∙ sym (length_items q) ∙ ap length t.is)
             ∙ ap (λ (m : ℕ). placed_as left (length left) m) w;
       }
 
@@ -150,10 +129,10 @@ module _ (n x : ℕ) (s : State) (q : Context) (e : q ≡ at (state_in n s) x) w
       holds false p u w = refl
 
 pub chosen_all : (n : ℕ) (s : State) (f : Scan) (w : Choice) {t u r : State} → Became n t (cleaned_up (scanned.scan_of n f) (state_in n s))
-    → Became n u (on_cpu (cpu_v w.v) (state_in n t)) → Became n r (taken_out (picked_of w.winner) (state_in n u)) → Became n r (chosen (choice_of w) (scanned.scan_of n f) (state_in n s))
+    → Became n u (on_cpu (cpu_v w.v) (state_in n t)) → Became n r (taken_out w.winner (state_in n u)) → Became n r (chosen (choice_of w) (scanned.scan_of n f) (state_in n s))
 unfolding chosen
 chosen_all n s f w a b c =
     record {
       sound = c.sound;
-      is = c.is ∙ ap (taken_out (picked_of w.winner)) (b.is ∙ ap (on_cpu (cpu_v w.v)) a.is);
+      is = c.is ∙ ap (taken_out w.winner) (b.is ∙ ap (on_cpu (cpu_v w.v)) a.is);
     }

@@ -1,7 +1,7 @@
 -- The scan of the state's queue, from its parts. Assumes nothing.
+use Rattle.std.specs.Prelude.{None, Option}
 use mathlib.Core.Path.{◌≡◌, refl, ap, ◌∙◌}
 use mathlib.Core.List.{List, [], map}
-use mathlib.Core.Option.{Option, none}
 use Prim.Native.Nat.{ℕ}
 use lib.ListN.{take}
 use Rattle.columns.specs.Common.{fold}
@@ -14,15 +14,13 @@ use Rattle.model.specs.State as model
 use Rattle.model.specs.Scan as kernel
 use Rattle.model.specs.Scan.{judge}
 use Rattle.model.specs.Choice.{ineligible_holder}
-use Rattle.select_judge.specs.declared.MinVtime.{MinVtime}
 use Rattle.select_judge.specs.declared.Scanner.{Scanner}
-use Rattle.select_judge.specs.declared.Best.TheVariants.{Nobody}
-use Rattle.select_judge.specs.Values.{vtime_of, cpu_with, scanner_cpu}
+use Rattle.select_judge.specs.Values.{cpu_with, scanner_cpu}
 use Rattle.select_judge.specs.Holding.{Scanning}
 use Rattle.plain_model.specs.Rank.{by_rank}
 use Rattle.plain_model.specs.Scan.{looked_at, scan_step, scan}
 use Rattle.plain_model.specs.Schedule.{scanned}
-use Rattle.plain_lists.specs.declared.Queue.{Queue}
+use Rattle.plain_lists.specs.Lists.{Queue}
 use Rattle.plain_lists.specs.Lists.{entries_of, Stands}
 use Rattle.plain_state.specs.declared.State.{State}
 use Rattle.plain_state.specs.States.{state_in, Sound}
@@ -30,7 +28,7 @@ use Rattle.plain_scan.specs.declared.Scan.{Scan}
 use Rattle.plain_scan.specs.Scanned as scans
 use Rattle.plain_select.specs.Started.{Started}
 
-pub scanning : (k time : ℕ) (b : PercpuBlock) (late : MinVtime) {x : ℕ} → x ≡ k → (s : model.State) → b ≡ s.cpu.block → vtime_of late ≡ ineligible_holder s
+pub scanning : (k time : ℕ) (b : PercpuBlock) (late : Option ℕ) {x : ℕ} → x ≡ k → (s : model.State) → b ≡ s.cpu.block → late ≡ ineligible_holder s
     → Scanning k time (record { cpu_id = x; time = time; idle_ctxt = b.idle_ctxt; sched_ctxt = b.sched_ctxt; current_ctxt = b.current_ctxt; v = b.v; ineligible_holder = late }) s
 scanning k time b late e s hb hl =
     record {
@@ -44,12 +42,12 @@ scanning k time b late e s hb hl =
     }
 
 pub started : (n : ℕ) (s : State) {q : Queue} → Sound n s → Stands q [] → q.len ≡ 0
-    → Started n s (record { contexts = s.contexts; eligible_best = Nobody; ineligible_best = Nobody; weight_change = 0; leaving = q })
+    → Started n s (record { contexts = s.contexts; eligible_best = None; ineligible_best = None; weight_change = 0; leaving = q })
 started n s {q} o t l =
     record {
       sound = record { contexts = o.contexts; few = o.few; leaving = t.sized; best = tt; late = tt };
       is =
-          ap (λ (z : List Entry). record { contexts = take n s.contexts; eligible_best = none; ineligible_best = none; weight_change = 0; contexts_to_remove = map (λ (e : Entry). e.key) z }) t.is;
+          ap (λ (z : List Entry). record { contexts = take n s.contexts; eligible_best = None; ineligible_best = None; weight_change = 0; contexts_to_remove = map (λ (e : Entry). e.key) z }) t.is;
       none_leave = l;
       no_weight = refl;
     }
@@ -64,7 +62,7 @@ module _ (n k time : ℕ) (s : State) (t : Scanner) (o : Scanning k time t (stat
   abbrev es : List Entry
   es = entries_of s.cpu.queue
 
-  by_scanner : scan t.cpu_id t.time (scanner_cpu t) (vtime_of t.ineligible_holder) (take n s.contexts) es ≡ scanned k time (state_in n s)
+  by_scanner : scan t.cpu_id t.time (scanner_cpu t) t.ineligible_holder (take n s.contexts) es ≡ scanned k time (state_in n s)
   by_scanner =
       (λ i. scan (o.cpu_id i) (o.time_is i) (cpu_with (o.idle i) (o.sched i) (o.current i) (o.v i)) (o.ineligible i) (take n s.contexts) es)
       ∙ scan_with k time (state_in n s).cpu (ineligible_holder (state_in n s)) (take n s.contexts) es
@@ -73,7 +71,7 @@ module _ (n k time : ℕ) (s : State) (t : Scanner) (o : Scanning k time t (stat
   unfolding scan
   scanned_all {f} {r} b c = (
     c.is
-        ∙ ap (λ (z : kernel.Scan). fold (scan_step t.cpu_id t.time (scanner_cpu t) (vtime_of t.ineligible_holder)) z (by_rank entry_before es)) b.is
+        ∙ ap (λ (z : kernel.Scan). fold (scan_step t.cpu_id t.time (scanner_cpu t) t.ineligible_holder) z (by_rank entry_before es)) b.is
         ∙ by_scanner,
     c.sound,
   )

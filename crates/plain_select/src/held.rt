@@ -1,21 +1,20 @@
 // The holder as the choice sees it.
+// Its own code and not select_judge's: the plain engine shares no function of a stage with the fast one.
 ghost use Rattle.std.specs.Prelude.{◌≡◌};
 ghost use Rattle.model.specs.State.{State, holder};
 ghost use Rattle.model.specs.Choice.{ineligible_holder};
-ghost use Rattle.select_judge.specs.Values.{vtime_of};
 ghost use Rattle.select_judge.specs.Holding.{Holding};
 
 use context::Context;
 use percpu::PercpuBlock;
-use select_judge::{Holder, MinVtime};
+use select_judge::Holder;
 
 // The holder's record is q, its CPU's block b.
 pub fn holder_in(b: PercpuBlock, q: Context) -> Holder
     ensures { (s : State) → b ≡ s.cpu.block → q ≡ holder s → Holding result s }
 {
-    let status = q.status;
     let idle = b.sched_ctxt == b.idle_ctxt;
-    let runs = status.is_runnable();
+    let runs = q.status.is_runnable();
     let runnable = numbers::both(!idle, runs);
     let on_time = q.vtime <= b.v;
     let eligible = numbers::both(runnable, on_time);
@@ -30,11 +29,11 @@ pub fn holder_in(b: PercpuBlock, q: Context) -> Holder
 }
 
 // The vtime of a runnable holder that is late.
-pub fn late_holder(h: Holder) -> MinVtime
-    ensures { (s : State) → Holding h s → vtime_of result ≡ ineligible_holder s }
+pub fn late_holder(h: Holder) -> Option<u64>
+    ensures { (s : State) → Holding h s → result ≡ ineligible_holder s }
 {
     if numbers::both(h.runnable, !h.eligible) {
-        return MinVtime::At(h.vtime);
+        return Some(h.vtime);
     }
-    MinVtime::Nobody
+    None
 }

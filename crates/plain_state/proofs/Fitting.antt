@@ -1,10 +1,9 @@
 -- A state that fits goes on fitting through each step; placed, it is within the bounds of the kernel's. Assumes nothing.
-use mathlib.Core.Path.{◌≡◌, ◌∙◌}
+use mathlib.Core.Path.{◌∙◌}
 use mathlib.Core.Bool.{Bool, not}
-use mathlib.Core.List.{List, [], ◌∷◌, ◌++◌}
+use mathlib.Core.List.{[], ◌∷◌, ◌++◌}
 use Prim.Native.Nat.{ℕ, ◌<◌, ◌≤◌}
-use native.Mathlib.Omega.{arith}
-use lib.ListN.{length, length-set, length-take, length-map}
+use lib.ListN.{length, length-set, length-map}
 use Rattle.columns.specs.Common.{All, keep}
 use Rattle.columns.proofs.Keep.{all_keep}
 use Rattle.context.specs.declared.Context.{Context}
@@ -30,10 +29,10 @@ use Rattle.plain_model.specs.State.{insert_entry, insert_timer, insert_newest_ti
 use Rattle.plain_model.proofs.Ranked.{by_rank_sorted, keep_differs, length_by_rank}
 use Rattle.plain_model.proofs.Placing.{put_in_differs, leave_out_differs}
 use Rattle.plain_lists.specs.Lists.{entries_of}
-use Rattle.plain_lists.proofs.Listing.{length_entries}
-use Rattle.plain_state.specs.declared.Names.{Names}
+use Rattle.plain_lists.proofs.Listing.{length_items}
+use Rattle.plain_state.specs.States.{Names}
 use Rattle.plain_state.specs.declared.State as code
-use Rattle.plain_state.specs.States.{list_of, timer_of, state_in, NamesSized, Sound}
+use Rattle.plain_state.specs.States.{list_of, timer_of, state_in, Sound}
 use Rattle.plain_state.specs.Fits.{CpuFitsInAnyOrder, StateFits}
 pub use Rattle.plain_state.proofs.Parts.{all_behind, all_left, all_put, all_placed, placed_all, queue_fits, timers_fit, local_fits, block_fits, remainder_fits}
 
@@ -120,19 +119,16 @@ module _ {n : ℕ} (p : Cpu) (o : CpuFitsInAnyOrder n p) where
         remainder = o.remainder;
       }
 
-names_few : (l : Names) → NamesSized l → length (list_of l) ≤ 64
-names_few l z =
-    let a : length l.names ≡ 64 = z.places in
-    let u : l.len ≤ 64 = z.used in
-    rw (length-take l.len l.names) (omega arith)
+names_few : (l : Names) → length (list_of l) ≤ 64
+names_few l = let u : l.len ≤ 64 = l.fits.used in rw (length_items l) u
 
 -- the state of the code
 pub sound_fits : {n : ℕ} (s : code.State) → Sound n s → StateFits n (state_in n s) → CpuFits n (placed_cpu (state_in n s).cpu)
 sound_fits {n} s o f =
     let q : s.cpu.queue.len ≤ 64 = o.queue.used in
     let t : s.cpu.timers.len ≤ 64 = o.timers.used in
-    placed_fits (state_in n s).cpu f.cpu (rw (length_entries s.cpu.queue o.queue) q)
-    (rw (length-map (entries_of s.cpu.timers) timer_of, length_entries s.cpu.timers o.timers) t) (names_few s.cpu.local o.local) (names_few s.cpu.ipi o.ipi)
+    placed_fits (state_in n s).cpu f.cpu (rw (length_items s.cpu.queue) q)
+    (rw (length-map (entries_of s.cpu.timers) timer_of, length_items s.cpu.timers) t) (names_few s.cpu.local) (names_few s.cpu.ipi)
 
 -- what the bounds of the placed state say of the lists in any order; of contexts and block they say the same
 module _ {n t b : ℕ} (s : State) (o : StateBelow n t b (placed s)) where

@@ -5,15 +5,13 @@ use mathlib.Core.Bool.{Bool, true, false, ◌||◌}
 use mathlib.Core.List.{List, [], ◌∷◌, ◌++◌, map}
 use mathlib.Core.Logic.{◌≢◌}
 use lib.Dec.{ltb}
-use lib.Seq.{take-suc-set}
-use native.Mathlib.Numerals.{add-one}
 use borrow.Author.Tests.{le-ltb}
 use Rattle.columns.specs.Common.{keep, All}
 use Rattle.columns.proofs.Keep.{all_keep}
 use Rattle.columns.proofs.Tests.{never}
 use Prim.Native.Nat.{ℕ, ◌+◌, ◌<◌, ◌≤◌}
 use native.Mathlib.Omega.{arith}
-use lib.ListN.{length, get_or, take, set, length-set, length-map, length-append, length-take}
+use lib.ListN.{length, get_or, take, set, length-set, length-map, length-append}
 use Rattle.context.specs.declared.Context.{Context}
 use Rattle.entries.specs.declared.Key.{Key}
 use Rattle.entries.specs.declared.Entry.{Entry}
@@ -26,13 +24,13 @@ use Rattle.model.specs.State as model
 use Rattle.model.specs.State.{at, put_context, push_local, too_many}
 use Rattle.plain_model.specs.Rank.{other_key, leave_out, put_in}
 use Rattle.plain_model.specs.State.{insert_entry, insert_timer, insert_newest_timer, remove_key, queue_without}
-use Rattle.plain_lists.specs.declared.Queue.{Queue}
-use Rattle.plain_lists.specs.Lists.{entries_of, Sized, Stands}
+use Rattle.plain_lists.specs.Lists.{Queue}
+use Rattle.plain_lists.specs.Lists.{entries_of, Stands}
 use Rattle.plain_lists.proofs.Arrays.{read_front, take_set}
-use Rattle.plain_lists.proofs.Listing.{length_entries}
-use Rattle.plain_state.specs.declared.Names.{Names}
+use Rattle.plain_lists.proofs.Listing.{length_items, sized}
+use Rattle.plain_state.specs.States.{Names}
 use Rattle.plain_state.specs.declared.State.{State}
-use Rattle.plain_state.specs.States.{list_of, timer_of, stands_beside, cpu_in, state_in, queue_put, timers_put, NamesSized, Sound, Became, Tracks}
+use Rattle.plain_state.specs.States.{list_of, timer_of, stands_beside, cpu_in, state_in, queue_put, timers_put, Sound, Became, Tracks}
 
 module _ (n : ℕ) (s : State) (o : Sound n s) where
   pub context_is : (x : ℕ) (d : Context) → x < n → get_or s.contexts x d ≡ at (state_in n s) x
@@ -65,26 +63,25 @@ module _ (n : ℕ) (s : State) (o : Sound n s) where
         no_room = full;
       }
 
-  pub queue_became : (q : Queue) (full : Bool) {l : ℕ} {b : Bool} → Sized q → l ≡ q.len → b ≡ (s.no_room || full)
-      → Became n (with_queue q l b) (queue_put (entries_of q) q.len full (state_in n s))
-  queue_became q full {l} {b} z e f =
+  or_false : (a : Bool) → (a || false) ≡ a
+  or_false true = refl
+  or_false false = refl
+
+  pub queue_became : (q : Queue) {l : ℕ} → l ≡ q.len → Became n (with_queue q l s.no_room) (queue_put (entries_of q) q.len false (state_in n s))
+  queue_became q {l} e =
       record {
-        sound = record { few = o.few; contexts = o.contexts; queue = z; timers = o.timers; local = o.local; ipi = o.ipi; flat = o.flat };
-        is = rw (e, f);
+        sound = record { few = o.few; contexts = o.contexts; queue = sized q; timers = o.timers; local = o.local; ipi = o.ipi; flat = o.flat };
+        is = rw (e, or_false s.no_room);
       }
 
   abbrev xs : List Entry
   xs = entries_of s.cpu.queue
 
-  or_false : (a : Bool) → (a || false) ≡ a
-  or_false true = refl
-  or_false false = refl
-
   -- the queue by the list that it stands for
   put_as : {q : Queue} (l : List Entry) (full : Bool) → Stands q l → queue_put (entries_of q) q.len full (state_in n s) ≡ queue_put l (length l) full (state_in n s)
   put_as {q} l full t =
       ap (λ (z : List Entry). queue_put z q.len full (state_in n s)) t.is
-      ∙ ap (λ (m : ℕ). queue_put l m full (state_in n s)) (sym (length_entries q t.sized) ∙ ap length t.is)
+      ∙ ap (λ (m : ℕ). queue_put l m full (state_in n s)) (sym (length_items q) ∙ ap length t.is)
 
   pub removed : (k : Key) {q : Queue} {r : State} → Stands q (queue_without k xs) → Became n r (queue_put (entries_of q) q.len false (state_in n s)) → Became n r (remove_key k (state_in n s))
   removed k {q} {r} t b =
@@ -95,21 +92,23 @@ module _ (n : ℕ) (s : State) (o : Sound n s) where
             ∙ (λ i. record { contexts = (state_in n s).contexts; cpu = (remove_key k (state_in n s)).cpu; no_room = or_false s.no_room i });
       }
 
-  or_neither : (a b : Bool) → (a || b) ≡ false → b ≡ false
-  or_neither true b e = let z : ◌≡◌ {A = ℕ} 0 1 = cc in absurd (omega arith)
-  or_neither false b e = e
+  pub inserted : (e : Entry) {q : Queue} {r : State} → false ≡ too_many (put_in entry_before e xs) → Stands q (put_in entry_before e xs)
+      → Became n r (queue_put (entries_of q) q.len false (state_in n s)) → Tracks n r (insert_entry e (state_in n s))
+  inserted e {q} {r} f t b =
+      let w : state_in n r ≡ insert_entry e (state_in n s) =
+      b.is ∙ put_as (put_in entry_before e xs) false t
+      ∙ ap (λ (z : Bool). queue_put (put_in entry_before e xs) (length (put_in entry_before e xs)) z (state_in n s)) f in
+      record { sound = b.sound; room = ap (λ (z : model.State). z.no_room) w; is = λ h. w }
 
-  pub inserted : (e : Entry) {q : Queue} {r : State} {full : Bool} → full ≡ too_many (put_in entry_before e xs) → (full ≡ false → Stands q (put_in entry_before e xs))
-      → Became n r (queue_put (entries_of q) q.len full (state_in n s)) → Tracks n r (insert_entry e (state_in n s))
-  inserted e {q} {r} {full} f t b =
-      record {
-        sound = b.sound;
-        room = ap (λ (z : model.State). z.no_room) b.is ∙ ap (λ (z : Bool). s.no_room || z) f;
-        is =
-            λ h.
-            b.is ∙ put_as (put_in entry_before e xs) full (t (f ∙ or_neither s.no_room (too_many (put_in entry_before e xs)) h))
-            ∙ ap (λ (z : Bool). queue_put (put_in entry_before e xs) (length (put_in entry_before e xs)) z (state_in n s)) f;
-      }
+or_true : (a b : Bool) → b ≡ true → (a || b) ≡ true
+or_true true b e = refl
+or_true false b e = e
+
+-- an insertion that leaves too many
+pub full : (n : ℕ) (a b : Bool) {r : State} (S : model.State) → Sound n r × (r.no_room ≡ true) → b ≡ true → S.no_room ≡ (a || b) → Tracks n r S
+full n a b {r} S o e h =
+    let m : S.no_room ≡ true = h ∙ or_true a b e in
+    record { sound = o.0; room = o.1 ∙ sym m; is = λ z. never (sym m ∙ z) }
 
 -- a timer's order is that of its entry
 module _ where
@@ -145,17 +144,8 @@ module _ where
       go [] h = (p, tt)
       go (f ∷ x) h = (h.0, go x h.1)
 
-pushed_length : (l : Names) → NamesSized l → (x : ℕ) → length (list_of l ++ (x ∷ [])) ≡ l.len + 1
-pushed_length l z x =
-    let a : length l.names ≡ 64 = z.places in
-    let u : l.len ≤ 64 = z.used in
-    rw (length-append (list_of l) (x ∷ []), length-take l.len l.names) (omega arith)
-
-pub names_pushed : (l : Names) (x : ℕ) → NamesSized l → l.len < 64
-    → NamesSized (record { names = set l.names l.len x; len = l.len + 1 }) × (take (l.len + 1) (set l.names l.len x) ≡ list_of l ++ (x ∷ []))
-names_pushed l x z h =
-    let a : length l.names ≡ 64 = z.places in
-    (record { places = length-set l.names l.len x ∙ a; used = omega arith }, rw (add-one l.len) (take-suc-set l.names l.len x (omega arith)))
+pushed_length : (l : Names) (x : ℕ) → length (list_of l ++ (x ∷ [])) ≡ l.len + 1
+pushed_length l x = rw (length-append (list_of l) (x ∷ []), length_items l)
 
 module _ (n : ℕ) (s : State) (o : Sound n s) where
   abbrev with_timers : Queue → Bool → State
@@ -166,12 +156,16 @@ module _ (n : ℕ) (s : State) (o : Sound n s) where
         no_room = full;
       }
 
-  pub timers_became : (q : Queue) (full : Bool) {b : Bool} → Sized q → All (λ (e : Entry). e.key.rem_slice ≡ 0) (entries_of q) → b ≡ (s.no_room || full)
-      → Became n (with_timers q b) (timers_put (map timer_of (entries_of q)) full (state_in n s))
-  timers_became q full {b} z a f =
+  no_more : (a : Bool) → (a || false) ≡ a
+  no_more true = refl
+  no_more false = refl
+
+  pub timers_became : (q : Queue) → All (λ (e : Entry). e.key.rem_slice ≡ 0) (entries_of q)
+      → Became n (with_timers q s.no_room) (timers_put (map timer_of (entries_of q)) false (state_in n s))
+  timers_became q a =
       record {
-        sound = record { few = o.few; contexts = o.contexts; queue = o.queue; timers = z; local = o.local; ipi = o.ipi; flat = a };
-        is = rw f;
+        sound = record { few = o.few; contexts = o.contexts; queue = o.queue; timers = sized q; local = o.local; ipi = o.ipi; flat = a };
+        is = rw (no_more s.no_room);
       }
 
   abbrev ts : List Entry
@@ -182,52 +176,34 @@ module _ (n : ℕ) (s : State) (o : Sound n s) where
   many_is e t k p =
       ap (λ (m : ℕ). ltb 64 m) (sym (length-map (put_in entry_before e ts) timer_of) ∙ ap length (put_in_timers e ts p o.flat ∙ ap (λ (z : Timer). put_in sooner z (map timer_of ts)) k))
 
-  or_true : (a b : Bool) → b ≡ true → (a || b) ≡ true
-  or_true true b e = refl
-  or_true false b e = e
+  pub timer_full : (e : Entry) (t : Timer) {r : State} → timer_of e ≡ t → e.key.rem_slice ≡ 0 → true ≡ too_many (put_in entry_before e ts)
+      → Sound n r × (r.no_room ≡ true) → Tracks n r (insert_timer t (state_in n s))
+  timer_full e t {r} k p f b =
+      full n s.no_room (too_many (put_in sooner t (map timer_of ts))) (insert_timer t (state_in n s)) b (sym (many_is e t k p) ∙ sym f) refl
 
-  pub timer_full : (e : Entry) (t : Timer) {r : State} {full : Bool} → timer_of e ≡ t → e.key.rem_slice ≡ 0 → full ≡ too_many (put_in entry_before e ts) → full ≡ true
-      → Became n r (timers_put (map timer_of ts) true (state_in n s)) → Tracks n r (insert_timer t (state_in n s))
-  timer_full e t {r} {full} k p f h b =
-      let m : too_many (put_in sooner t (map timer_of ts)) ≡ true = sym (many_is e t k p) ∙ sym f ∙ h in
-      record {
-        sound = b.sound;
-        room = ap (λ (z : model.State). z.no_room) b.is ∙ or_true s.no_room true refl ∙ sym (or_true s.no_room (too_many (put_in sooner t (map timer_of ts))) m);
-        is = λ z. never (sym (or_true s.no_room (too_many (put_in sooner t (map timer_of ts))) m) ∙ z);
-      }
-
-  pub timer_put : (e : Entry) (t : Timer) {q : Queue} {r : State} {full : Bool} → timer_of e ≡ t → e.key.rem_slice ≡ 0 → full ≡ too_many (put_in entry_before e ts) → full ≡ false
+  pub timer_put : (e : Entry) (t : Timer) {q : Queue} {r : State} → timer_of e ≡ t → e.key.rem_slice ≡ 0 → false ≡ too_many (put_in entry_before e ts)
       → Stands q (put_in entry_before e ts) → Became n r (timers_put (map timer_of (entries_of q)) false (state_in n s)) → Tracks n r (insert_timer t (state_in n s))
-  timer_put e t {q} {r} {full} k p f h u b =
-      let m : too_many (put_in sooner t (map timer_of ts)) ≡ false = sym (many_is e t k p) ∙ sym f ∙ h in
+  timer_put e t {q} {r} k p f u b =
+      let m : too_many (put_in sooner t (map timer_of ts)) ≡ false = sym (many_is e t k p) ∙ sym f in
       let l : map timer_of (entries_of q) ≡ put_in sooner t (map timer_of ts) = ap (map timer_of) u.is ∙ put_in_timers e ts p o.flat ∙ ap (λ (z : Timer). put_in sooner z (map timer_of ts)) k in
       let w : state_in n r ≡ insert_timer t (state_in n s) = b.is ∙ (let z : false ≡ too_many (put_in sooner t (map timer_of ts)) = sym m in λ i. timers_put (l i) (z i) (state_in n s)) in
       record { sound = b.sound; room = ap (λ (z : model.State). z.no_room) w; is = λ z. w }
 
   -- the local list
-  pub local_full : (x : ℕ) → s.cpu.local.len ≡ 64 → Tracks n (record { contexts = s.contexts; cpu = s.cpu; no_room = true }) (push_local x (state_in n s))
-  local_full x h =
-      let m : too_many (list_of s.cpu.local ++ (x ∷ [])) ≡ true = rw (pushed_length s.cpu.local o.local x, h) in
-      record {
-        sound = record { few = o.few; contexts = o.contexts; queue = o.queue; timers = o.timers; local = o.local; ipi = o.ipi; flat = o.flat };
-        room = sym (or_true s.no_room (too_many (list_of s.cpu.local ++ (x ∷ []))) m);
-        is = λ z. never (sym (or_true s.no_room (too_many (list_of s.cpu.local ++ (x ∷ []))) m) ∙ z);
-      }
+  pub local_full : (x : ℕ) {r : State} → s.cpu.local.len ≡ 64 → Sound n r × (r.no_room ≡ true) → Tracks n r (push_local x (state_in n s))
+  local_full x {r} h b =
+      full n s.no_room (too_many (list_of s.cpu.local ++ (x ∷ []))) (push_local x (state_in n s)) b (rw (pushed_length s.cpu.local x, h)) refl
 
-  pub local_pushed : (x : ℕ) (l : Names) → s.cpu.local.len ≢ 64 → NamesSized l → list_of l ≡ list_of s.cpu.local ++ (x ∷ [])
+  pub local_pushed : (x : ℕ) (l : Names) → s.cpu.local.len ≢ 64 → Stands l (list_of s.cpu.local ++ (x ∷ []))
       → Tracks n (record { contexts = s.contexts; cpu = record { block = s.cpu.block; queue = s.cpu.queue; timers = s.cpu.timers; local = l; ipi = s.cpu.ipi; remainder = s.cpu.remainder }; no_room = s.no_room }) (push_local x (state_in n s))
-  local_pushed x l h z e =
-      let u : s.cpu.local.len ≤ 64 = o.local.used in
-      let m : too_many (list_of s.cpu.local ++ (x ∷ [])) ≡ false = rw (pushed_length s.cpu.local o.local x) (le-ltb 64 (s.cpu.local.len + 1) (omega arith)) in
+  local_pushed x l h t =
+      let u : s.cpu.local.len ≤ 64 = s.cpu.local.fits.used in
+      let m : too_many (list_of s.cpu.local ++ (x ∷ [])) ≡ false = rw (pushed_length s.cpu.local x) (le-ltb 64 (s.cpu.local.len + 1) (omega arith)) in
       record {
-        sound = record { few = o.few; contexts = o.contexts; queue = o.queue; timers = o.timers; local = z; ipi = o.ipi; flat = o.flat };
+        sound = record { few = o.few; contexts = o.contexts; queue = o.queue; timers = o.timers; local = t.sized; ipi = o.ipi; flat = o.flat };
         room = rw m (sym (no_more s.no_room));
-        is = λ y. rw (e, m, no_more s.no_room);
+        is = λ y. rw (t.is, m, no_more s.no_room);
       }
-    where
-      no_more : (a : Bool) → (a || false) ≡ a
-      no_more true = refl
-      no_more false = refl
 
 pub still_flat : (n : ℕ) (s : State) → Sound n s → (e : Entry) {q : Queue} → e.key.rem_slice ≡ 0 → Stands q (put_in entry_before e (entries_of s.cpu.timers))
     → All (λ (f : Entry). f.key.rem_slice ≡ 0) (entries_of q)

@@ -1,6 +1,6 @@
 -- Steps put together: what follows a state that found no room does not matter, as the mark stays. Assumes nothing.
 use mathlib.Core.Path.{◌≡◌, sym, ap, ◌∙◌, subst}
-use mathlib.Core.Bool.{Bool, true, false}
+use mathlib.Core.Bool.{true}
 use Prim.Native.Nat.{ℕ}
 use Rattle.model.specs.State as model
 use Rattle.model.proofs.Cases.{by_test, never}

@@ -7,13 +7,16 @@ use Rattle.entries.specs.Order.{superseded}
 use Rattle.percpu.specs.Cpu as model
 use Rattle.percpu.specs.With.{cpu_queue, cpu_timers, cpu_queue_len}
 use Rattle.model.specs.State as model_state
-use Rattle.plain_lists.specs.Lists.{entries_of, Sized}
-use Rattle.plain_state.specs.declared.Names.{Names}
+use Rattle.plain_lists.specs.declared.fixed.FixedVec.{FixedVec}
+use Rattle.plain_lists.specs.Lists.{items_of, entries_of, Sized}
 use Rattle.plain_state.specs.declared.Cpu.{Cpu}
 use Rattle.plain_state.specs.declared.State.{State}
 
+abbrev pub Names : Type 0
+Names = FixedVec ℕ 64
+
 abbrev pub list_of : Names → List ℕ
-list_of l = take l.len l.names
+list_of l = items_of l
 
 abbrev pub timer_of : Entry → Timer
 timer_of e = record { wake = e.key.vd; context_ref = e.key.ctxt_id }
@@ -37,9 +40,8 @@ cpu_in p =
 abbrev pub state_in : ℕ → State → model_state.State
 state_in n s = record { contexts = take n s.contexts; cpu = cpu_in s.cpu; no_room = s.no_room }
 
-pub record NamesSized (l : Names) : Type 0 where
-  pub places : length l.names ≡ 64
-  pub used : l.len ≤ 64
+abbrev pub NamesSized : Names → Type 0
+NamesSized l = Sized l
 
 -- the arrays of a CPU have 64 places; timers go by wake, then by context
 pub record CpuSound (p : Cpu) : Type 0 where

@@ -1,25 +1,21 @@
 // The state of a decision of the plain engine, by value: the contexts, and the CPU that decides with its lists in any order.
 #![tactic(auto)]
 
-ghost use Rattle.std.specs.Prelude.{◌≡◌, [], ◌∷◌, ◌++◌, map, ◌<◌, ◌≤◌};
+ghost use Rattle.std.specs.Prelude.{◌≡◌, true, false, map, ◌<◌, ◌≤◌};
 ghost use Rattle.columns.specs.Common.{All, keep};
 ghost use Rattle.entries.specs.declared.Entry.{Entry};
 ghost use Rattle.model.specs.State.{at, put_context, push_local};
 ghost use Rattle.plain_model.specs.State.{insert_entry, insert_timer, insert_newest_timer, remove_key};
-ghost use Rattle.plain_state.specs.States.{list_of, timer_of, stands_beside, state_in, queue_put, timers_put, NamesSized, Sound, Became, Tracks};
-ghost use Rattle.plain_lists.specs.Lists.{entries_of, Sized, Stands};
+ghost use Rattle.plain_state.specs.States.{timer_of, stands_beside, state_in, queue_put, timers_put, Sound, Became, Tracks};
+ghost use Rattle.plain_lists.specs.Lists.{entries_of, Stands};
 
 use context::Context;
 use entries::{Entry, Key, Timer};
 use percpu::PercpuBlock;
-use plain_lists::Queue;
+use plain_lists::{FixedVec, Queue};
 
-// A list of contexts by their numbers.
-#[derive(Clone, Copy)]
-pub struct Names {
-    pub names: [u64; 64],
-    pub len: usize,
-}
+// Contexts by their numbers.
+pub type Names = FixedVec<u64, 64>;
 
 // A timer stands in its queue as an entry: its wake is the deadline, its context the id.
 #[derive(Clone, Copy)]
@@ -36,24 +32,8 @@ pub struct Cpu {
 pub struct State {
     pub contexts: [Context; 64],
     pub cpu: Cpu,
-    // an insertion found no room
+    // An insertion found no room: a flag as in the definitions and no error, as the plain engine has no early exits.
     pub no_room: bool,
-}
-
-impl Names {
-    // A name behind the others.
-    fn push(self, x: u64) -> Names
-        requires { (NamesSized self) × (self.len < 64) }
-        ensures { (NamesSized result) × (list_of result ≡ list_of self ++ (x ∷ [])) }
-    {
-        let mut names = self.names;
-        let len = self.len;
-        names[len] = x;
-        Names {
-            names: names,
-            len: len + 1,
-        }
-    }
 }
 
 // A timer as an entry of its queue.
@@ -66,32 +46,28 @@ pub fn timer_entry(t: Timer) -> Entry
         ctxt_id: t.context_ref,
     };
     Entry {
-        key: key,
+        key,
         vtime: 0,
         weight: 0,
         context_ref: t.context_ref,
     }
 }
 
+// And back.
+pub fn timer_of(e: Entry) -> Timer
+    ensures { result ≡ timer_of e }
+{
+    Timer {
+        wake: e.key.vd,
+        context_ref: e.key.ctxt_id,
+    }
+}
+
 // The timers without every other of t's context.
 fn without_superseded(q: Queue, t: Timer) -> Queue
-    requires { Sized q }
-    ensures { (Stands result (keep (stands_beside t) (entries_of q))) × (result.len ≤ q.len) }
+    ensures { Stands result (keep (stands_beside t) (entries_of q)) }
 {
-    let mut out = q.none();
-    let mut i = 0;
-    while i < q.len {
-        let e = q.entries[i];
-        let key = e.key;
-        let u = Timer {
-            wake: key.vd,
-            context_ref: key.ctxt_id,
-        };
-        let b = t.supersedes(u);
-        out = out.push_if(!b, e);
-        i += 1;
-    }
-    out
+    q.retain(|e| !t.supersedes(timer_of(*e)))
 }
 
 impl State {
@@ -103,47 +79,31 @@ impl State {
         self.contexts[x]
     }
 
-    pub fn put_context(self, n: usize, x: usize, q: Context) -> State
+    pub fn put_context(mut self, n: usize, x: usize, q: Context) -> State
         requires sound { Sound n self }
         requires x_lt_n { x < n }
         ensures { Became n result (put_context x q (state_in n self)) }
     {
-        let mut contexts = self.contexts;
-        let cpu = self.cpu;
-        contexts[x] = q;
-        State {
-            contexts: contexts,
-            cpu: cpu,
-            no_room: self.no_room,
-        }
+        self.contexts[x] = q;
+        self
+    }
+
+    fn without_room(mut self, n: usize) -> State
+        requires { Sound n self }
+        ensures { (Sound n result) × (result.no_room ≡ true) }
+    {
+        self.no_room = true;
+        self
     }
 
     // The state with another queue, whose length is published.
-    fn with_queue(self, n: usize, q: Queue, full: bool) -> State
-        requires sound { Sound n self }
-        requires sized { Sized q }
-        ensures { Became n result (queue_put (entries_of q) q.len full (state_in n self)) }
+    fn with_queue(mut self, n: usize, q: Queue) -> State
+        requires { Sound n self }
+        ensures { Became n result (queue_put (entries_of q) q.len false (state_in n self)) }
     {
-        let contexts = self.contexts;
-        let cpu = self.cpu;
-        let mut block = cpu.block;
-        let timers = cpu.timers;
-        let local = cpu.local;
-        let ipi = cpu.ipi;
-        block.queue_len = numbers::word(q.len);
-        let changed = Cpu {
-            block: block,
-            queue: q,
-            timers: timers,
-            local: local,
-            ipi: ipi,
-            remainder: cpu.remainder,
-        };
-        State {
-            contexts: contexts,
-            cpu: changed,
-            no_room: numbers::either(self.no_room, full),
-        }
+        self.cpu.block.queue_len = numbers::word(q.len);
+        self.cpu.queue = q;
+        self
     }
 
     // An entry behind the others, in place of the one of its key.
@@ -151,11 +111,10 @@ impl State {
         requires { Sound n self }
         ensures { Tracks n result (insert_entry e (state_in n self)) }
     {
-        let cpu = self.cpu;
-        let queue = cpu.queue;
-        let put = queue.put_in(e);
-        let q = put.queue;
-        self.with_queue(n, q, put.full)
+        match self.cpu.queue.put_in(e) {
+            Some(q) => self.with_queue(n, q),
+            None => self.without_room(n),
+        }
     }
 
     // A key out of the queue.
@@ -163,37 +122,18 @@ impl State {
         requires { Sound n self }
         ensures { Became n result (remove_key k (state_in n self)) }
     {
-        let cpu = self.cpu;
-        let queue = cpu.queue;
-        let q = queue.leave_out(k);
-        self.with_queue(n, q, false)
+        let q = self.cpu.queue.leave_out(k);
+        self.with_queue(n, q)
     }
 
     // The state with other timers.
-    fn with_timers(self, n: usize, q: Queue, full: bool) -> State
+    fn with_timers(mut self, n: usize, q: Queue) -> State
         requires sound { Sound n self }
-        requires sized { (Sized q) × (All (λ (e : Entry). e.key.rem_slice ≡ 0) (entries_of q)) }
-        ensures { Became n result (timers_put (map timer_of (entries_of q)) full (state_in n self)) }
+        requires flat { All (λ (e : Entry). e.key.rem_slice ≡ 0) (entries_of q) }
+        ensures { Became n result (timers_put (map timer_of (entries_of q)) false (state_in n self)) }
     {
-        let contexts = self.contexts;
-        let cpu = self.cpu;
-        let block = cpu.block;
-        let queue = cpu.queue;
-        let local = cpu.local;
-        let ipi = cpu.ipi;
-        let changed = Cpu {
-            block: block,
-            queue: queue,
-            timers: q,
-            local: local,
-            ipi: ipi,
-            remainder: cpu.remainder,
-        };
-        State {
-            contexts: contexts,
-            cpu: changed,
-            no_room: numbers::either(self.no_room, full),
-        }
+        self.cpu.timers = q;
+        self
     }
 
     // A timer behind the others, in place of its equal.
@@ -201,15 +141,11 @@ impl State {
         requires { Sound n self }
         ensures { Tracks n result (insert_timer t (state_in n self)) }
     {
-        let cpu = self.cpu;
-        let timers = cpu.timers;
         let e = timer_entry(t);
-        let put = timers.put_in(e);
-        let q = put.queue;
-        if put.full {
-            return self.with_timers(n, timers, true);
+        match self.cpu.timers.put_in(e) {
+            Some(q) => self.with_timers(n, q),
+            None => self.without_room(n),
         }
-        self.with_timers(n, q, false)
     }
 
     // A timer that is put in, not back: every other of its context leaves first.
@@ -217,45 +153,19 @@ impl State {
         requires { Sound n self }
         ensures { Tracks n result (insert_newest_timer t (state_in n self)) }
     {
-        let cpu = self.cpu;
-        let timers = cpu.timers;
-        let q = without_superseded(timers, t);
-        let s = self.with_timers(n, q, false);
-        s.insert_timer(n, t)
+        let q = without_superseded(self.cpu.timers, t);
+        self.with_timers(n, q).insert_timer(n, t)
     }
 
     // A name behind the others of the local list.
-    pub fn push_local(self, n: usize, x: u64) -> State
+    pub fn push_local(mut self, n: usize, x: u64) -> State
         requires { Sound n self }
         ensures { Tracks n result (push_local x (state_in n self)) }
     {
-        let contexts = self.contexts;
-        let cpu = self.cpu;
-        let block = cpu.block;
-        let queue = cpu.queue;
-        let timers = cpu.timers;
-        let names = cpu.local;
-        let ipi = cpu.ipi;
-        if names.len == 64 {
-            return State {
-                contexts: contexts,
-                cpu: cpu,
-                no_room: true,
-            };
+        if self.cpu.local.len == 64 {
+            return self.without_room(n);
         }
-        let local = names.push(x);
-        let changed = Cpu {
-            block: block,
-            queue: queue,
-            timers: timers,
-            local: local,
-            ipi: ipi,
-            remainder: cpu.remainder,
-        };
-        State {
-            contexts: contexts,
-            cpu: changed,
-            no_room: self.no_room,
-        }
+        self.cpu.local = self.cpu.local.push(x);
+        self
     }
 }

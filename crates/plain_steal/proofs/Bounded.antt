@@ -1,6 +1,6 @@
 -- How far the stealing can make values grow: virtual times at most b become at most 2 b + 2^30. Assumes nothing.
+use Rattle.std.specs.Prelude.{Option}
 use Rattle.std.proofs.Common.{◌≡◌, ℕ, zero, suc, ◌+◌, ◌*◌, ◌<◌, ◌≤◌, Bool, false, List, [], ◌∷◌, length, get_or, sym, refl, subst, arith}
-use mathlib.Core.Option.{Option}
 use Rattle.columns.specs.Common.{fold, All}
 use Rattle.columns.specs.Blocks.{part}
 use Rattle.columns.proofs.Tests.{by_test, never}

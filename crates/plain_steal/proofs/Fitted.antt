@@ -1,6 +1,6 @@
 -- Stealing leaves every state and every CPU in its ranges. Assumes nothing.
-use Rattle.std.proofs.Common.{◌≡◌, ℕ, zero, suc, ◌+◌, ◌-◌, ◌%◌, ◌<◌, ◌≤◌, Bool, false, not, ◌||◌, List, [], ◌∷◌, length, get_or, subst, arith}
-use mathlib.Core.Option.{Option, some}
+use Rattle.std.specs.Prelude.{Option, Some}
+use Rattle.std.proofs.Common.{◌≡◌, ℕ, zero, suc, ◌+◌, ◌%◌, ◌<◌, ◌≤◌, Bool, false, not, ◌||◌, List, [], ◌∷◌, length, get_or, subst, arith}
 use Rattle.columns.specs.Common.{fold, All, is_empty}
 use Rattle.context.specs.declared.Context.{Context}
 use Rattle.context.specs.Key.{with_new_key, entry_of}
@@ -32,9 +32,9 @@ least x = omega arith
 
 -- whoever is named is one of the n contexts
 abbrev Named : ℕ → Option ℕ → Type 0
-Named n w = (x : ℕ) → w ≡ some x → x < n
+Named n w = (x : ℕ) → w ≡ Some x → x < n
 
-some_same : {x y : ℕ} → some x ≡ some y → x ≡ y
+some_same : {x y : ℕ} → Some x ≡ Some y → x ≡ y
 some_same e = cc
 
 module _ (n : ℕ) where
@@ -144,7 +144,7 @@ module _ {n : ℕ} (k : ℕ) (runs : Bool) (locked : List ℕ) where
   all_fit [] l o = o
   all_fit (t ∷ ts) l o = all_fit ts (steal_from k runs locked l t) (from_fits l t o)
 
-  pub steal_fits : (cpus : List Cpu) (w : Option ℕ) (s : State) → CpusFit n cpus → ((x : ℕ) → w ≡ some x → x < n) → StateFits n s → StealingFits n (steal k runs locked cpus w s)
+  pub steal_fits : (cpus : List Cpu) (w : Option ℕ) (s : State) → CpusFit n cpus → ((x : ℕ) → w ≡ Some x → x < n) → StateFits n s → StealingFits n (steal k runs locked cpus w s)
   unfolding steal
   steal_fits cpus w s a b f =
       let l : Stealing = record { state = on_cpu count_steal s; cpus = cpus; winner = w; done = false } in

@@ -1,4 +1,5 @@
 -- CPUs by their numbers, and the victim robbed, in the code's words. Assumes nothing.
+use Rattle.std.specs.Prelude.{Option, is_some}
 use Rattle.std.proofs.Common.{◌≡◌, ℕ, zero, suc, ◌+◌, ◌%◌, ◌<◌, ◌≤◌, Bool, true, false, not, ◌&&◌, eqb, ltb, ◌≢◌, List, [], ◌∷◌, map, length, get_or, take, set, sym, refl, ap, ◌∙◌, subst, arith, length-set}
 use Rattle.columns.specs.Common.{fold, All}
 use Rattle.entries.specs.declared.Entry.{Entry}
@@ -7,23 +8,20 @@ use Rattle.percpu.specs.Cpu as percpu
 use Rattle.percpu.specs.With.{block_queue_len, block_published_weight, block_stealable, block_steal_counter, cpu_block}
 use Rattle.machine.specs.Machine.{no_cpu}
 use Rattle.model.specs.State as model
-use Rattle.model.specs.State.{on_cpu, is_some}
+use Rattle.model.specs.State.{on_cpu}
 use Rattle.model.specs.Steal as model_steal
 use Rattle.model.specs.Steal.{published, mark_stealable, count_steal, should_steal}
 use Rattle.handover.proofs.Advanced.{stealable_as}
-use Rattle.picked.specs.declared.Picked.{Picked}
-use Rattle.picked.specs.Names as names
-use Rattle.picked.specs.Names.{picked_of}
 use Rattle.plain_model.specs.Steal.{move_entry, steal_entries}
-use Rattle.plain_lists.specs.declared.Queue.{Queue}
-use Rattle.plain_lists.specs.Lists.{entries_of, Sized}
-use Rattle.plain_lists.proofs.Listing.{length_entries}
+use Rattle.plain_lists.specs.Lists.{Queue}
+use Rattle.plain_lists.specs.Lists.{entries_of}
+use Rattle.plain_lists.proofs.Listing.{length_items}
 use Rattle.plain_lists.proofs.Arrays.{take_set}
 use Rattle.plain_state.specs.declared.Cpu.{Cpu}
 use Rattle.plain_state.specs.declared.State.{State}
 use Rattle.plain_state.specs.States.{cpu_in, state_in, Sound, Became}
 use Rattle.plain_handover.proofs.Settling.{became_as, some_is}
-use Rattle.plain_candidates.proofs.Gathered.{all_get_d}
+use Rattle.plain_lists.proofs.Folds.{all_get_d}
 use Rattle.plain_moves.specs.declared.Moving.{Moving}
 use Rattle.plain_moves.specs.Moves.{CpuSound, CpuBecame, moving_in, MovingTracks}
 use Rattle.plain_steal.specs.declared.cpus.Cpus.{Cpus}
@@ -66,7 +64,7 @@ pub published_became : (n : ℕ) (s : State) {r : State} {len : ℕ} → Sound n
     → Became n r (on_cpu (cpu_block (block_published_weight s.cpu.block.total_weight (block_queue_len len s.cpu.block))) (state_in n s)) → Became n r (on_cpu published (state_in n s))
 published_became n s {r} {len} o e b =
     became_as
-    (ap (λ (l : ℕ). on_cpu (cpu_block (block_published_weight s.cpu.block.total_weight (block_queue_len l s.cpu.block))) (state_in n s)) (e ∙ sym (length_entries s.cpu.queue o.queue))) b
+    (ap (λ (l : ℕ). on_cpu (cpu_block (block_published_weight s.cpu.block.total_weight (block_queue_len l s.cpu.block))) (state_in n s)) (e ∙ sym (length_items s.cpu.queue))) b
 
 abbrev victim_as : Cpu → ℕ → Bool → Cpu
 victim_as v len some =
@@ -81,12 +79,12 @@ victim_as v len some =
 
 pub victim_published : (v : Cpu) {len : ℕ} → CpuSound v → len ≡ v.queue.len → CpuBecame (victim_as v len (ltb 0 v.queue.len)) (mark_stealable (published (cpu_in v)))
 victim_published v {len} o e =
-    let z : len ≡ length (entries_of v.queue) = e ∙ sym (length_entries v.queue o.queue) in
+    let z : len ≡ length (entries_of v.queue) = e ∙ sym (length_items v.queue) in
     record {
       sound = record { queue = o.queue; timers = o.timers; local = o.local; ipi = o.ipi; flat = o.flat };
       is =
           ap (λ (l : ℕ). cpu_in (victim_as v l (ltb 0 v.queue.len))) z
-          ∙ stealable_as (published (cpu_in v)) (published (cpu_in v)).block v.queue.len refl (sym (length_entries v.queue o.queue));
+          ∙ stealable_as (published (cpu_in v)) (published (cpu_in v)).block v.queue.len refl (sym (length_items v.queue));
     }
 
 pub counted_became : (n : ℕ) (s : State) {r : State} {count : ℕ} → count ≡ (s.cpu.block.steal_counter + 1) % word_range
@@ -94,15 +92,15 @@ pub counted_became : (n : ℕ) (s : State) {r : State} {count : ℕ} → count �
 counted_became n s e b = became_as (ap (λ (x : ℕ). on_cpu (cpu_block (block_steal_counter x s.cpu.block)) (state_in n s)) e) b
 
 -- whether it is the turn to steal
-module _ (n : ℕ) (s : State) (w : Picked) {a b : Bool} (ha : a ≡ names.is_some w) (hb : b ≡ (eqb s.cpu.block.sched_ctxt s.cpu.block.idle_ctxt && not a)) where
-  idle_alone : b ≡ (eqb s.cpu.block.sched_ctxt s.cpu.block.idle_ctxt && not (is_some (picked_of w)))
+module _ (n : ℕ) (s : State) (w : Option ℕ) {a b : Bool} (ha : a ≡ is_some w) (hb : b ≡ (eqb s.cpu.block.sched_ctxt s.cpu.block.idle_ctxt && not a)) where
+  idle_alone : b ≡ (eqb s.cpu.block.sched_ctxt s.cpu.block.idle_ctxt && not (is_some w))
   idle_alone = hb ∙ ap (λ (z : Bool). eqb s.cpu.block.sched_ctxt s.cpu.block.idle_ctxt && not z) (ha ∙ some_is w)
 
-  pub every_second : b ≡ true → eqb (s.cpu.block.steal_counter % 2) 0 ≡ should_steal (state_in n s) (picked_of w)
-  every_second t = let z : (eqb s.cpu.block.sched_ctxt s.cpu.block.idle_ctxt && not (is_some (picked_of w))) ≡ true = sym idle_alone ∙ t in rw z
+  pub every_second : b ≡ true → eqb (s.cpu.block.steal_counter % 2) 0 ≡ should_steal (state_in n s) w
+  every_second t = let z : (eqb s.cpu.block.sched_ctxt s.cpu.block.idle_ctxt && not (is_some w)) ≡ true = sym idle_alone ∙ t in rw z
 
-  pub every_sixteenth : b ≡ false → eqb (s.cpu.block.steal_counter % 16) 0 ≡ should_steal (state_in n s) (picked_of w)
-  every_sixteenth t = let z : (eqb s.cpu.block.sched_ctxt s.cpu.block.idle_ctxt && not (is_some (picked_of w))) ≡ false = sym idle_alone ∙ t in rw z
+  pub every_sixteenth : b ≡ false → eqb (s.cpu.block.steal_counter % 16) 0 ≡ should_steal (state_in n s) w
+  every_sixteenth t = let z : (eqb s.cpu.block.sched_ctxt s.cpu.block.idle_ctxt && not (is_some w)) ≡ false = sym idle_alone ∙ t in rw z
 
 -- the state of the stealing as it is
 pub steals_itself : (n c : ℕ) (l : Stealing) → StealingSound n c l → StealingTracks n c l (stealing_in n c l)
@@ -116,15 +114,15 @@ empty_list [] e = refl
 empty_list (x ∷ l) e = absurd (omega arith)
 
 -- from CPU t, which is v
-module _ (n c t : ℕ) (runs : Bool) (l : Stealing) (v : Cpu) (es : Queue) (z : Sized es) where
+module _ (n c t : ℕ) (runs : Bool) (l : Stealing) (v : Cpu) (es : Queue) where
   pub nothing_stolen : StealingSound n c l → es.len ≡ 0 → StealingTracks n c l (steal_entries runs (stealing_in n c l) t (cpu_in v) (entries_of es))
   unfolding steal_entries
   nothing_stolen o h =
-      let e : entries_of es ≡ [] = empty_list (entries_of es) (length_entries es z ∙ h) in
+      let e : entries_of es ≡ [] = empty_list (entries_of es) (length_items es ∙ h) in
       steals_as (sym (ap (steal_entries runs (stealing_in n c l) t (cpu_in v)) e)) (steals_itself n c l o)
 
   abbrev begin : model_steal.Moving
-  begin = record { state = state_in n l.state; victim = cpu_in v; winner = picked_of l.winner }
+  begin = record { state = state_in n l.state; victim = cpu_in v; winner = l.winner }
 
   abbrev finished : model_steal.Moving → model_steal.Stealing
   finished m = record { state = on_cpu published m.state; cpus = set (cpus_in c l.cpus) t (mark_stealable (published m.victim)); winner = m.winner; done = true }
@@ -139,7 +137,7 @@ module _ (n c t : ℕ) (runs : Bool) (l : Stealing) (v : Cpu) (es : Queue) (z : 
       → StealingTracks n c (record { state = here; cpus = after; winner = m.winner; done = true }) (steal_entries runs (stealing_in n c l) t (cpu_in v) (entries_of es))
   some_robbed {m} {here} {there} {after} h a b d e =
       let M : model_steal.Moving = fold (move_entry runs) begin (entries_of es) in
-      steals_as {L = finished M} (robbed_is (entries_of es) (λ y. h (sym (length_entries es z) ∙ y)))
+      steals_as {L = finished M} (robbed_is (entries_of es) (λ y. h (sym (length_items es) ∙ y)))
       (record {
         sound = record { state = b.sound; cpus = e.sound };
         room = ap (λ (y : model.State). y.no_room) b.is ∙ a.room;

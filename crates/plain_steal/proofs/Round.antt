@@ -10,14 +10,14 @@ use Rattle.machine.specs.Shape.{EntryFits}
 use Rattle.model.specs.Steal as model_steal
 use Rattle.model.specs.Steal.{can_steal_from, want}
 use Rattle.model.proofs.Cases.{by_test, never}
-use Rattle.picked.specs.Names.{picked_of}
 use Rattle.plain_model.specs.Steal.{candidates, targets, steal_entries, steal_from}
-use Rattle.plain_lists.specs.declared.Queue.{Queue}
+use Rattle.plain_lists.specs.Lists.{Queue}
 use Rattle.plain_lists.specs.Lists.{entries_of, Stands}
-use Rattle.plain_lists.proofs.Listing.{length_entries}
+use Rattle.plain_lists.proofs.Listing.{length_items}
 use Rattle.plain_state.specs.declared.Cpu.{Cpu}
 use Rattle.plain_state.specs.States.{cpu_in, state_in}
-use Rattle.plain_candidates.proofs.Gathered.{fold_next, all_get_d, candidates_few, candidates_each}
+use Rattle.plain_candidates.proofs.Gathered.{candidates_few, candidates_each}
+use Rattle.plain_lists.proofs.Folds.{fold_next, all_get_d}
 use Rattle.plain_moves.specs.Moves.{CpuBecame}
 use Rattle.plain_steal.specs.declared.Stealing.{Stealing}
 use Rattle.plain_steal.specs.Stealing.{cpus_in, CpusSound, stealing_in, StealingSound, StealingTracks, Robs, some_stolen}
@@ -25,24 +25,24 @@ use Rattle.plain_steal.proofs.Robbed.{steals_as, steals_itself}
 
 -- a victim that has enough
 module _ (n c k t : ℕ) (runs : Bool) (locked : List ℕ) (l : Stealing) (v : Cpu) {wanted : ℕ} {es : Queue} (hw : wanted ≡ want (state_in n l.state) (cpu_in v))
-    (he : Stands es (candidates k locked (state_in n l.state).contexts (picked_of l.winner) wanted (entries_of v.queue))) where
+    (he : Stands es (candidates k locked (state_in n l.state).contexts l.winner wanted (entries_of v.queue))) where
   pub few_wanted : wanted ≤ 2 → es.len ≤ 2
   few_wanted h =
-      let a : length (entries_of es) ≡ es.len = length_entries es he.sized in
-      let b : length (candidates k locked (state_in n l.state).contexts (picked_of l.winner) wanted (entries_of v.queue)) ≤ wanted
-      = candidates_few k locked (state_in n l.state).contexts (picked_of l.winner) wanted (entries_of v.queue) in
+      let a : length (entries_of es) ≡ es.len = length_items es in
+      let b : length (candidates k locked (state_in n l.state).contexts l.winner wanted (entries_of v.queue)) ≤ wanted
+      = candidates_few k locked (state_in n l.state).contexts l.winner wanted (entries_of v.queue) in
       let d : length (entries_of es) ≤ wanted = subst (λ (x : List Entry). length x ≤ wanted) (sym he.is) b in
       omega arith
 
   pub each_wanted : All (EntryFits n) (entries_of v.queue) → All (EntryFits n) (entries_of es)
   each_wanted a =
-      subst (All (EntryFits n)) (sym he.is) (candidates_each k locked (state_in n l.state).contexts (picked_of l.winner) wanted (EntryFits n) (entries_of v.queue) a)
+      subst (All (EntryFits n)) (sym he.is) (candidates_each k locked (state_in n l.state).contexts l.winner wanted (EntryFits n) (entries_of v.queue) a)
 
   pub wanted_stolen : {r : Stealing} → StealingTracks n c r (steal_entries runs (stealing_in n c l) t (cpu_in v) (entries_of es)) → StealingTracks n c r (some_stolen k runs locked (stealing_in n c l) t (cpu_in v))
   wanted_stolen s =
       steals_as
       (ap (steal_entries runs (stealing_in n c l) t (cpu_in v))
-      (he.is ∙ ap (λ (x : ℕ). candidates k locked (state_in n l.state).contexts (picked_of l.winner) x (entries_of v.queue)) hw)) s
+      (he.is ∙ ap (λ (x : ℕ). candidates k locked (state_in n l.state).contexts l.winner x (entries_of v.queue)) hw)) s
 
 -- the definition
 module _ (k : ℕ) (runs : Bool) (locked : List ℕ) where
@@ -119,11 +119,10 @@ module _ (k : ℕ) (runs : Bool) (locked : List ℕ) where
     pub few : c ≤ 4
     pub fresh : L.state.no_room ≡ false
     pub robs : Robs n L
-    pub most : i ≤ c - 1
     pub tracks : StealingTracks n c l (fold (steal_from k runs locked) L (take i (targets k c)))
 
   pub rounds : (n c : ℕ) (l : Stealing) → StealingSound n c l → k < c → l.state.no_room ≡ false → Robs n (stealing_in n c l) → Rounding n c (stealing_in n c l) l 0
-  rounds n c l o h z b = record { some = h; few = o.cpus.few; fresh = z; robs = b; most = omega arith; tracks = steals_itself n c l o }
+  rounds n c l o h z b = record { some = h; few = o.cpus.few; fresh = z; robs = b; tracks = steals_itself n c l o }
 
   module _ (n c : ℕ) (L : model_steal.Stealing) (l : Stealing) (i : ℕ) (r : Rounding n c L l i) (h : i < c - 1) where
     abbrev M : model_steal.Stealing
@@ -147,7 +146,6 @@ module _ (k : ℕ) (runs : Bool) (locked : List ℕ) where
           few = r.few;
           fresh = r.fresh;
           robs = r.robs;
-          most = omega arith;
           tracks = steals_as (ap (steal_from k runs locked M) (sym b) ∙ sym (fold_next (steal_from k runs locked) L (targets k c) i 0 (omega arith)))
               (steals_then n c ((k + (i + 1)) % c) still r.tracks s);
         }

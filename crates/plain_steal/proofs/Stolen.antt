@@ -1,5 +1,6 @@
 -- The stealing from its beginning to its end, in the code's words. Assumes nothing.
-use Rattle.std.proofs.Common.{◌≡◌, ℕ, ◌-◌, ◌≤◌, Bool, true, false, List, [], ◌∷◌, length, take, sym, ap, ◌∙◌, subst, arith, length-take}
+use Rattle.std.specs.Prelude.{Option}
+use Rattle.std.proofs.Common.{◌≡◌, ℕ, ◌≤◌, Bool, true, false, List, [], ◌∷◌, length, take, sym, ap, ◌∙◌, subst, arith, length-take}
 use lib.ListN.{length-map}
 use Rattle.columns.specs.Common.{fold, All}
 use Rattle.percpu.specs.Cpu as percpu
@@ -9,11 +10,8 @@ use Rattle.model.specs.State as model
 use Rattle.model.specs.State.{on_cpu}
 use Rattle.model.specs.Steal as model_steal
 use Rattle.model.specs.Steal.{count_steal, should_steal}
-use Rattle.picked.specs.declared.Picked.{Picked}
-use Rattle.picked.specs.Names.{picked_of}
 use Rattle.plain_model.specs.State.{placed}
 use Rattle.plain_model.specs.Steal.{targets, steal_from, steal}
-use Rattle.plain_state.specs.declared.Cpu.{Cpu}
 use Rattle.plain_state.specs.declared.State.{State}
 use Rattle.plain_state.specs.States.{cpu_in, state_in, Became}
 use Rattle.plain_state.specs.Fits.{CpuFitsInAnyOrder, StateFits}
@@ -26,7 +24,7 @@ use Rattle.plain_steal.specs.Stealing.{cpus_in, CpusSound, CpusFit, stealing_in,
 use Rattle.plain_steal.proofs.Robbed.{steals_as, steals_itself}
 
 module _ (k : ℕ) (runs : Bool) (locked : List ℕ) where
-  module _ (n c : ℕ) (s : State) (cpus : Cpus) (w : Picked) {t : State} (o : CpusSound c cpus) (b : Became n t (on_cpu count_steal (state_in n s))) where
+  module _ (n c : ℕ) (s : State) (cpus : Cpus) (w : Option ℕ) {t : State} (o : CpusSound c cpus) (b : Became n t (on_cpu count_steal (state_in n s))) where
     abbrev start : Stealing
     start = record { state = t; cpus = cpus; winner = w; done = false }
 
@@ -58,21 +56,21 @@ module _ (k : ℕ) (runs : Bool) (locked : List ℕ) where
     many = let x : length cpus.cpus ≡ 4 = o.places in let y : c ≤ 4 = o.few in rw (length-map (take c cpus.cpus) cpu_in, length-take c cpus.cpus) (omega arith)
 
     abbrev begun : model_steal.Stealing
-    begun = record { state = on_cpu count_steal (state_in n s); cpus = cpus_in c cpus; winner = picked_of w; done = false }
+    begun = record { state = on_cpu count_steal (state_in n s); cpus = cpus_in c cpus; winner = w; done = false }
 
     started : stealing_in n c start ≡ begun
-    started = λ i. record { state = b.is i; cpus = cpus_in c cpus; winner = picked_of w; done = false }
+    started = λ i. record { state = b.is i; cpus = cpus_in c cpus; winner = w; done = false }
 
-    module _ {a : Bool} (ha : a ≡ should_steal (state_in n s) (picked_of w)) where
+    module _ {a : Bool} (ha : a ≡ should_steal (state_in n s) w) where
       pub stolen_all : {r : Stealing} → a ≡ true → StealingTracks n c r (fold (steal_from k runs locked) (stealing_in n c start) (targets k c))
-          → StealingTracks n c r (steal k runs locked (cpus_in c cpus) (picked_of w) (state_in n s))
+          → StealingTracks n c r (steal k runs locked (cpus_in c cpus) w (state_in n s))
       unfolding steal
       stolen_all {r} t u =
-          let z : should_steal (state_in n s) (picked_of w) ≡ true = sym ha ∙ t in
+          let z : should_steal (state_in n s) w ≡ true = sym ha ∙ t in
           rw (z, many) (steals_as (ap (λ (x : model_steal.Stealing). fold (steal_from k runs locked) x (targets k c)) started) u)
 
-      pub not_stolen : a ≡ false → StealingTracks n c start (steal k runs locked (cpus_in c cpus) (picked_of w) (state_in n s))
+      pub not_stolen : a ≡ false → StealingTracks n c start (steal k runs locked (cpus_in c cpus) w (state_in n s))
       unfolding steal
       not_stolen t =
-          let z : should_steal (state_in n s) (picked_of w) ≡ false = sym ha ∙ t in
+          let z : should_steal (state_in n s) w ≡ false = sym ha ∙ t in
           rw z (steals_as started (steals_itself n c start start_sound))

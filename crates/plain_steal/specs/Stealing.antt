@@ -5,7 +5,6 @@ use Rattle.percpu.specs.Cpu as percpu
 use Rattle.machine.specs.Shape.{EntryFits}
 use Rattle.model.specs.Steal as model_steal
 use Rattle.model.specs.Steal.{want}
-use Rattle.picked.specs.Names.{picked_of}
 use Rattle.plain_model.specs.Steal.{candidates, steal_entries}
 use Rattle.plain_state.specs.States.{cpu_in, state_in, Sound}
 use Rattle.plain_state.specs.Fits.{CpuFitsInAnyOrder}
@@ -31,7 +30,7 @@ CpusFit n ps = All (CpuFitsInAnyOrder n) ps
 
 -- of c CPUs and n contexts
 abbrev pub stealing_in : ℕ → ℕ → Stealing → model_steal.Stealing
-stealing_in n c l = record { state = state_in n l.state; cpus = cpus_in c l.cpus; winner = picked_of l.winner; done = l.done }
+stealing_in n c l = record { state = state_in n l.state; cpus = cpus_in c l.cpus; winner = l.winner; done = l.done }
 
 pub record StealingSound (n c : ℕ) (l : Stealing) : Type 0 where
   pub state : Sound n l.state

@@ -2,10 +2,8 @@
 ghost use Rattle.std.specs.Prelude.{◌≡◌};
 ghost use Rattle.model.specs.State.{on_cpu};
 ghost use Rattle.model.specs.Steal.{count_steal, should_steal};
-ghost use Rattle.picked.specs.Names.{picked_of};
 ghost use Rattle.plain_state.specs.States.{state_in, Sound, Became};
 
-use picked::Picked;
 use plain_state::State;
 
 const STEAL_INTERVAL: u64 = 16;
@@ -14,11 +12,10 @@ const STEAL_INTERVAL: u64 = 16;
 const IDLE_STEAL_INTERVAL: u64 = 2;
 
 // Every 2nd counter value if idle is in charge without a winner, else every 16th.
-pub fn should_steal(s: State, n: usize, w: Picked) -> bool
-    ensures { result ≡ should_steal (state_in n s) (picked_of w) }
+pub fn should_steal(s: State, n: usize, w: Option<usize>) -> bool
+    ensures { result ≡ should_steal (state_in n s) w }
 {
-    let cpu = s.cpu;
-    let b = cpu.block;
+    let b = s.cpu.block;
     let idle = b.sched_ctxt == b.idle_ctxt;
     if numbers::both(idle, !w.is_some()) {
         return b.steal_counter % IDLE_STEAL_INTERVAL == 0;
@@ -31,8 +28,7 @@ pub fn count_steal(s: State, n: usize) -> State
     requires { Sound n s }
     ensures { Became n result (on_cpu count_steal (state_in n s)) }
 {
-    let cpu = s.cpu;
-    let mut b = cpu.block;
+    let mut b = s.cpu.block;
     b.steal_counter = std::num::wrapping_add_u64(b.steal_counter, 1);
     plain_handover::with_block(s, n, b)
 }

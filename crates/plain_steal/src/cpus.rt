@@ -38,33 +38,19 @@ pub fn publish(s: State, n: usize) -> State
     requires { Sound n s }
     ensures { Became n result (on_cpu published (state_in n s)) }
 {
-    let cpu = s.cpu;
-    let mut b = cpu.block;
-    let queue = cpu.queue;
-    b.queue_len = numbers::word(queue.len);
+    let mut b = s.cpu.block;
+    b.queue_len = numbers::word(s.cpu.queue.len);
     b.published_weight = b.total_weight;
     plain_handover::with_block(s, n, b)
 }
 
 // And of the victim.
-pub fn publish_victim(v: Cpu) -> Cpu
+pub fn publish_victim(mut v: Cpu) -> Cpu
     requires { CpuSound v }
     ensures { CpuBecame result (mark_stealable (published (cpu_in v))) }
 {
-    let mut b = v.block;
-    let queue = v.queue;
-    let timers = v.timers;
-    let local = v.local;
-    let ipi = v.ipi;
-    b.queue_len = numbers::word(queue.len);
-    b.published_weight = b.total_weight;
-    b.stealable = 0 < queue.len;
-    Cpu {
-        block: b,
-        queue: queue,
-        timers: timers,
-        local: local,
-        ipi: ipi,
-        remainder: v.remainder,
-    }
+    v.block.queue_len = numbers::word(v.queue.len);
+    v.block.published_weight = v.block.total_weight;
+    v.block.stealable = 0 < v.queue.len;
+    v
 }

@@ -8,10 +8,9 @@ mod cpus;
 ghost use Rattle.std.specs.Prelude.{◌≡◌, ◌<◌, ◌≤◌, false};
 ghost use Rattle.columns.specs.Common.{fold, All};
 ghost use Rattle.machine.specs.Shape.{EntryFits};
-ghost use Rattle.picked.specs.Names.{picked_of};
 ghost use Rattle.plain_model.specs.State.{placed};
 ghost use Rattle.plain_model.specs.Steal.{targets, steal_entries, steal_from, steal};
-ghost use Rattle.plain_lists.specs.Lists.{entries_of, Sized};
+ghost use Rattle.plain_lists.specs.Lists.{entries_of};
 ghost use Rattle.plain_state.specs.States.{cpu_in, state_in, Sound};
 ghost use Rattle.plain_state.specs.Fits.{StateFits};
 ghost use Rattle.plain_candidates.specs.Stolen.{locked_of};
@@ -21,7 +20,6 @@ ghost use Rattle.stages.specs.Bounds.{t_timed, b_charged};
 ghost use Rattle.plain_steal.specs.Stealing.{cpus_in, CpusSound, CpusFit, stealing_in, StealingSound, StealingTracks, Robs, some_stolen};
 
 pub use cpus::Cpus;
-use picked::Picked;
 use plain_candidates::{Locked, Thief};
 use plain_lists::Queue;
 use plain_moves::Moving;
@@ -32,7 +30,8 @@ use plain_state::{Cpu, State};
 pub struct Stealing {
     pub state: State,
     pub cpus: Cpus,
-    pub winner: Picked,
+    pub winner: Option<usize>,
+    // a flag as in the definitions: no turn is left out
     pub done: bool,
 }
 
@@ -46,32 +45,25 @@ fn steal_entries(
     v: Cpu,
     es: Queue,
 ) -> Stealing
-    requires stealing_sound { (StealingSound n c l) × (CpuSound v) × (Sized es) × (es.len ≤ 2) × (t < c) }
+    requires stealing_sound { (StealingSound n c l) × (CpuSound v) × (es.len ≤ 2) × (t < c) }
     requires all { (All (EntryFits n) (entries_of es)) × (MovedBelow n 0 (state_in n l.state)) }
     ensures { StealingTracks n c result (steal_entries runs (stealing_in n c l) t (cpu_in v) (entries_of es)) }
 {
     if es.len == 0 {
         return l;
     }
-    let state = l.state;
-    let winner = l.winner;
-    let before = l.cpus;
     let start = Moving {
-        state: state,
+        state: l.state,
         victim: v,
-        winner: winner,
+        winner: l.winner,
     };
     let m = plain_moves::move_entries(start, n, runs, es);
-    let moved = m.state;
-    let victim = m.victim;
-    let won = m.winner;
-    let here = cpus::publish(moved, n);
-    let there = cpus::publish_victim(victim);
-    let after = before.put(c, t, there);
+    let here = cpus::publish(m.state, n);
+    let there = cpus::publish_victim(m.victim);
     Stealing {
         state: here,
-        cpus: after,
-        winner: won,
+        cpus: l.cpus.put(c, t, there),
+        winner: m.winner,
         done: true,
     }
 }
@@ -91,17 +83,14 @@ fn steal_some(
     requires all { (All (EntryFits n) (entries_of v.queue)) × (MovedBelow n 0 (state_in n l.state)) }
     ensures { StealingTracks n c result (some_stolen k runs (locked_of locked) (stealing_in n c l) t (cpu_in v)) }
 {
-    let s = l.state;
-    let queue = v.queue;
-    let want = plain_candidates::want(s, n, v);
-    let winner = l.winner;
+    let want = plain_candidates::want(l.state, n, v);
     let thief = Thief {
         cpu: k,
-        locked: locked,
-        winner: winner,
-        want: want,
+        locked,
+        winner: l.winner,
+        want,
     };
-    let es = plain_candidates::candidates(s, n, thief, queue);
+    let es = plain_candidates::candidates(l.state, n, thief, v.queue);
     steal_entries(l, n, c, runs, t, v, es)
 }
 
@@ -122,10 +111,8 @@ fn steal_from(
     if l.done {
         return l;
     }
-    let s = l.state;
-    let before = l.cpus;
-    let v = before.cpu(c, t);
-    if plain_candidates::can_steal_from(s, n, v) {
+    let v = l.cpus.cpu(c, t);
+    if plain_candidates::can_steal_from(l.state, n, v) {
         return steal_some(l, n, c, k, runs, locked, t, v);
     }
     l
@@ -138,11 +125,9 @@ fn steal_round(l: Stealing, n: usize, c: usize, k: usize, runs: bool, locked: Lo
     ensures { StealingTracks n c result (fold (steal_from k runs (locked_of locked)) (stealing_in n c l) (targets k c)) }
 {
     let mut out = l;
-    let mut i = 0;
-    while i < c - 1 {
+    for i in 0..c - 1 {
         let t = (k + (i + 1)) % c;
         out = steal_from(out, n, c, k, runs, locked, t);
-        i += 1;
     }
     out
 }
@@ -155,18 +140,18 @@ pub fn steal(
     runs: bool,
     locked: Locked,
     cpus: Cpus,
-    winner: Picked,
+    winner: Option<usize>,
 ) -> Stealing
     requires sound { (Sound n s) × (StateFits n (state_in n s)) × (s.no_room ≡ false) }
     requires cpus_sound { (CpusSound c cpus) × (CpusFit n (cpus_in c cpus)) × (k < c) }
     requires state_below { StateBelow n t_timed b_charged (placed (state_in n s)) }
-    ensures { StealingTracks n c result (steal k runs (locked_of locked) (cpus_in c cpus) (picked_of winner) (state_in n s)) }
+    ensures { StealingTracks n c result (steal k runs (locked_of locked) (cpus_in c cpus) winner (state_in n s)) }
 {
     let counted = counter::count_steal(s, n);
     let start = Stealing {
         state: counted,
-        cpus: cpus,
-        winner: winner,
+        cpus,
+        winner,
         done: false,
     };
     if counter::should_steal(s, n, winner) {

@@ -1,7 +1,6 @@
 -- A direct switch in the code's words. Assumes nothing.
 use mathlib.Core.Path.{◌≡◌, refl, sym, ap, ◌∙◌, subst}
 use mathlib.Core.Bool.{Bool, true, false}
-use mathlib.Core.Option.{Option}
 use Prim.Native.Nat.{ℕ, ◌<◌}
 use borrow.Author.Tests.{eq-eqb, ne_eqb}
 use Rattle.context.specs.declared.Context.{Context}
@@ -22,8 +21,9 @@ use Rattle.plain_state.proofs.Fitting.{context_put}
 use Rattle.plain_handover.proofs.Settling.{is_itself}
 use Rattle.stages.specs.Stage.{ContextBelow, StateBelow}
 use Rattle.stages.proofs.Kept.{context_kept}
-use Rattle.plain_switch.specs.declared.direct.DirectSwitch.{DirectSwitch}
-use Rattle.plain_switch.specs.Direct.{Switched, Switches}
+use Rattle.std.specs.Prelude as std
+use Rattle.std.specs.Prelude.{None, Some, Option}
+use Rattle.plain_switch.specs.Direct.{Switches}
 
 -- the record that `update_runnable` gives is in its ranges
 pub can_switch : (n x w time : ℕ) (own : Bool) {t b : ℕ} {q r : Context} {v : UpdateResult} (s : model.State) → StateFits n s → StateBelow n t b (placed s) → x < n → q ≡ at s x
@@ -38,8 +38,8 @@ module _ (n x : ℕ) (s t : State) (q : Context) (b : Became n t (put_context x 
   pub put_below : {u v : ℕ} → StateBelow n u v (placed (state_in n s)) → ContextBelow u v q → StateBelow n u v (placed (state_in n t))
   put_below {u} {v} f o = subst (λ (z : model.State). StateBelow n u v (placed z)) (sym b.is) (context_kept (placed (state_in n s)) f x q o)
 
-  pub direct_switched : (k time : ℕ) {u : State} → Tracks n u (switch_to k time x (state_in n t)) → Switched n (record { state = u; switched = true }) (switch_to k time x (put_context x q (state_in n s)))
-  direct_switched k time c = record { state = became_then (switch_to k time x) b c; switched = refl }
+  pub direct_switched : (k time : ℕ) {u : State} → Tracks n u (switch_to k time x (state_in n t)) → Tracks n u (switch_to k time x (put_context x q (state_in n s)))
+  direct_switched k time c = became_then (switch_to k time x) b c
 
 -- by what `update_runnable` said of the record
 module _ (n k time x : ℕ) (own : Bool) (s : State) {w : ℕ} {q : Context} {v : UpdateResult} (hw : w ≡ k) (hq : q ≡ at (state_in n s) x) (hv : v ≡ update_runnable w time own false q) where
@@ -49,35 +49,28 @@ module _ (n k time x : ℕ) (own : Bool) (s : State) {w : ℕ} {q : Context} {v 
   abbrev after : Option model.State
   after = direct_switch_by k time x (state_in n s) (update_runnable k time own false (at (state_in n s) x))
 
-  pub by_can_switch : {d : DirectSwitch} (r : Context) → v ≡ CanSwitch r → Switched n d (switch_to k time x (put_context x r (state_in n s))) → Switches n d (state_in n s) after
+  pub by_can_switch : {d : State} (r : Context) → v ≡ CanSwitch r → Tracks n d (switch_to k time x (put_context x r (state_in n s))) → Switches n (Some d) (state_in n s) after
   unfolding direct_switch_by
-  by_can_switch {d} r z t = let y : update_runnable k time own false (at (state_in n s) x) ≡ CanSwitch r = said ∙ z in rw y (record { state = t.state; switched = t.switched })
+  by_can_switch {d} r z t = let y : update_runnable k time own false (at (state_in n s) x) ≡ CanSwitch r = said ∙ z in rw y (refl, t)
 
-  pub by_skip : {d : DirectSwitch} → v ≡ Skip → Sound n s → (d.state ≡ s) × (d.switched ≡ false) → Switches n d (state_in n s) after
+  pub by_skip : v ≡ Skip → Switches n None (state_in n s) after
   unfolding direct_switch_by
-  by_skip {d} z o e =
-      let y : update_runnable k time own false (at (state_in n s) x) ≡ Skip = said ∙ z in
-      rw y (record { state = subst (λ (u : State). Tracks n u (state_in n s)) (sym e.0) (became_tracks (is_itself o)); switched = e.1 })
+  by_skip z = let y : update_runnable k time own false (at (state_in n s) x) ≡ Skip = said ∙ z in rw y
 
-  pub by_blocked : {d : DirectSwitch} → v ≡ Blocked → Sound n s → (d.state ≡ s) × (d.switched ≡ false) → Switches n d (state_in n s) after
+  pub by_blocked : v ≡ Blocked → Switches n None (state_in n s) after
   unfolding direct_switch_by
-  by_blocked {d} z o e =
-      let y : update_runnable k time own false (at (state_in n s) x) ≡ Blocked = said ∙ z in
-      rw y (record { state = subst (λ (u : State). Tracks n u (state_in n s)) (sym e.0) (became_tracks (is_itself o)); switched = e.1 })
+  by_blocked z = let y : update_runnable k time own false (at (state_in n s) x) ≡ Blocked = said ∙ z in rw y
 
 -- back to the context in charge
 module _ (n k time : ℕ) (s : State) where
-  pub in_charge : {d : DirectSwitch} → s.cpu.block.current_ctxt ≡ s.cpu.block.sched_ctxt → Sound n s → (d.state ≡ s) × (d.switched ≡ false)
-      → Switches n d (state_in n s) (try_direct_switch_back k time (state_in n s))
+  pub in_charge : s.cpu.block.current_ctxt ≡ s.cpu.block.sched_ctxt → Switches n None (state_in n s) (try_direct_switch_back k time (state_in n s))
   unfolding try_direct_switch_back
-  in_charge {d} h o e =
-      rw (eq-eqb s.cpu.block.current_ctxt s.cpu.block.sched_ctxt h)
-      (record { state = subst (λ (u : State). Tracks n u (state_in n s)) (sym e.0) (became_tracks (is_itself o)); switched = e.1 })
+  in_charge h = rw (eq-eqb s.cpu.block.current_ctxt s.cpu.block.sched_ctxt h)
 
-  pub switched_back : {d : DirectSwitch} {x : ℕ} → (s.cpu.block.current_ctxt ≡ s.cpu.block.sched_ctxt → ⊥) → x ≡ s.cpu.block.sched_ctxt
+  pub switched_back : (d : std.Option State) {x : ℕ} → (s.cpu.block.current_ctxt ≡ s.cpu.block.sched_ctxt → ⊥) → x ≡ s.cpu.block.sched_ctxt
       → Switches n d (state_in n s) (direct_switch_by k time x (state_in n s) (update_runnable k time true false (at (state_in n s) x)))
       → Switches n d (state_in n s) (try_direct_switch_back k time (state_in n s))
   unfolding try_direct_switch_back
-  switched_back {d} {x} h e t =
+  switched_back d {x} h e t =
       rw (ne_eqb s.cpu.block.current_ctxt s.cpu.block.sched_ctxt h)
       (subst (λ (y : ℕ). Switches n d (state_in n s) (direct_switch_by k time y (state_in n s) (update_runnable k time true false (at (state_in n s) y)))) e t)

@@ -1,17 +1,11 @@
 -- What the code says of a direct switch, against the definition's Option. Assumes nothing.
-use Rattle.std.specs.Prelude.{◌≡◌, true, ℕ}
-use Rattle.std.proofs.Math.Option.{Option}
-use Rattle.model.specs.State.{State, is_some}
+use Rattle.std.specs.Prelude.{◌≡◌, true, false, ℕ, Option, None, Some, is_some}
+use Rattle.model.specs.State.{State}
 use Rattle.switch_to.specs.Direct.{or_same}
+use Rattle.plain_state.specs.declared.State as code
 use Rattle.plain_state.specs.States.{Tracks}
-use Rattle.plain_switch.specs.declared.direct.DirectSwitch.{DirectSwitch}
-
--- a switch was made, which gives S
-pub record Switched (n : ℕ) (r : DirectSwitch) (S : State) : Type 0 where
-  pub state : Tracks n r.state S
-  pub switched : r.switched ≡ true
 
 -- o: the state after a switch from S, if one is made
-pub record Switches (n : ℕ) (r : DirectSwitch) (S : State) (o : Option State) : Type 0 where
-  pub state : Tracks n r.state (or_same S o)
-  pub switched : r.switched ≡ is_some o
+abbrev pub Switches : ℕ → Option code.State → State → Option State → Type 0
+Switches n None S o = is_some o ≡ false
+Switches n (Some r) S o = (is_some o ≡ true) × Tracks n r (or_same S o)

@@ -15,7 +15,7 @@ ghost use Rattle.stages.specs.Stage.{StateBelow};
 ghost use Rattle.stages.specs.Bounds.{t_handed, b_advanced};
 ghost use Rattle.plain_switch.specs.Switched.{Leaves, left_at, entered};
 
-pub use direct::{DirectSwitch, direct_switch_by, try_direct_switch_back};
+pub use direct::{direct_switch_by, try_direct_switch_back};
 use plain_state::State;
 
 // A context that no list would have goes on the local list.
@@ -23,8 +23,7 @@ fn save(s: State, n: usize, k: usize, time: u64) -> State
     requires { (Sound n s) × (Leaves n (state_in n s)) }
     ensures { Tracks n result (saved k time (state_in n s)) }
 {
-    let cpu = s.cpu;
-    let b = cpu.block;
+    let b = s.cpu.block;
     let y = numbers::index(b.current_ctxt);
     let q = s.context(n, y);
     if records::would_be_lost(b, q) {
@@ -37,8 +36,7 @@ fn leave(s: State, n: usize, k: usize, time: u64) -> State
     requires { (Sound n s) × (Leaves n (state_in n s)) × (time ≤ max_number) }
     ensures { Became n result (left_at k time (state_in n s)) }
 {
-    let cpu = s.cpu;
-    let b = cpu.block;
+    let b = s.cpu.block;
     let y = numbers::index(b.current_ctxt);
     let q = s.context(n, y);
     let after = records::leave(q, b, time);
@@ -52,9 +50,7 @@ fn enter(s: State, n: usize, k: usize, time: u64, x: usize) -> State
     let q = s.context(n, x);
     let after = records::come(q, k, time);
     let t = s.put_context(n, x, after);
-    let cpu = s.cpu;
-    let b = cpu.block;
-    let block = records::become_current(b, x, after);
+    let block = records::become_current(s.cpu.block, x, after);
     plain_handover::with_block(t, n, block)
 }
 

@@ -1,8 +1,8 @@
 -- Counting, wake-ups and times put together, and what they leave. Assumes nothing.
+use Rattle.std.specs.Prelude.{None, Option, Some}
 use mathlib.Core.Path.{◌≡◌, refl, sym, ap, ◌∙◌, subst}
 use mathlib.Core.Bool.{Bool, true, false}
 use mathlib.Core.List.{List, [], ◌∷◌}
-use mathlib.Core.Option.{Option, none, some}
 use Prim.Native.Nat.{ℕ, ◌+◌, ◌/◌, ◌≤◌}
 use native.Mathlib.Omega.{arith}
 use Rattle.columns.specs.Common.{fold}
@@ -65,8 +65,8 @@ ticked_begin {n} time S f o l =
 -- wake-ups do not touch what a turn is measured by
 module _ (time : ℕ) where
   back_kept : (w : Option ℕ) (x : ℕ) (S : model.State) → elapsed time (put_back w x S).cpu ≡ elapsed time S.cpu
-  back_kept none x S = refl
-  back_kept (some t) x S = refl
+  back_kept None x S = refl
+  back_kept (Some t) x S = refl
 
   woken_kept : (S : model.State) (w : Wakeup) (r : WakeupResult) → elapsed time (wake_as S w r).cpu ≡ elapsed time S.cpu
   unfolding wake_as enter

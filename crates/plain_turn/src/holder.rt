@@ -21,7 +21,7 @@ fn leave_weight(mut b: PercpuBlock, q: Context) -> PercpuBlock
 {
     if q.is_active {
         let weight = weights::weight_of(q.prio);
-        b.total_weight = numbers::saturating_sub(b.total_weight, weight);
+        b.total_weight = b.total_weight.saturating_sub(weight);
         return b;
     }
     b
@@ -32,10 +32,9 @@ fn stop_holder(s: State, n: usize, x: usize, q: Context) -> State
     requires { (Sound n s) × (Held n (state_in n s) x q) × (q.prio < 40) }
     ensures { Tracks n result (holder_stopped (state_in n s)) }
 {
-    let cpu = s.cpu;
-    let block = cpu.block;
+    let block = s.cpu.block;
     let after = leave_weight(block, q);
-    let t = timing::with_turn(s, n, after, cpu.remainder);
+    let t = timing::with_turn(s, n, after, s.cpu.remainder);
     let u = t.put_context(n, x, charging::charge_stopped(q));
     if q.has_wake {
         let timer = Timer {
@@ -52,11 +51,8 @@ fn charge(s: State, n: usize, spent: Spent, x: usize, q: Context) -> State
     requires { (Sound n s) × (Held n (state_in n s) x q) × (Chargeable s.cpu.block.v spent q) }
     ensures { Tracks n result (charged_as spent (state_in n s)) }
 {
-    let status = q.status;
-    if status.is_runnable() {
-        let cpu = s.cpu;
-        let block = cpu.block;
-        let charged = charging::charge_runnable(q, block.v, spent);
+    if q.status.is_runnable() {
+        let charged = charging::charge_runnable(q, s.cpu.block.v, spent);
         return s.put_context(n, x, charged);
     }
     stop_holder(s, n, x, q)
@@ -68,8 +64,7 @@ pub fn charge_holder(s: State, n: usize, spent: Spent) -> State
     requires can_pay { s.no_room ≡ false → CanPay n spent (state_in n s) }
     ensures { Tracks n result (charge_holder spent (state_in n s)) }
 {
-    let cpu = s.cpu;
-    let block = cpu.block;
+    let block = s.cpu.block;
     if s.no_room {
         return s;
     }

@@ -38,12 +38,11 @@ pub fn before_choice(s: State, n: usize, time: u64) -> Turned
     requires can_begin { CanBegin n time (state_in n s) }
     ensures { TurnEnds n time (state_in n s) result }
 {
-    let cpu = s.cpu;
-    let block = cpu.block;
+    let block = s.cpu.block;
     let stats = block.stats;
     let was = stats.state;
-    let elapsed = numbers::saturating_sub(time, block.schedule_time);
-    let spent = timing::turn_spent(elapsed, cpu.remainder);
+    let elapsed = time.saturating_sub(block.schedule_time);
+    let spent = timing::turn_spent(elapsed, s.cpu.remainder);
     let timed = before_selection(s, n, time);
     let state = holder::charge_holder(timed, n, spent);
     Turned {

@@ -11,19 +11,14 @@ ghost use Rattle.plain_state.specs.States.{state_in, Sound, Became, Tracks};
 ghost use Rattle.plain_turn.specs.Turns.{with_turn, CanTime};
 
 use cpu_stats::CpuState;
-use cpu_stats::lent::Change;
 use percpu::PercpuBlock;
-use plain_state::{Cpu, State};
+use plain_state::State;
 use ticks::Spent;
 
 pub fn is_idle(s: CpuState) -> bool
     ensures { result ≡ is_idle_state s }
 {
-    match s {
-        CpuState::Idle => true,
-        CpuState::Kernel => false,
-        CpuState::User => false,
-    }
+    matches!(s, CpuState::Idle)
 }
 
 // The turn as it is charged: its nanoseconds, and its ticks with what the last conversion left.
@@ -39,41 +34,22 @@ pub fn turn_spent(elapsed: u64, remainder: u64) -> Spent
 }
 
 // The state with another block and another remainder.
-pub fn with_turn(s: State, n: usize, b: PercpuBlock, remainder: u64) -> State
+pub fn with_turn(mut s: State, n: usize, b: PercpuBlock, remainder: u64) -> State
     requires { Sound n s }
     ensures { Became n result (with_turn b remainder (state_in n s)) }
 {
-    let contexts = s.contexts;
-    let cpu = s.cpu;
-    let queue = cpu.queue;
-    let timers = cpu.timers;
-    let local = cpu.local;
-    let ipi = cpu.ipi;
-    let changed = Cpu {
-        block: b,
-        queue: queue,
-        timers: timers,
-        local: local,
-        ipi: ipi,
-        remainder: remainder,
-    };
-    State {
-        contexts: contexts,
-        cpu: changed,
-        no_room: s.no_room,
-    }
+    s.cpu.block = b;
+    s.cpu.remainder = remainder;
+    s
 }
 
-fn counted(b: PercpuBlock) -> PercpuBlock
+fn counted(mut b: PercpuBlock) -> PercpuBlock
     requires { CountersBelow half_range b.stats }
     ensures { result ≡ block_pit_ticks 0 (block_stats (switch_added b.inside_syscall b.stats) b) }
 {
-    let s = b.stats;
-    let change = Change::Switch(b.inside_syscall);
-    let stats = cpu_stats::lent::update(s, change);
-    let mut r = b.with_stats(stats);
-    r.pit_ticks = 0;
-    r
+    b.stats.add_context_switch(b.inside_syscall);
+    b.pit_ticks = 0;
+    b
 }
 
 // The tick count starts again.
@@ -81,23 +57,18 @@ pub fn count_switch(s: State, n: usize) -> State
     requires { (Sound n s) × (CountersBelow half_range s.cpu.block.stats) }
     ensures { Became n result (on_cpu count_switch (state_in n s)) }
 {
-    let cpu = s.cpu;
-    let block = cpu.block;
-    let after = counted(block);
-    with_turn(s, n, after, cpu.remainder)
+    let after = counted(s.cpu.block);
+    with_turn(s, n, after, s.cpu.remainder)
 }
 
-fn timed(b: PercpuBlock, time: u64, elapsed: u64) -> PercpuBlock
+fn timed(mut b: PercpuBlock, time: u64, elapsed: u64) -> PercpuBlock
     requires counters_below { CountersBelow half_range b.stats }
     requires elapsed_le_max_number { elapsed ≤ max_number }
     ensures { result ≡ block_schedule_time time (block_stats (time_added (elapsed / nanos_per_millisecond) b.stats) b) }
 {
-    let s = b.stats;
-    let change = Change::Time(elapsed / numbers::NANOS_PER_MILLISECOND);
-    let stats = cpu_stats::lent::update(s, change);
-    let mut r = b.with_stats(stats);
-    r.schedule_time = time;
-    r
+    b.stats.add_time(elapsed / numbers::NANOS_PER_MILLISECOND);
+    b.schedule_time = time;
+    b
 }
 
 // What the conversion leaves over stays for the next decision, whoever is in charge.
@@ -109,10 +80,9 @@ pub fn times(s: State, n: usize, time: u64) -> State
     if s.no_room {
         return s;
     }
-    let cpu = s.cpu;
-    let block = cpu.block;
-    let elapsed = numbers::saturating_sub(time, block.schedule_time);
+    let block = s.cpu.block;
+    let elapsed = time.saturating_sub(block.schedule_time);
     let after = timed(block, time, elapsed);
-    let r = ticks::convert(elapsed, cpu.remainder);
+    let r = ticks::convert(elapsed, s.cpu.remainder);
     with_turn(s, n, after, r.remainder)
 }

@@ -1,27 +1,23 @@
 -- The whole stage put together, and what it adds. Assumes nothing.
-use Rattle.std.specs.Prelude.{if◌then◌else◌}
 use mathlib.Core.Path.{◌≡◌, refl, sym, ap, ◌∙◌, subst}
-use mathlib.Core.Bool.{Bool, true, false, ◌&&◌}
+use mathlib.Core.Bool.{false}
 use mathlib.Core.List.{List, [], ◌∷◌, ◌++◌, map}
-use Prim.Native.Nat.{ℕ, ◌+◌, ◌*◌, ◌<◌, ◌≤◌}
-use native.Mathlib.Omega.{arith}
+use Prim.Native.Nat.{ℕ, ◌+◌}
 use Rattle.columns.specs.Common.{fold, keep}
 use Rattle.columns.proofs.Tests.{by_test}
 use Rattle.numbers.specs.Limits.{max_number}
-use Rattle.weights.specs.Weights.{max_weight}
 use Rattle.entries.specs.declared.Timer.{Timer}
 use Rattle.entries.specs.Order.{is_due, sooner}
 use Rattle.percpu.specs.Cpu.{Cpu}
 use Rattle.percpu.specs.With.{cpu_timers, cpu_local_wakeup_list}
 use Rattle.model.specs.State as model
-use Rattle.model.specs.Wakeup.{Wakeup, is_live_timer, timer_wakeup, local_wakeup, stays}
+use Rattle.model.specs.Wakeup.{is_live_timer, timer_wakeup, local_wakeup, stays}
 use Rattle.plain_model.specs.Rank.{by_rank}
 use Rattle.plain_model.specs.State.{placed}
 use Rattle.plain_model.specs.Wakeup.{wakeups, drained, serve_wakeup, serve_wakeups}
 use Rattle.plain_model.proofs.Woken.{wakeups_served}
 use Rattle.stages.specs.Stage.{StateBelow}
 use Rattle.stages.specs.Bounds.{slice_bound}
-use Rattle.wakeup.specs.Paced.{Slow}
 use Rattle.wakeup.proofs.Bounded.{serve_wakeups_below}
 use Rattle.plain_state.specs.declared.State.{State}
 use Rattle.plain_state.specs.States.{state_in, Sound, Became, Tracks}
@@ -29,7 +25,7 @@ use Rattle.plain_state.specs.Fits.{StateFits}
 use Rattle.plain_state.proofs.Fitting.{local_fits, cpu_changed, timers_kept, sound_fits}
 use Rattle.plain_state.proofs.Tracking.{tracks_then}
 use Rattle.plain_wakeup.specs.Wakeups.{timer_step, name_step, Wakeable, Served}
-use Rattle.plain_wakeup.proofs.Ready.{fold_stays, serve_stays, timer_stays}
+use Rattle.plain_wakeup.proofs.Ready.{fold_stays, serve_stays}
 
 fold_both : {A B : Type 0} (f : B → A → B) (b : B) (l m : List A) → fold f b (l ++ m) ≡ fold f (fold f b l) m
 fold_both f b [] m = refl

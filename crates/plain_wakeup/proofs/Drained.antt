@@ -2,10 +2,8 @@
 use mathlib.Core.Path.{◌≡◌, refl, sym, ap, ◌∙◌, subst}
 use mathlib.Core.Bool.{Bool, not, ◌&&◌, ◌||◌}
 use mathlib.Core.List.{List, [], ◌∷◌, map}
-use Prim.Native.Nat.{ℕ, ◌<◌, ◌≤◌}
-use native.Mathlib.Omega.{arith}
+use Prim.Native.Nat.{ℕ, ◌<◌}
 use lib.ListN.{length, get_or}
-use lib.Seq.{get_or-take}
 use Rattle.columns.specs.Common.{keep, All}
 use Rattle.columns.proofs.Keep.{all_keep}
 use Rattle.context.specs.declared.Context.{Context}
@@ -17,12 +15,11 @@ use Rattle.model.specs.State.{at}
 use Rattle.model.specs.Wakeup.{stays, is_live_timer}
 use Rattle.wakeup_judge.specs.Judge.{live_at, unreadable_at}
 use Rattle.plain_model.specs.Wakeup.{drained}
-use Rattle.plain_lists.specs.declared.Queue.{Queue}
-use Rattle.plain_lists.specs.Lists.{entries_of, Sized, Stands}
-use Rattle.plain_lists.proofs.Listing.{length_entries}
+use Rattle.plain_lists.specs.Lists.{Queue}
+use Rattle.plain_lists.specs.Lists.{entries_of, Stands}
 use Rattle.stages.proofs.Fitting.{of_all}
 use Rattle.plain_state.specs.declared.State.{State}
-use Rattle.plain_state.specs.States.{timer_of, state_in, Sound, Became}
+use Rattle.plain_state.specs.States.{Names, timer_of, state_in, Sound, Became}
 use Rattle.plain_wakeup.specs.Wakeups.{entry_stays}
 use Rattle.plain_wakeup.proofs.Turns.{keep_through}
 
@@ -35,17 +32,14 @@ module _ (time : ℕ) (S : model.State) (t : Timer) {x : ℕ} {c : Context} (h :
   gives_is f g = g ∙ rw (f, e, h)
 
 -- the name of a timer's entry
-module _ {n : ℕ} (q : Queue) (z : Sized q) (i : ℕ) (b : i < q.len) (d : Entry) where
-  pub name_at : All (λ (t : Timer). t.context_ref < n) (map timer_of (entries_of q)) → (get_or q.entries i d).key.ctxt_id < n
-  name_at a =
-      subst (λ (e : Entry). e.key.ctxt_id < n) (get_or-take q.len q.entries i d b)
-      (of_all (λ (e : Entry). e.key.ctxt_id < n) d (entries_of q) (names (entries_of q) a) i (let e : length (entries_of q) ≡ q.len = length_entries q z in omega arith))
-    where
-      names : (l : List Entry) → All (λ (t : Timer). t.context_ref < n) (map timer_of l) → All (λ (e : Entry). e.key.ctxt_id < n) l
-      names [] h = tt
-      names (e ∷ l) h = (h.0, names l h.1)
+names : (n : ℕ) (l : List Entry) → All (λ (t : Timer). t.context_ref < n) (map timer_of l) → All (λ (e : Entry). e.key.ctxt_id < n) l
+names n [] h = tt
+names n (e ∷ l) h = (h.0, names n l h.1)
 
-module _ (n time : ℕ) (s : State) (o : Sound n s) {q : Queue} (t : Stands q (keep (entry_stays time (state_in n s)) (entries_of s.cpu.timers))) where
+pub name_at : {n : ℕ} (xs l : List Entry) (i : ℕ) (d : Entry) → xs ≡ l → i < length xs → All (λ (t : Timer). t.context_ref < n) (map timer_of l) → (get_or xs i d).key.ctxt_id < n
+name_at {n} xs l i d e h a = of_all (λ (e : Entry). e.key.ctxt_id < n) d xs (names n xs (rw e a)) i h
+
+module _ (n time : ℕ) (s : State) (o : Sound n s) {q : Queue} {local : Names} (l : Stands local []) (t : Stands q (keep (entry_stays time (state_in n s)) (entries_of s.cpu.timers))) where
   abbrev after : State
   after =
       record {
@@ -54,7 +48,7 @@ module _ (n time : ℕ) (s : State) (o : Sound n s) {q : Queue} (t : Stands q (k
           block = s.cpu.block;
           queue = s.cpu.queue;
           timers = q;
-          local = record { names = s.cpu.local.names; len = 0 };
+          local = local;
           ipi = s.cpu.ipi;
           remainder = s.cpu.remainder;
         };
@@ -76,10 +70,10 @@ module _ (n time : ℕ) (s : State) (o : Sound n s) {q : Queue} (t : Stands q (k
           contexts = o.contexts;
           queue = o.queue;
           timers = t.sized;
-          local = record { places = o.local.places; used = omega arith };
+          local = l.sized;
           ipi = o.ipi;
           flat = subst (λ (l : List Entry). All (λ (e : Entry). e.key.rem_slice ≡ 0) l) (sym t.is)
               (all_keep (entry_stays time (state_in n s)) (λ (e : Entry). e.key.rem_slice ≡ 0) (entries_of s.cpu.timers) o.flat);
         };
-        is = rw timers_are;
+        is = rw (timers_are, l.is);
       }

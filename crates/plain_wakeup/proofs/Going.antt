@@ -1,12 +1,12 @@
 -- Going through a list of wake-ups, one after the other: at most a weight is added each time. Assumes nothing.
 use mathlib.Core.Path.{◌≡◌, refl, sym, ap, ◌∙◌, subst}
-use mathlib.Core.Bool.{Bool, true, false}
-use mathlib.Core.List.{List, [], ◌∷◌, ◌++◌, map}
+use mathlib.Core.Bool.{false}
+use mathlib.Core.List.{List, [], ◌∷◌, map}
 use Prim.Native.Nat.{ℕ, zero, suc, ◌+◌, ◌*◌, ◌<◌, ◌≤◌}
 use native.Mathlib.Numerals.{add-one}
 use native.Mathlib.Omega.{arith}
-use lib.ListN.{length, get_or, take, length-map, length-take}
-use lib.Seq.{take-suc, take_all, get_or-take}
+use lib.ListN.{length, get_or, take, length-map}
+use lib.Seq.{take-suc, take_all}
 use Rattle.columns.specs.Common.{fold, All}
 use Rattle.numbers.specs.Limits.{max_number}
 use Rattle.weights.specs.Weights.{max_weight}
@@ -21,12 +21,12 @@ use Rattle.stages.specs.Bounds.{b_waking}
 use Rattle.stages.proofs.Fitting.{of_all}
 use Rattle.wakeup.proofs.Pacing.{slow_more}
 use Rattle.plain_model.specs.Rank.{by_rank}
-use Rattle.plain_lists.specs.declared.Queue.{Queue}
-use Rattle.plain_lists.specs.Lists.{entries_of, Sized, Stands}
-use Rattle.plain_lists.proofs.Listing.{length_entries}
+use Rattle.plain_lists.specs.Lists.{Queue}
+use Rattle.plain_lists.specs.Lists.{entries_of, Stands}
+use Rattle.plain_lists.proofs.Folds.{fold_behind}
+use Rattle.plain_lists.proofs.Listing.{length_items}
 use Rattle.plain_state.specs.declared.State.{State}
-use Rattle.plain_state.specs.declared.Names.{Names}
-use Rattle.plain_state.specs.States.{list_of, timer_of, state_in, NamesSized, Sound, Tracks}
+use Rattle.plain_state.specs.States.{list_of, timer_of, state_in, Sound, Tracks}
 use Rattle.plain_state.specs.Fits.{StateFits}
 use Rattle.plain_state.proofs.Fitting.{all_placed}
 use Rattle.plain_state.proofs.Tracking.{Stays, tracks_then}
@@ -37,10 +37,6 @@ use Rattle.plain_wakeup.proofs.Ready.{serve_stays, timer_stays, serve_ready, tim
 
 pub ready_more : {n b : ℕ} (c : ℕ) {S : model.State} → b ≤ c → Wakeable n b S → Wakeable n c S
 ready_more c h a = record { fits = a.fits; slow = slow_more c h a.slow }
-
-fold_behind : {A B : Type 0} (f : B → A → B) (b : B) (l : List A) (x : A) → fold f b (l ++ (x ∷ [])) ≡ f (fold f b l) x
-fold_behind f b [] x = refl
-fold_behind f b (y ∷ l) x = fold_behind f (f b y) l x
 
 -- f: a step, of items that are such; b bounds the total weight before them
 module _ {A : Type 0} (n : ℕ) (f : model.State → A → model.State) (P : A → Type 0) where
@@ -89,103 +85,79 @@ map_at (x ∷ l) (suc i) d = map_at l i d
 abbrev Named : ℕ → Timer → Type 0
 Named n t = t.context_ref < n
 
-pub record Timers (n time : ℕ) (before : State) (turns : Queue) (start s : State) (i : ℕ) : Type 0 where
-  pub sized : Sized turns
-  pub here : i ≤ turns.len
-  pub going : Going n (timer_step (state_in n before) time) (Named n) max_number (state_in n start) (map timer_of (entries_of turns)) s i
+-- xs: the entries in their turns; s: the state after the first i of them
+module _ (n time : ℕ) (before : State) (xs : List Entry) where
+  pub record Timers (start s : State) (i : ℕ) : Type 0 where
+    pub going : Going n (timer_step (state_in n before) time) (Named n) max_number (state_in n start) (map timer_of xs) s i
 
-module _ (n time : ℕ) (before : State) (turns : Queue) (o : Sound n before) (t : Stands turns (by_rank entry_before (entries_of before.cpu.timers))) where
-  turns_are : map timer_of (entries_of turns) ≡ by_rank sooner (state_in n before).cpu.timers
-  turns_are = ap (map timer_of) t.is ∙ by_rank_timers (entries_of before.cpu.timers) o.flat
+  as_many : length (map timer_of xs) ≡ length xs
+  as_many = length-map xs timer_of
 
-  as_many : length (map timer_of (entries_of turns)) ≡ turns.len
-  as_many = length-map (entries_of turns) timer_of ∙ length_entries turns t.sized
+  module _ (turns : Queue) (o : Sound n before) (t : Stands turns (by_rank entry_before (entries_of before.cpu.timers))) (e : xs ≡ entries_of turns) where
+    turns_are : map timer_of xs ≡ by_rank sooner (state_in n before).cpu.timers
+    turns_are = ap (map timer_of) (e ∙ t.is) ∙ by_rank_timers (entries_of before.cpu.timers) o.flat
 
-  pub timers_start : (s : State) → Sound n s → StateFits n (state_in n before) → (s.no_room ≡ false → Wakeable n max_number (state_in n s)) → Timers n time before turns s s 0
-  timers_start s p f r =
-      let u : turns.len ≤ 64 = t.sized.used in
-      record {
-        sized = t.sized;
-        here = omega arith;
-        going = going_start n (timer_step (state_in n before) time) (Named n) (map timer_of (entries_of turns)) s (rw as_many u)
-            (subst (λ (l : List Timer). All (Named n) l) (sym turns_are) (all_placed (Named n) timers_ordered (state_in n before).cpu.timers f.cpu.timers)) p r;
-      }
-
-  pub timers_end : {start s : State} {i : ℕ} → Timers n time before turns start s i → turns.len ≤ i
-      → Served n b_timers s (fold (timer_step (state_in n before) time) (state_in n start) (by_rank sooner (state_in n before).cpu.timers))
-  timers_end {start} {s} {i} g h =
-      subst (λ (l : List Timer). Served n b_timers s (fold (timer_step (state_in n before) time) (state_in n start) l)) turns_are
-      (going_end n (timer_step (state_in n before) time) (Named n) g.going (let e : length (map timer_of (entries_of turns)) ≡ turns.len = as_many in omega arith))
-
-pub timer_asks : {n time : ℕ} {before : State} {turns : Queue} {start s : State} {i : ℕ} → Timers n time before turns start s i → s.no_room ≡ false → Wakeable n b_waking (state_in n s)
-timer_asks {n} {time} {before} g z = going_ready n (timer_step (state_in n before) time) (Named n) g.going b_waking (omega arith) z
-
-module _ {n time : ℕ} {before : State} {turns : Queue} {start s : State} {i : ℕ} (g : Timers n time before turns start s i) (h : i < turns.len) (d : Entry) where
-  inside : i < length (map timer_of (entries_of turns))
-  inside = let e : length (map timer_of (entries_of turns)) ≡ turns.len = length-map (entries_of turns) timer_of ∙ length_entries turns g.sized in omega arith
-
-  read_is : get_or (map timer_of (entries_of turns)) i (timer_of d) ≡ timer_of (get_or turns.entries i d)
-  read_is = map_at (entries_of turns) i d ∙ ap timer_of (get_or-take turns.len turns.entries i d h)
-
-  pub timer_named : (get_or turns.entries i d).key.ctxt_id < n
-  timer_named = subst (Named n) read_is (of_all (Named n) (timer_of d) (map timer_of (entries_of turns)) g.going.such i inside)
-
-  pub timers_next : {r : State} → Tracks n r (timer_step (state_in n before) time (state_in n s) (timer_of (get_or turns.entries i d))) → Timers n time before turns start r (i + 1)
-  timers_next {r} t =
-      let x : Timer = timer_of (get_or turns.entries i d) in
-      record {
-        sized = g.sized;
-        here = omega arith;
-        going = going_next n (timer_step (state_in n before) time) (Named n) g.going inside x (timer_of d) read_is (timer_stays (state_in n before) time x)
-            (λ w S a. timer_ready S a (state_in n before) time x timer_named) t;
-      }
-
--- the names of the local list
-pub record Locals (n : ℕ) (local : Names) (start s : State) (i : ℕ) : Type 0 where
-  pub sized : NamesSized local
-  pub here : i ≤ local.len
-  pub going : Going n name_step (λ (x : ℕ). x < n) b_timers (state_in n start) (list_of local) s i
-
-names_many : (local : Names) → NamesSized local → length (list_of local) ≡ local.len
-names_many local z =
-    let a : length local.names ≡ 64 = z.places in
-    let u : local.len ≤ 64 = z.used in
-    rw (length-take local.len local.names) (omega arith)
-
-pub names_start : (n : ℕ) (before s : State) → Sound n before → Sound n s → StateFits n (state_in n before) → (s.no_room ≡ false → Wakeable n b_timers (state_in n s)) → Locals n before.cpu.local s s 0
-names_start n before s o p f r =
-    let u : before.cpu.local.len ≤ 64 = o.local.used in
-    record {
-      sized = o.local;
-      here = omega arith;
-      going = going_start n name_step (λ (x : ℕ). x < n) (list_of before.cpu.local) s (rw (names_many before.cpu.local o.local) u) f.cpu.local p r;
-    }
-
-module _ {n : ℕ} {local : Names} {start s : State} {i : ℕ} (g : Locals n local start s i) where
-  pub name_asks : s.no_room ≡ false → Wakeable n b_waking (state_in n s)
-  name_asks z = going_ready n name_step (λ (x : ℕ). x < n) g.going b_waking (omega arith) z
-
-  pub names_end : local.len ≤ i → Served n b_waking s (fold name_step (state_in n start) (list_of local))
-  names_end h =
-      let e : length (list_of local) ≡ local.len = names_many local g.sized in
-      let z : Served n (b_timers + max_weight * 64) s (fold name_step (state_in n start) (list_of local)) = going_end n name_step (λ (x : ℕ). x < n) g.going (omega arith) in
-      record { tracks = z.tracks; ready = λ y. ready_more b_waking (omega arith) (z.ready y) }
-
-  module _ (h : i < local.len) (d : ℕ) where
-    place : i < length (list_of local)
-    place = let e : length (list_of local) ≡ local.len = names_many local g.sized in omega arith
-
-    name_is : get_or (list_of local) i d ≡ get_or local.names i d
-    name_is = get_or-take local.len local.names i d h
-
-    pub name_below : get_or local.names i d < n
-    name_below = subst (λ (x : ℕ). x < n) name_is (of_all (λ (x : ℕ). x < n) d (list_of local) g.going.such i place)
-
-    pub names_next : {r : State} → Tracks n r (name_step (state_in n s) (get_or local.names i d)) → Locals n local start r (i + 1)
-    names_next {r} t =
+    pub timers_start : (s : State) → Sound n s → StateFits n (state_in n before) → (s.no_room ≡ false → Wakeable n max_number (state_in n s)) → Timers s s 0
+    timers_start s p f r =
+        let u : turns.len ≤ 64 = turns.fits.used in
+        let l : length xs ≡ turns.len = ap length e ∙ length_items turns in
         record {
-          sized = g.sized;
-          here = omega arith;
-          going = going_next n name_step (λ (x : ℕ). x < n) g.going place (get_or local.names i d) d name_is (serve_stays (local_wakeup (get_or local.names i d)))
-              (λ w S a. serve_ready S a (local_wakeup (get_or local.names i d)) name_below) t;
+          going = going_start n (timer_step (state_in n before) time) (Named n) (map timer_of xs) s (rw as_many (omega arith))
+              (subst (λ (l : List Timer). All (Named n) l) (sym turns_are) (all_placed (Named n) timers_ordered (state_in n before).cpu.timers f.cpu.timers)) p r;
         }
+
+    pub timers_end : {start s : State} {i : ℕ} → Timers start s i → length xs ≤ i
+        → Served n b_timers s (fold (timer_step (state_in n before) time) (state_in n start) (by_rank sooner (state_in n before).cpu.timers))
+    timers_end {start} {s} {i} g h =
+        subst (λ (l : List Timer). Served n b_timers s (fold (timer_step (state_in n before) time) (state_in n start) l)) turns_are
+        (going_end n (timer_step (state_in n before) time) (Named n) g.going (rw as_many h))
+
+  module _ {start s : State} {i : ℕ} (g : Timers start s i) where
+    pub timer_asks : s.no_room ≡ false → Wakeable n b_waking (state_in n s)
+    timer_asks z = going_ready n (timer_step (state_in n before) time) (Named n) g.going b_waking (omega arith) z
+
+    module _ (h : i < length xs) (d : Entry) where
+      inside : i < length (map timer_of xs)
+      inside = rw as_many h
+
+      pub timer_named : (get_or xs i d).key.ctxt_id < n
+      timer_named = subst (Named n) (map_at xs i d) (of_all (Named n) (timer_of d) (map timer_of xs) g.going.such i inside)
+
+      pub timers_next : {t : Timer} {r : State} → t ≡ timer_of (get_or xs i d) → Tracks n r (timer_step (state_in n before) time (state_in n s) t) → Timers start r (i + 1)
+      timers_next {t} {r} e k =
+          let x : Timer = timer_of (get_or xs i d) in
+          record {
+            going = going_next n (timer_step (state_in n before) time) (Named n) g.going inside x (timer_of d) (map_at xs i d) (timer_stays (state_in n before) time x)
+                (λ w S a. timer_ready S a (state_in n before) time x timer_named) (rw e at k);
+          }
+
+-- xs: the names of the local list
+module _ (n : ℕ) (xs : List ℕ) where
+  pub record Locals (start s : State) (i : ℕ) : Type 0 where
+    pub going : Going n name_step (λ (x : ℕ). x < n) b_timers (state_in n start) xs s i
+
+  pub names_start : (before s : State) → xs ≡ list_of before.cpu.local → Sound n s → StateFits n (state_in n before) → (s.no_room ≡ false → Wakeable n b_timers (state_in n s)) → Locals s s 0
+  names_start before s e p f r =
+      let u : before.cpu.local.len ≤ 64 = before.cpu.local.fits.used in
+      let l : length xs ≡ before.cpu.local.len = ap length e ∙ length_items before.cpu.local in
+      record { going = going_start n name_step (λ (x : ℕ). x < n) xs s (omega arith) (rw e f.cpu.local) p r }
+
+  module _ {start s : State} {i : ℕ} (g : Locals start s i) where
+    pub name_asks : s.no_room ≡ false → Wakeable n b_waking (state_in n s)
+    name_asks z = going_ready n name_step (λ (x : ℕ). x < n) g.going b_waking (omega arith) z
+
+    pub names_end : length xs ≤ i → Served n b_waking s (fold name_step (state_in n start) xs)
+    names_end h =
+        let z : Served n (b_timers + max_weight * 64) s (fold name_step (state_in n start) xs) = going_end n name_step (λ (x : ℕ). x < n) g.going h in
+        record { tracks = z.tracks; ready = λ y. ready_more b_waking (omega arith) (z.ready y) }
+
+    module _ (h : i < length xs) (d : ℕ) where
+      pub name_below : get_or xs i d < n
+      name_below = of_all (λ (x : ℕ). x < n) d xs g.going.such i h
+
+      pub names_next : {r : State} → Tracks n r (name_step (state_in n s) (get_or xs i d)) → Locals start r (i + 1)
+      names_next {r} t =
+          record {
+            going = going_next n name_step (λ (x : ℕ). x < n) g.going h (get_or xs i d) d refl (serve_stays (local_wakeup (get_or xs i d)))
+                (λ w S a. serve_ready S a (local_wakeup (get_or xs i d)) name_below) t;
+          }

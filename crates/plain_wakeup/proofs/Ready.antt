@@ -1,47 +1,42 @@
 -- What a wake-up asks of a state it leaves behind, with a weight more; and a mark that was set stays. Assumes nothing.
-use Rattle.std.specs.Prelude.{if◌then◌else◌}
-use mathlib.Core.Path.{◌≡◌, refl, sym, subst}
-use mathlib.Core.Bool.{Bool, true, false, ◌&&◌}
+use Rattle.std.specs.Prelude.{None, Option, Some}
+use mathlib.Core.Path.{◌≡◌, sym, subst}
+use mathlib.Core.Bool.{true, ◌&&◌}
 use mathlib.Core.List.{List}
-use mathlib.Core.Option.{Option, none, some}
-use Prim.Native.Nat.{ℕ, ◌+◌, ◌<◌, ◌≤◌}
+use Prim.Native.Nat.{ℕ, ◌+◌, ◌<◌}
 use native.Mathlib.Omega.{arith}
-use Rattle.columns.specs.Common.{fold, All}
+use Rattle.columns.specs.Common.{fold}
 use Rattle.columns.proofs.Tests.{by_test}
 use Rattle.context.specs.declared.Context.{Context}
 use Rattle.context.specs.Key.{queue_key, entry_of}
-use Rattle.weights.specs.Weights.{weight, full_slice, min_weight, max_weight}
+use Rattle.weights.specs.Weights.{weight, max_weight}
 use Rattle.weights.proofs.Table.{weight_low, weight_high}
-use Rattle.entries.specs.declared.Entry.{Entry}
 use Rattle.entries.specs.declared.Timer.{Timer}
 use Rattle.entries.specs.Order.{entry_before, is_due}
 use Rattle.entries.specs.Queue.{keyed}
 use Rattle.entries.proofs.Ordered.{entries_ordered}
-use Rattle.percpu.specs.Cpu.{Cpu}
-use Rattle.percpu.specs.With.{cpu_queue}
 use Rattle.machine.specs.Shape.{ContextFits, EntryFits}
-use Rattle.model.specs.State.{State, at, put_context, on_cpu}
+use Rattle.model.specs.State.{State, at, put_context}
 use Rattle.model.specs.Wakeup as model
 use Rattle.model.specs.Wakeup.{Wakeup, waits_for, woken_by, activated, entering, is_live_timer, timer_wakeup}
 use Rattle.model.proofs.Cases.{pick}
 use Rattle.model.proofs.Lists.{fold_keeps}
 use Rattle.model.proofs.WakeupCases.{wakeup_cases}
-use Rattle.plain_model.specs.Rank.{Differ}
 use Rattle.plain_model.specs.State.{placed}
-use Rattle.plain_model.specs.Wakeup.{put_back, without_old_key, enter, wake_as, serve_wakeup}
+use Rattle.plain_model.specs.Wakeup.{put_back, enter, wake_as, serve_wakeup}
 use Rattle.plain_model.proofs.Placing.{leave_out_differs}
 use Rattle.plain_model.proofs.Woken.{served_placed}
 use Rattle.wakeup.specs.Paced.{Slow}
 use Rattle.wakeup.proofs.Pacing.{slow_serve, slow_more}
-use Rattle.plain_state.specs.Fits.{CpuFitsInAnyOrder, StateFits}
+use Rattle.plain_state.specs.Fits.{StateFits}
 use Rattle.plain_state.proofs.Fitting.{all_left, context_put, entry_inserted, timer_inserted, name_pushed}
 use Rattle.plain_state.proofs.Tracking.{Stays}
-use Rattle.plain_wakeup.specs.Wakeups.{timer_step, name_step, made_active, Wakeable}
+use Rattle.plain_wakeup.specs.Wakeups.{timer_step, made_active, Wakeable}
 
 -- the mark
 back_stays : (o : Option ℕ) (x : ℕ) → Stays (put_back o x)
-back_stays none x S h = rw h
-back_stays (some t) x S h = rw h
+back_stays None x S h = rw h
+back_stays (Some t) x S h = rw h
 
 pub serve_stays : (w : Wakeup) → Stays (λ (S : State). serve_wakeup S w)
 unfolding serve_wakeup wake_as enter
@@ -56,8 +51,8 @@ fold_stays f g l S h = fold_keeps (λ (z : State). z.no_room ≡ true) f (λ z a
 
 -- names, ranges and keys
 woken_fits : (o : Option ℕ) (c : Context) → ContextFits 4 c → ContextFits 4 (woken_by o c)
-woken_fits none c f = f
-woken_fits (some t) c f = by_test (waits_for t c) (λ e. rw e (record { cpu_id = f.cpu_id; prio = f.prio; rem_slice = f.rem_slice })) (λ e. rw e f)
+woken_fits None c f = f
+woken_fits (Some t) c f = by_test (waits_for t c) (λ e. rw e (record { cpu_id = f.cpu_id; prio = f.prio; rem_slice = f.rem_slice })) (λ e. rw e f)
 
 module _ {n : ℕ} (s : State) (f : StateFits n s) where
   active_fits : (c : Context) → StateFits n (made_active c s)
@@ -90,8 +85,8 @@ module _ {n : ℕ} (s : State) (f : StateFits n s) where
       (entry_of x (weight c.prio) (entering s.cpu.block.v c)) (record { name = h; light = weight_high c.prio p; heavy = weight_low c.prio p })
 
   back_fits : (o : Option ℕ) (x : ℕ) → x < n → StateFits n (put_back o x s)
-  back_fits none x h = name_pushed s f x h
-  back_fits (some t) x h = timer_inserted s f (record { wake = t; context_ref = x }) h
+  back_fits None x h = name_pushed s f x h
+  back_fits (Some t) x h = timer_inserted s f (record { wake = t; context_ref = x }) h
 
   pub serve_fits : (w : Wakeup) → w.context_ref < n → StateFits n (serve_wakeup s w)
   unfolding serve_wakeup wake_as

@@ -1,15 +1,14 @@
 -- One wake-up served, in the code's words: a lemma for each return. Assumes nothing.
-use Rattle.std.specs.Prelude.{if◌then◌else◌}
-use mathlib.Core.Path.{◌≡◌, refl, sym, ap, ◌∙◌, subst}
+use Rattle.std.specs.Prelude.{if◌then◌else◌, None, Option, Some}
+use mathlib.Core.Path.{◌≡◌, refl, sym, ap, ◌∙◌}
 use mathlib.Core.Bool.{Bool, true, false, not, ◌&&◌}
 use mathlib.Core.List.{List}
-use mathlib.Core.Option.{Option, none, some}
 use Prim.Native.Nat.{ℕ, ◌<◌, ◌≤◌}
 use native.Mathlib.Omega.{arith}
 use lib.Dec.{eqb}
 use borrow.Author.Tests.{eq-eqb, ne_eqb}
 use Rattle.columns.proofs.Tests.{by_test}
-use Rattle.numbers.specs.Limits.{max_number, half_range}
+use Rattle.numbers.specs.Limits.{half_range}
 use Rattle.context.specs.declared.Context.{Context}
 use Rattle.context.specs.Key.{queue_key, entry_of}
 use Rattle.weights.specs.Weights.{weight}
@@ -20,13 +19,12 @@ use Rattle.entries.specs.Order.{is_due}
 use Rattle.percpu.specs.declared.PercpuBlock.{PercpuBlock}
 use Rattle.model.specs.State as model
 use Rattle.model.specs.State.{at, put_context}
-use Rattle.model.specs.Wakeup as definition
 use Rattle.model.specs.Wakeup.{waits_for, woken_by, may_enter, entering, wakeup_result, is_live_timer, timer_wakeup, dropped, locked, entered, woken_only}
 use Rattle.wakeup_judge.specs.Judge.{may_enter_at, activated_block, Enterable}
 use Rattle.stages.specs.Bounds.{b_waking}
-use Rattle.plain_model.specs.State.{insert_entry, insert_timer, queue_without}
+use Rattle.plain_model.specs.State.{insert_entry, queue_without}
 use Rattle.plain_model.specs.Wakeup.{put_back, without_old_key, enter, wake_as, serve_wakeup}
-use Rattle.plain_lists.specs.declared.Queue.{Queue}
+use Rattle.plain_lists.specs.Lists.{Queue}
 use Rattle.plain_lists.specs.Lists.{entries_of, Stands}
 use Rattle.plain_state.specs.declared.State.{State}
 use Rattle.plain_state.specs.States.{state_in, Sound, Became, Tracks}
@@ -60,12 +58,12 @@ pub entering_prio : (v : ℕ) (c : Context) {e : Context} → e ≡ entering v c
 entering_prio v c h l = rw h l
 
 woken_prio : (o : Option ℕ) (c : Context) → (woken_by o c).prio ≡ c.prio
-woken_prio none c = refl
-woken_prio (some t) c = by_test (waits_for t c) (λ e. rw e) (λ e. rw e)
+woken_prio None c = refl
+woken_prio (Some t) c = by_test (waits_for t c) (λ e. rw e) (λ e. rw e)
 
 woken_vtime : (o : Option ℕ) (c : Context) → (woken_by o c).vtime ≡ c.vtime
-woken_vtime none c = refl
-woken_vtime (some t) c = by_test (waits_for t c) (λ e. rw e) (λ e. rw e)
+woken_vtime None c = refl
+woken_vtime (Some t) c = by_test (waits_for t c) (λ e. rw e) (λ e. rw e)
 
 -- q: the record that the wake-up leaves
 module _ (o : Option ℕ) (c : Context) {q : Context} (h : q ≡ woken_by o c) where

@@ -1,6 +1,5 @@
 -- A wake-up by value, the steps of the two lists, and what they ask of a state. Assumes nothing.
-use Rattle.std.specs.Prelude.{◌≡◌, Bool, false, ◌&&◌, ℕ, ◌+◌, ◌*◌, if◌then◌else◌}
-use Rattle.std.proofs.Math.Option.{Option, none, some}
+use Rattle.std.specs.Prelude.{◌≡◌, Bool, false, Option, None, Some, ◌&&◌, ℕ, ◌+◌, ◌*◌, if◌then◌else◌}
 use Rattle.numbers.specs.Limits.{max_number}
 use Rattle.weights.specs.Weights.{weight, max_weight}
 use Rattle.context.specs.declared.Context.{Context}
@@ -22,7 +21,7 @@ use Rattle.plain_state.specs.Fits.{StateFits}
 use Rattle.plain_wakeup.specs.declared.judge.Wakeup.{Wakeup}
 
 abbrev pub wake_of : Wakeup → Option ℕ
-wake_of w = if w.by_timer then some w.wake else none
+wake_of w = w.wake
 
 abbrev pub wakeup_of : Wakeup → definition.Wakeup
 wakeup_of w = record { wake = wake_of w; context_ref = w.context_ref }

@@ -1,4 +1,5 @@
 // A timer and a wake-up judged by value: of the CPU's names and of the context's record.
+// Its own code and not wakeup_judge's: the plain engine shares no function of a stage with the fast one.
 ghost use Rattle.std.specs.Prelude.{◌≡◌, ◌<◌};
 ghost use Rattle.numbers.specs.Limits.{half_range};
 ghost use Rattle.model.specs.Wakeup.{waits_for, woken_by, entering};
@@ -12,8 +13,7 @@ use percpu::PercpuBlock;
 // A context to be woken; `wake` is that of the timer that gave it, if a timer did.
 #[derive(Clone, Copy)]
 pub struct Wakeup {
-    pub by_timer: bool,
-    pub wake: u64,
+    pub wake: Option<u64>,
     pub context_ref: u64,
 }
 
@@ -21,14 +21,7 @@ pub struct Wakeup {
 fn waits_for(c: Context, wake: u64) -> bool
     ensures { result ≡ waits_for wake c }
 {
-    let status = c.status;
-    if status.is_soft_blocked() {
-        if c.has_wake {
-            return c.wake == wake;
-        }
-        return false;
-    }
-    false
+    c.status.is_soft_blocked() && c.has_wake && c.wake == wake
 }
 
 // A due timer gives a wake-up if its context can be read and still waits for that wake.
@@ -61,25 +54,23 @@ pub fn is_unreadable(sched: u64, t: Timer, c: Context) -> bool
 }
 
 // The record as the wake-up leaves it.
-pub fn woken_by(w: Wakeup, c: Context) -> Context
+pub fn woken_by(w: Wakeup, mut c: Context) -> Context
     ensures { result ≡ woken_by (wake_of w) c }
 {
-    if w.by_timer {
-        if waits_for(c, w.wake) {
-            let woken = c.wake_up();
-            return woken.context;
+    match w.wake {
+        Some(wake) if waits_for(c, wake) => {
+            c.wake_up();
+            c
         }
-        return c;
+        _ => c,
     }
-    c
 }
 
 // Only runnable user contexts enter, and of the running ones only the one that this CPU switched to directly.
 pub fn may_enter(current: u64, sched: u64, x: u64, c: Context) -> bool
     ensures { result ≡ may_enter_at current sched x c }
 {
-    let status = c.status;
-    if !status.is_runnable() {
+    if !c.status.is_runnable() {
         return false;
     }
     if c.currently_scheduled {
@@ -102,7 +93,7 @@ pub fn enter_record(v: u64, mut c: Context) -> Context
     requires { Enterable v c }
     ensures { result ≡ entering v c }
 {
-    let vtime = numbers::max(c.vtime, v);
+    let vtime = c.vtime.max(v);
     let vd = vtime + weights::slice_of(c.prio);
     c.vtime = vtime;
     c.vd = vd;

@@ -18,7 +18,6 @@ ghost use Rattle.plain_state.specs.States.{state_in, Sound, Tracks};
 ghost use Rattle.plain_state.specs.Fits.{StateFits};
 ghost use Rattle.plain_wakeup.specs.Wakeups.{b_timers, timer_step, name_step, Wakeable, Served};
 
-use entries::Timer;
 pub use judge::Wakeup;
 use plain_state::State;
 
@@ -28,20 +27,10 @@ fn serve_timers(before: State, s: State, n: usize, time: u64) -> State
     requires state_fits { (StateFits n (state_in n before)) × (s.no_room ≡ false → Wakeable n max_number (state_in n s)) }
     ensures { Served n b_timers result (fold (timer_step (state_in n before) time) (state_in n s) (by_rank sooner (state_in n before).cpu.timers)) }
 {
-    let cpu = before.cpu;
-    let timers = cpu.timers;
-    let turns = timers.by_rank();
+    let turns = before.cpu.timers.by_rank();
     let mut s = s;
-    let mut i = 0;
-    while i < turns.len {
-        let e = turns.entries[i];
-        let key = e.key;
-        let t = Timer {
-            wake: key.vd,
-            context_ref: key.ctxt_id,
-        };
-        s = serve::serve_timer(before, s, n, time, t);
-        i += 1;
+    for e in turns.as_slice() {
+        s = serve::serve_timer(before, s, n, time, plain_state::timer_of(*e));
     }
     s
 }
@@ -52,14 +41,10 @@ fn serve_names(before: State, s: State, n: usize) -> State
     requires state_fits { (StateFits n (state_in n before)) × (s.no_room ≡ false → Wakeable n b_timers (state_in n s)) }
     ensures { Served n b_waking result (fold name_step (state_in n s) (state_in n before).cpu.local_wakeup_list) }
 {
-    let cpu = before.cpu;
-    let local = cpu.local;
+    let local = before.cpu.local;
     let mut s = s;
-    let mut i = 0;
-    while i < local.len {
-        let x = local.names[i];
-        s = serve::serve_name(s, n, x);
-        i += 1;
+    for x in local.as_slice() {
+        s = serve::serve_name(s, n, *x);
     }
     s
 }

@@ -4,7 +4,7 @@ ghost use Rattle.numbers.specs.Limits.{max_number, half_range};
 ghost use Rattle.entries.specs.Order.{is_due};
 ghost use Rattle.model.specs.Wakeup.{is_live_timer, woken_by};
 ghost use Rattle.plain_model.specs.Wakeup.{put_back, without_old_key, enter, serve_wakeup};
-ghost use Rattle.plain_lists.specs.Lists.{entries_of, Sized, Stands};
+ghost use Rattle.plain_lists.specs.Lists.{entries_of, Stands};
 ghost use Rattle.plain_state.specs.States.{state_in, Sound, Became, Tracks};
 ghost use Rattle.stages.specs.Bounds.{b_waking};
 ghost use Rattle.wakeup_judge.specs.Judge.{Enterable};
@@ -15,26 +15,27 @@ use crate::judge::Wakeup;
 use context::Context;
 use entries::Timer;
 use plain_lists::Queue;
-use plain_state::{Cpu, State};
+use plain_state::State;
 
 // A context that is locked is tried again at the next decision.
 fn put_back(s: State, n: usize, w: Wakeup) -> State
     requires { Sound n s }
     ensures { Tracks n result (put_back (wake_of w) w.context_ref (state_in n s)) }
 {
-    if w.by_timer {
-        let t = Timer {
-            wake: w.wake,
-            context_ref: w.context_ref,
-        };
-        return s.insert_timer(n, t);
+    match w.wake {
+        Some(wake) => {
+            let t = Timer {
+                wake,
+                context_ref: w.context_ref,
+            };
+            s.insert_timer(n, t)
+        }
+        None => s.push_local(n, w.context_ref),
     }
-    s.push_local(n, w.context_ref)
 }
 
 // Without the key that the context had.
 fn without_old_key(q: Queue, c: Context) -> Queue
-    requires { Sized q }
     ensures { Stands result (without_old_key c (entries_of q)) }
 {
     if c.has_queue_key {
@@ -45,32 +46,13 @@ fn without_old_key(q: Queue, c: Context) -> Queue
 }
 
 // The context counts in the total weight, and its old key leaves the queue.
-fn made_active(s: State, n: usize, c: Context) -> State
+fn made_active(mut s: State, n: usize, c: Context) -> State
     requires { (Sound n s) × (c.prio < 40) × (s.cpu.block.total_weight < half_range) }
     ensures { Became n result (made_active c (state_in n s)) }
 {
-    let contexts = s.contexts;
-    let cpu = s.cpu;
-    let old = cpu.block;
-    let before = cpu.queue;
-    let timers = cpu.timers;
-    let local = cpu.local;
-    let ipi = cpu.ipi;
-    let block = judge::activate_block(old, c);
-    let queue = without_old_key(before, c);
-    let changed = Cpu {
-        block: block,
-        queue: queue,
-        timers: timers,
-        local: local,
-        ipi: ipi,
-        remainder: cpu.remainder,
-    };
-    State {
-        contexts: contexts,
-        cpu: changed,
-        no_room: s.no_room,
-    }
+    s.cpu.block = judge::activate_block(s.cpu.block, c);
+    s.cpu.queue = without_old_key(s.cpu.queue, c);
+    s
 }
 
 // The record e is stored, and its entry inserted.
@@ -90,9 +72,7 @@ fn enter(s: State, n: usize, x: usize, c: Context) -> State
     requires enterable { (Enterable s.cpu.block.v c) × (s.cpu.block.total_weight < half_range) }
     ensures { Tracks n result (enter x c (state_in n s)) }
 {
-    let cpu = s.cpu;
-    let block = cpu.block;
-    let e = judge::enter_record(block.v, c);
+    let e = judge::enter_record(s.cpu.block.v, c);
     let t = made_active(s, n, c);
     join(t, n, x, e)
 }
@@ -103,8 +83,7 @@ fn wake(s: State, n: usize, w: Wakeup, c: Context) -> State
     requires enterable { (Enterable s.cpu.block.v c) × (s.cpu.block.total_weight < half_range) }
     ensures { Tracks n result (woken_as (state_in n s) w.context_ref (woken_by (wake_of w) c)) }
 {
-    let cpu = s.cpu;
-    let block = cpu.block;
+    let block = s.cpu.block;
     let x = numbers::index(w.context_ref);
     let q = judge::woken_by(w, c);
     if judge::may_enter(block.current_ctxt, block.sched_ctxt, w.context_ref, q) {
@@ -119,8 +98,7 @@ pub fn serve(s: State, n: usize, w: Wakeup) -> State
     requires wakeable { s.no_room ≡ false → Wakeable n b_waking (state_in n s) }
     ensures { Tracks n result (serve_wakeup (state_in n s) (wakeup_of w)) }
 {
-    let cpu = s.cpu;
-    let block = cpu.block;
+    let block = s.cpu.block;
     let x = numbers::index(w.context_ref);
     let c = s.context(n, x);
     if s.no_room {
@@ -143,12 +121,10 @@ fn gives_wakeup(before: State, n: usize, time: u64, t: Timer) -> bool
     requires { (Sound n before) × (t.context_ref < n) × (time ≤ max_number) }
     ensures { result ≡ (is_due time t && is_live_timer (state_in n before) t) }
 {
-    let cpu = before.cpu;
-    let block = cpu.block;
     let x = numbers::index(t.context_ref);
     let c = before.context(n, x);
     let due = t.wake <= time + 1;
-    let live = judge::is_live(block.sched_ctxt, t, c);
+    let live = judge::is_live(before.cpu.block.sched_ctxt, t, c);
     numbers::both(due, live)
 }
 
@@ -160,8 +136,7 @@ pub fn serve_timer(before: State, s: State, n: usize, time: u64, t: Timer) -> St
 {
     if gives_wakeup(before, n, time, t) {
         let w = Wakeup {
-            by_timer: true,
-            wake: t.wake,
+            wake: Some(t.wake),
             context_ref: t.context_ref,
         };
         return serve(s, n, w);
@@ -176,8 +151,7 @@ pub fn serve_name(s: State, n: usize, x: u64) -> State
     ensures { Tracks n result (name_step (state_in n s) x) }
 {
     let w = Wakeup {
-        by_timer: false,
-        wake: 0,
+        wake: None,
         context_ref: x,
     };
     serve(s, n, w)

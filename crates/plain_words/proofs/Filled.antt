@@ -5,8 +5,8 @@ use mathlib.Core.List.{List, [], ◌∷◌, ◌++◌, map}
 use Prim.Native.Nat.{ℕ, zero, suc, ◌+◌, ◌-◌, ◌<◌, ◌≤◌}
 use native.Mathlib.Omega.{arith}
 use lib.Dec.{ltb}
-use lib.ListN.{length, get_or, set, take, length-set, length-map, replicate, get_or-replicate, get_or-append}
-use lib.Seq.{get_or-set_same, get_or-set_other, get_or-take, length-take-le, ext_get_or, get_or-append-add}
+use lib.ListN.{length, get_or, take, length-map, replicate, get_or-replicate, get_or-append}
+use lib.Seq.{get_or-take, length-take-le, ext_get_or, get_or-append-add}
 use borrow.Author.Tests.{ltb-true, ltb-false}
 use Rattle.columns.specs.Common.{All, tabulate}
 use Rattle.columns.specs.Columns.{pad}

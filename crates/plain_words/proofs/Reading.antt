@@ -1,10 +1,16 @@
 -- What is read of a block and of an image. Assumes nothing.
 use mathlib.Core.Path.{◌≡◌, refl, sym, ap, ◌∙◌, subst}
-use mathlib.Core.List.{List, [], ◌∷◌, map}
+use mathlib.Core.List.{List, [], ◌∷◌}
 use Prim.Native.Nat.{ℕ, zero, suc, ◌+◌, ◌-◌, ◌<◌, ◌≤◌}
 use native.Mathlib.Omega.{arith}
 use lib.ListN.{length, get_or, set, take, drop}
-use lib.Seq.{ext_get_or}
+use lib.Seq.{get_or-take, get_or-drop}
+use denote.Param.Members.{Mut}
+use lib.Dec.{eqb}
+use borrow.Author.Tests.{eqb-true, eqb-false}
+use Rattle.columns.proofs.Tests.{by_test}
+use Rattle.std.specs.Fn.{Called}
+use Rattle.std.specs.Array.{IsFromFnResult, IsFromFnResultFrom}
 use Rattle.columns.specs.Common.{All, tabulate}
 use Rattle.columns.proofs.Tabulate.{tabulate_is, length_tabulate}
 use Rattle.context.specs.declared.Context.{Context}
@@ -19,16 +25,29 @@ use Rattle.machine.proofs.Places.{lent_is}
 use Rattle.machine.specs.Machine.{Machine, context_at, cpu_at, no_context, no_cpu}
 use Rattle.machine.specs.Encode.{encode, cpu_place}
 use Rattle.machine.specs.Shape.{Fits, Image}
-use Rattle.plain_lists.specs.declared.Queue.{Queue}
+use Rattle.plain_lists.specs.Lists.{Queue}
 use Rattle.plain_lists.specs.Lists.{Stands}
-use Rattle.plain_state.specs.declared.Names.{Names}
+use Rattle.plain_state.specs.States.{Names}
 use Rattle.plain_state.specs.declared.Cpu.{Cpu}
 use Rattle.plain_state.specs.States.{timer_of, cpu_in, CpuSound}
 use Rattle.plain_words.specs.Words.{Counted, Short, CpuRead, TimersRead, NamesRead, ContextsRead, CpusRead}
+use Rattle.plain_lists.proofs.Listing.{sized}
 use Rattle.plain_lists.proofs.Filling.{Filled, filled_next, filled_all}
 use Rattle.plain_words.proofs.Filled.{filled_map, filled_is, filled_alike}
 
--- of a block's words
+-- what `array::from_fn` made by calls that leave f as it is
+module _ {F A : Type 0} (g : Mut F (ℕ × Unit {0}) A) (f : F) (P : ℕ → A → Type 0) (h : (j : ℕ) (x : A) (q : F) → Called g f (j, tt) x q → P j x × (q ≡ f)) (d : A) (xs : List A) where
+  made_from : (n i : ℕ) (e : F) → e ≡ f → IsFromFnResultFrom g e xs i n → (k : ℕ) → i ≤ k → k < i + n → P k (get_or xs k d)
+  made_from zero i e s r k a b = absurd (omega arith)
+  made_from (suc n) i e s r k a b =
+      let t = h i r.1 r.0 (subst (λ (p : F). Called g p (i, tt) r.1 r.0) s r.3) in
+      by_test (eqb k i)
+      (λ u. rw (eqb-true k i u) (subst (P i) (sym (r.2.1 d)) t.0))
+      (λ u. let z : k ≡ i → ⊥ = eqb-false k i u in made_from n (i + 1) r.0 t.1 r.4 k (omega arith) (omega arith))
+
+  pub made : (n : ℕ) → IsFromFnResult g f xs n → (k : ℕ) → k < n → P k (get_or xs k d)
+  made n r k b = made_from n 0 f refl r.each k (omega arith) (omega arith)
+
 module _ (w : List ℕ) where
   abbrev pub IsEntry : ℕ → Entry → Type 0
   IsEntry j e = e ≡ entry_at w j
@@ -36,34 +55,29 @@ module _ (w : List ℕ) where
   abbrev pub IsTimer : ℕ → Entry → Type 0
   IsTimer j e = (timer_of e ≡ timer_at w j) × (e.key.rem_slice ≡ 0)
 
-  abbrev pub IsName : ℕ → ℕ → ℕ → Type 0
-  IsName at j x = x ≡ get_or w (at + j) 0
+  pub queue_read : (r : Queue) → ((j : ℕ) → j < 64 → IsEntry j (get_or r.items j no_entry)) → Stands r (tabulate r.len (entry_at w))
+  queue_read r f =
+      let u : r.len ≤ 64 = r.fits.used in
+      record { sized = sized r; is = filled_is no_entry (entry_at w) 64 r.len r.items r.fits.places u (λ j b. f j (omega arith)) }
 
-module _ (w : List ℕ) (len : ℕ) (h : len ≤ 64) where
-  pub queue_read : (l : List Entry) (i : ℕ) → Filled no_entry (IsEntry w) 64 len l i → len ≤ i → Stands (record { entries = l; len = len }) (tabulate len (entry_at w))
-  queue_read l i f g =
+  pub timers_read : (r : Queue) → ((j : ℕ) → j < 64 → IsTimer j (get_or r.items j no_entry)) → TimersRead w r.len r
+  timers_read r f =
+      let u : r.len ≤ 64 = r.fits.used in
+      let b : length r.items ≡ 64 = r.fits.places in
       record {
-        sized = record { places = f.places; used = h };
-        is = filled_is no_entry (entry_at w) 64 len l f.places h (filled_all no_entry (IsEntry w) l i f g);
+        sized = sized r;
+        is = filled_map no_entry timer_of (timer_at w) 64 r.len r.items b u (λ j c. (f j (omega arith)).0);
+        flat = filled_alike no_entry (λ (e : Entry). e.key.rem_slice ≡ 0) r.len r.items (omega arith) (λ j c. (f j (omega arith)).1);
       }
 
-  pub timers_read : (l : List Entry) (i : ℕ) → Filled no_entry (IsTimer w) 64 len l i → len ≤ i → TimersRead w len (record { entries = l; len = len })
-  timers_read l i f g =
-      let a : (j : ℕ) → j < len → IsTimer w j (get_or l j no_entry) = filled_all no_entry (IsTimer w) l i f g in
-      let b : length l ≡ 64 = f.places in
+  pub names_read : (at : ℕ) (r : Names) → at + 64 ≤ length w → r.items ≡ take 64 (drop at w) → NamesRead w at r.len r
+  names_read at r h e =
+      let u : r.len ≤ 64 = r.fits.used in
       record {
-        sized = record { places = f.places; used = h };
-        is = filled_map no_entry timer_of (timer_at w) 64 len l b h (λ j c. (a j c).0);
-        flat = filled_alike no_entry (λ (e : Entry). e.key.rem_slice ≡ 0) len l (omega arith) (λ j c. (a j c).1);
+        sized = sized r;
+        is = filled_is 0 (λ (j : ℕ). get_or w (at + j) 0) 64 r.len r.items r.fits.places u
+            (λ j b. ap (λ (l : List ℕ). get_or l j 0) e ∙ get_or-take 64 (drop at w) j 0 (omega arith) ∙ get_or-drop at w j 0);
       }
-
-  module _ (at : ℕ) where
-    pub names_read : (l : List ℕ) (i : ℕ) → Filled 0 (IsName w at) 64 len l i → len ≤ i → NamesRead w at len (record { names = l; len = len })
-    names_read l i f g =
-        record {
-          sized = record { places = f.places; used = h };
-          is = filled_is 0 (λ (j : ℕ). get_or w (at + j) 0) 64 len l f.places h (filled_all 0 (IsName w at) l i f g);
-        }
 
 sound_set : (l : List Cpu) (i : ℕ) (p : Cpu) → All CpuSound l → CpuSound p → All CpuSound (set l i p)
 sound_set [] i p s e = tt
@@ -75,12 +89,12 @@ module _ (c n : ℕ) (m : List ℕ) where
   abbrev pub IsContext : ℕ → Context → Type 0
   IsContext x q = (M : Machine) → m ≡ encode M → Fits c n M → q ≡ context_at M.contexts x
 
-  pub contexts_read : (l : List Context) (i : ℕ) → n ≤ 64 → Filled no_context IsContext 64 n l i → n ≤ i → ContextsRead c n m l
+  pub contexts_read : (l : List Context) (i : ℕ) → n ≤ 64 → Filled no_context IsContext 64 l i → n ≤ i → ContextsRead c n m l
   contexts_read l i h f g =
       record {
         places = f.places;
         is = λ M e o.
-            filled_is no_context (λ (x : ℕ). context_at M.contexts x) 64 n l f.places h (λ j b. filled_all no_context IsContext l i f g j b M e o)
+            filled_is no_context (λ (x : ℕ). context_at M.contexts x) 64 n l f.places h (λ j b. filled_all no_context IsContext n l i f g j b M e o)
             ∙ subst (λ (y : ℕ). tabulate y (λ (x : ℕ). context_at M.contexts x) ≡ M.contexts) o.contexts
             (tabulate_is no_context M.contexts (λ (x : ℕ). context_at M.contexts x) (λ x b. refl));
       }
@@ -89,13 +103,13 @@ module _ (c n : ℕ) (m : List ℕ) where
   IsCpu k p = CpuSound p × ((M : Machine) → m ≡ encode M → Fits c n M → cpu_in p ≡ cpu_at M k)
 
   module _ (d : Cpu) where
-    pub cpus_next : (l : List Cpu) (i : ℕ) (p : Cpu) → Filled d IsCpu 4 c l i × All CpuSound l → i < c → c ≤ 4 → IsCpu i p → Filled d IsCpu 4 c (set l i p) (i + 1) × All CpuSound (set l i p)
-    cpus_next l i p (f, s) h g e = (filled_next d IsCpu l i p f h g e, sound_set l i p s e.0)
+    pub cpus_next : (l : List Cpu) (i : ℕ) (p : Cpu) → Filled d IsCpu 4 l i × All CpuSound l → i < 4 → IsCpu i p → Filled d IsCpu 4 (set l i p) (i + 1) × All CpuSound (set l i p)
+    cpus_next l i p (f, s) h e = (filled_next d IsCpu l i p f h e, sound_set l i p s e.0)
 
-    pub cpus_read : (l : List Cpu) (i : ℕ) → c ≤ 4 → Filled d IsCpu 4 c l i × All CpuSound l → c ≤ i → CpusRead c n m l
+    pub cpus_read : (l : List Cpu) (i : ℕ) → c ≤ 4 → Filled d IsCpu 4 l i × All CpuSound l → c ≤ i → CpusRead c n m l
     unfolding cpu_at
     cpus_read l i h (f, s) g =
-        let a : (j : ℕ) → j < c → IsCpu j (get_or l j d) = filled_all d IsCpu l i f g in
+        let a : (j : ℕ) → j < c → IsCpu j (get_or l j d) = filled_all d IsCpu c l i f g in
         let b : length l ≡ 4 = f.places in
         record {
           places = b;

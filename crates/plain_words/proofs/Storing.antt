@@ -1,27 +1,28 @@
 -- Records and blocks written one after the other. Assumes nothing.
-use mathlib.Core.Path.{◌≡◌, refl, sym, ap, ◌∙◌, subst}
+use mathlib.Core.Path.{◌≡◌, refl, sym, ap, ◌∙◌}
 use mathlib.Core.List.{List, [], ◌∷◌, ◌++◌, map, append-nil}
-use Prim.Native.Nat.{ℕ, zero, suc, ◌+◌, ◌-◌, ◌*◌, ◌<◌, ◌≤◌}
+use Prim.Native.Nat.{ℕ, zero, suc, ◌+◌, ◌-◌, ◌<◌, ◌≤◌}
 use native.Mathlib.Omega.{arith}
-use lib.ListN.{length, get_or, set, take, drop, length-set, length-drop}
-use lib.Seq.{length-take-le, ext_get_or, get_or-take, take_all, set_at}
+use lib.ListN.{length, get_or, set, take, drop, length-drop, replicate, length-replicate}
+use lib.Seq.{length-take-le, ext_get_or, get_or-take, take_all}
 use borrow.Rule.Slice.PartMut.{put_mid}
 use Rattle.columns.specs.Common.{All, tabulate}
 use Rattle.columns.specs.Blocks.{splice, splice_is, splice_mid}
 use Rattle.context.specs.declared.Context.{Context}
 use Rattle.context.specs.Words.{context_words, record_size}
 use Rattle.percpu.specs.Cpu as model
-use Rattle.percpu.specs.Layout.{cpu_words}
+use Rattle.percpu.specs.Layout.{cpu_words, no_entry}
 use Rattle.percpu.specs.Places.{block_size}
 use Rattle.percpu.specs.Words.{block_words, length_block_words}
 use Rattle.percpu.specs.declared.PercpuBlock.{PercpuBlock}
 use Rattle.plain_state.specs.States.{CpuSound}
 use Rattle.machine.specs.Machine.{Machine, set_context, set_cpu, no_context, no_cpu}
 use Rattle.machine.specs.Encode.{encode, context_place, cpu_place}
-use Rattle.machine.proofs.Places.{context_splice, cpu_splice, length_encode}
+use Rattle.machine.proofs.Places.{context_splice, cpu_splice}
 use Rattle.plain_lists.proofs.Arrays.{read_front}
 use Rattle.plain_state.specs.declared.Cpu.{Cpu}
 use Rattle.plain_words.specs.Stored.{ImageSized, Encoded, placed_in, with_contexts, with_cpus}
+use Rattle.plain_lists.specs.Fits.{Fits}
 use Rattle.plain_lists.proofs.Filling.{Filled, filled_none, filled_next, filled_all}
 use Rattle.plain_words.proofs.Filled.{filled_is, filled_map}
 
@@ -51,29 +52,27 @@ module _ (c n : ℕ) (cs : List Context) where
 
   pub record SomeContexts (M : Machine) (m : List ℕ) (x : ℕ) : Type 0 where
     pub contexts : List Context
-    pub filled : Filled no_context IsRecord n n contexts x
+    pub filled : Filled no_context IsRecord n contexts x
     pub is : m ≡ encode (with_contexts contexts M)
 
   pub record StoringContexts (m₀ m : List ℕ) (x : ℕ) : Type 0 where
     pub sized : ImageSized c n m
-    pub most : x ≤ n
     pub so_far : (M : Machine) → length M.cpus ≡ c → length M.contexts ≡ n → m₀ ≡ encode M → SomeContexts M m x
 
   pub contexts_none : (m : List ℕ) → ImageSized c n m → StoringContexts m m 0
   contexts_none m z =
-      record { sized = z; most = omega arith; so_far = λ M lc ln e. record { contexts = M.contexts; filled = filled_none no_context IsRecord n n M.contexts ln; is = e } }
+      record { sized = z; so_far = λ M lc ln e. record { contexts = M.contexts; filled = filled_none no_context IsRecord n M.contexts ln; is = e } }
 
   pub contexts_next : (m₀ m m' : List ℕ) (x : ℕ) (d : Context) → length cs ≡ 64 → n ≤ 64 → StoringContexts m₀ m x → x < n → Encoded c n m m' (set_context x (get_or cs x d)) → StoringContexts m₀ m' (x + 1)
   contexts_next m₀ m m' x d l b s h o =
       let q : Context = get_or cs x d in
       record {
         sized = o.sized;
-        most = omega arith;
         so_far = λ M lc ln i.
             let t : SomeContexts M m x = s.so_far M lc ln i in
             record {
               contexts = set t.contexts x q;
-              filled = filled_next no_context IsRecord t.contexts x q t.filled h (omega arith) (read_front cs n x d no_context h (omega arith));
+              filled = filled_next no_context IsRecord t.contexts x q t.filled h (read_front cs n x d no_context h (omega arith));
               is = o.encoded (with_contexts t.contexts M) lc t.filled.places t.is;
             };
       }
@@ -88,19 +87,22 @@ module _ (c n : ℕ) (cs : List Context) where
             let w : length t.contexts ≡ n = t.filled.places in
             let v : t.contexts ≡ take n cs
             = ext_get_or no_context t.contexts (take n cs) (w ∙ sym u)
-            (λ j g. filled_all no_context IsRecord t.contexts x t.filled h j (rw w at g))
+            (λ j g. filled_all no_context IsRecord n t.contexts x t.filled h j (rw w at g))
             in t.is ∙ ap (λ (ds : List Context). encode (with_contexts ds M)) v;
       }
+
+pub nothing : {A : Type 0} {a : A} → Fits 64 (replicate 64 a) 0
+nothing {a = a} = record { places = length-replicate 64 a; used = omega arith }
 
 -- what is read past the end
 abbrev pub nobody : Cpu
 nobody =
     record {
       block = no_cpu.block;
-      queue = record { entries = []; len = 0 };
-      timers = record { entries = []; len = 0 };
-      local = record { names = []; len = 0 };
-      ipi = record { names = []; len = 0 };
+      queue = record { items = replicate 64 no_entry; len = 0; fits = nothing };
+      timers = record { items = replicate 64 no_entry; len = 0; fits = nothing };
+      local = record { items = replicate 64 0; len = 0; fits = nothing };
+      ipi = record { items = replicate 64 0; len = 0; fits = nothing };
       remainder = 0;
     }
 
@@ -111,29 +113,27 @@ module _ (c n : ℕ) (ps : List Cpu) where
 
   pub record SomeCpus (M : Machine) (m : List ℕ) (k : ℕ) : Type 0 where
     pub cpus : List model.Cpu
-    pub filled : Filled no_cpu IsBlock c c cpus k
+    pub filled : Filled no_cpu IsBlock c cpus k
     pub is : m ≡ encode (with_cpus cpus M)
 
   pub record StoringCpus (m₀ m : List ℕ) (k : ℕ) : Type 0 where
     pub sized : ImageSized c n m
-    pub most : k ≤ c
     pub so_far : (M : Machine) → length M.cpus ≡ c → length M.contexts ≡ n → m₀ ≡ encode M → SomeCpus M m k
 
   pub cpus_none : (m : List ℕ) → ImageSized c n m → StoringCpus m m 0
   cpus_none m z =
-      record { sized = z; most = omega arith; so_far = λ M lc ln e. record { cpus = M.cpus; filled = filled_none no_cpu IsBlock c c M.cpus lc; is = e } }
+      record { sized = z; so_far = λ M lc ln e. record { cpus = M.cpus; filled = filled_none no_cpu IsBlock c M.cpus lc; is = e } }
 
   pub cpus_next : (m₀ m m' : List ℕ) (k : ℕ) (d : Cpu) → length ps ≡ 4 → c ≤ 4 → StoringCpus m₀ m k → k < c → Encoded c n m m' (set_cpu k (placed_in (get_or ps k d))) → StoringCpus m₀ m' (k + 1)
   cpus_next m₀ m m' k d l b s h o =
       let p : Cpu = get_or ps k d in
       record {
         sized = o.sized;
-        most = omega arith;
         so_far = λ M lc ln i.
             let t : SomeCpus M m k = s.so_far M lc ln i in
             record {
               cpus = set t.cpus k (placed_in p);
-              filled = filled_next no_cpu IsBlock t.cpus k (placed_in p) t.filled h (omega arith) (ap placed_in (read_front ps c k d nobody h (omega arith)));
+              filled = filled_next no_cpu IsBlock t.cpus k (placed_in p) t.filled h (ap placed_in (read_front ps c k d nobody h (omega arith)));
               is = o.encoded (with_cpus t.cpus M) t.filled.places ln t.is;
             };
       }
@@ -147,7 +147,7 @@ module _ (c n : ℕ) (ps : List Cpu) where
             let w : length t.cpus ≡ c = t.filled.places in
             let f : ℕ → model.Cpu = λ (j : ℕ). placed_in (get_or (take c ps) j nobody) in
             let v : map placed_in (take c ps) ≡ tabulate c f = filled_map nobody placed_in f 4 c ps l b (λ j g. ap placed_in (sym (get_or-take c ps j nobody g))) in
-            let u : take c t.cpus ≡ tabulate c f = filled_is no_cpu f c c t.cpus w (omega arith) (filled_all no_cpu IsBlock t.cpus k t.filled h)
+            let u : take c t.cpus ≡ tabulate c f = filled_is no_cpu f c c t.cpus w (omega arith) (filled_all no_cpu IsBlock c t.cpus k t.filled h)
             in t.is ∙ ap (λ (qs : List model.Cpu). encode (with_cpus qs M)) (sym (take_all c t.cpus (omega arith)) ∙ u ∙ sym v);
       }
 

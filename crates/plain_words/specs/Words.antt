@@ -9,9 +9,9 @@ use Rattle.percpu.specs.Places.{queue_count, timers_count, local_count, ipi_coun
 use Rattle.machine.specs.Machine.{Machine}
 use Rattle.machine.specs.Encode.{encode}
 use Rattle.machine.specs.Shape.{Fits}
-use Rattle.plain_lists.specs.declared.Queue.{Queue}
+use Rattle.plain_lists.specs.Lists.{Queue}
 use Rattle.plain_lists.specs.Lists.{entries_of, Sized}
-use Rattle.plain_state.specs.declared.Names.{Names}
+use Rattle.plain_state.specs.States.{Names}
 use Rattle.plain_state.specs.declared.Cpu.{Cpu}
 use Rattle.plain_state.specs.States.{timer_of, list_of, cpu_in, NamesSized, CpuSound}
 

@@ -18,8 +18,9 @@ ghost use Rattle.plain_words.specs.Words.{Counted, CpuRead, TimersRead, NamesRea
 use context::Context;
 use entries::{Entry, Key, Timer};
 use percpu::places;
-use plain_lists::Queue;
+use plain_lists::{FixedVec, Queue};
 use plain_state::{Cpu, Names};
+use std::array;
 
 // Entry i of a block's queue.
 fn entry_at(w: &[u64], i: usize) -> Entry
@@ -32,7 +33,7 @@ fn entry_at(w: &[u64], i: usize) -> Entry
         ctxt_id: w[places::KEY_CTXT_ID + i],
     };
     Entry {
-        key: key,
+        key,
         vtime: w[places::ENTRY_VTIME + i],
         weight: w[places::ENTRY_WEIGHT + i],
         context_ref: w[places::ENTRY_CONTEXT_REF + i],
@@ -55,34 +56,16 @@ fn load_queue(w: &[u64], len: usize) -> Queue
     requires { (length w.now ≡ block_size) × (len ≤ 64) }
     ensures { Stands result (tabulate len (entry_at w.now)) }
 {
-    let first = entry_at(w, 0);
-    let mut entries = [first; 64];
-    let mut i = 0;
-    while i < len {
-        entries[i] = entry_at(w, i);
-        i += 1;
-    }
-    Queue {
-        entries: entries,
-        len: len,
-    }
+    let items = array::from_fn(|i| entry_at(w, i));
+    FixedVec { items, len }
 }
 
 fn load_timers(w: &[u64], len: usize) -> Queue
     requires { (length w.now ≡ block_size) × (len ≤ 64) }
     ensures { TimersRead w.now len result }
 {
-    let first = timer_at(w, 0);
-    let mut entries = [first; 64];
-    let mut i = 0;
-    while i < len {
-        entries[i] = timer_at(w, i);
-        i += 1;
-    }
-    Queue {
-        entries: entries,
-        len: len,
-    }
+    let items = array::from_fn(|i| timer_at(w, i));
+    FixedVec { items, len }
 }
 
 // A list of names whose column begins at a place.
@@ -90,16 +73,9 @@ fn load_names(w: &[u64], at: usize, len: usize) -> Names
     requires { (at + 64 ≤ length w.now) × (length w.now ≡ block_size) × (len ≤ 64) }
     ensures { NamesRead w.now at len result }
 {
-    let mut names = [0u64; 64];
-    let mut i = 0;
-    while i < len {
-        names[i] = w[at + i];
-        i += 1;
-    }
-    Names {
-        names: names,
-        len: len,
-    }
+    let mut items = [0; 64];
+    items.copy_from_slice(&w[at..at + 64]);
+    FixedVec { items, len }
 }
 
 // A CPU from its block.
@@ -121,11 +97,11 @@ fn load_cpu(w: &[u64]) -> Cpu
         numbers::index(w[places::IPI_COUNT]),
     );
     Cpu {
-        block: block,
-        queue: queue,
-        timers: timers,
-        local: local,
-        ipi: ipi,
+        block,
+        queue,
+        timers,
+        local,
+        ipi,
         remainder: w[places::REMAINDER],
     }
 }
@@ -135,12 +111,9 @@ pub fn load_contexts(m: &[u64], c: usize, n: usize) -> [Context; 64]
     requires { Image c n m.now }
     ensures { ContextsRead c n m.now result }
 {
-    let first = machine::load(m, c, n, 0);
-    let mut contexts = [first; 64];
-    let mut x = 0;
-    while x < n {
+    let mut contexts = [machine::load(m, c, n, 0); 64];
+    for x in 0..n {
         contexts[x] = machine::load(m, c, n, x);
-        x += 1;
     }
     contexts
 }
@@ -161,12 +134,9 @@ pub fn load_cpus(m: &[u64], c: usize, n: usize) -> [Cpu; 4]
     requires { Image c n m.now }
     ensures { CpusRead c n m.now result }
 {
-    let first = cpu_at(m, c, n, 0);
-    let mut cpus = [first; 4];
-    let mut k = 0;
-    while k < c {
+    let mut cpus = [cpu_at(m, c, n, 0); 4];
+    for k in 0..c {
         cpus[k] = cpu_at(m, c, n, k);
-        k += 1;
     }
     cpus
 }

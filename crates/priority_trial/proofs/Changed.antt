@@ -1,4 +1,5 @@
 -- An image in which a priority was stored and a name put on a local list passes the check as before. Assumes nothing.
+use Rattle.std.specs.Prelude.{Err, Ok}
 use mathlib.Core.Path.{◌≡◌, refl, sym, ap, ◌∙◌, subst}
 use mathlib.Core.Bool.{Bool, true, false}
 use mathlib.Core.List.{List}
@@ -24,7 +25,6 @@ use Rattle.model_leaves.proofs.Decoding.{well_formed}
 use Rattle.model_leaves.proofs.Records.{ContextRaised}
 use Rattle.model_leaves.proofs.Passing.{MachineRaised, cpus_are, names_are, machine_passes}
 use Rattle.model_leaves.proofs.Raising.{decoded_raised, set_raised, lists_raised}
-use Rattle.calls.specs.declared.Checked.TheVariants as checks
 use Rattle.calls.specs.Call.{check}
 use Rattle.calls.proofs.Called.{check_passed}
 use Rattle.numbers.specs.Limits.{max_number}
@@ -89,7 +89,7 @@ module _ (c n : ℕ) (M : Machine) (W : WellFormed c n M) (x p : ℕ) (a : LiveN
 
 -- an image that is ready for a trial passes with any priority, where there is room for the name
 pub tried_passes : {c n k time x : ℕ} (m : List ℕ) (p : ℕ) → Ready m c n k time x → p < 40 → has_room (decode m) k ≡ true
-    → checks.Passed c n ≡ check (tried_image m k x p) time
+    → Ok (c, n) ≡ check (tried_image m k x p) time
 tried_passes {c} {n} {k} {time} {x} m p r h room =
     let o : Passed time m = passed time m r.none in
     let W : WellFormed c n (decode m) = rw (r.cpus, r.contexts) (well_formed m o) in

@@ -1,5 +1,5 @@
 -- One priority tried, from what its parts said. Assumes nothing.
-use Rattle.std.specs.Prelude.{if◌then◌else◌}
+use Rattle.std.specs.Prelude.{if◌then◌else◌, None, Err, Ok}
 use mathlib.Core.Path.{◌≡◌, refl, sym, ap, ◌∙◌, subst}
 use mathlib.Core.Bool.{Bool, true, false, ◌&&◌}
 use mathlib.Core.List.{List}
@@ -12,7 +12,6 @@ use Rattle.columns.proofs.Tests.{by_test, clash}
 use Rattle.context.specs.declared.Context.{Context}
 use Rattle.context.specs.With.{with_prio}
 use Rattle.percpu.specs.Places.{sched_ctxt_place}
-use Rattle.machine.specs.declared.CpuLookup.TheVariants.{Absent}
 use Rattle.machine.specs.Machine.{Machine, context_at, cpu_at, set_context}
 use Rattle.machine.specs.Encode.{encode, decode, cpu_place}
 use Rattle.machine.specs.Shape.{ContextFits, Fits, Image}
@@ -26,7 +25,6 @@ use Rattle.answer.specs.declared.Answer.{Answer}
 use Rattle.context_ops.specs.Wakeup.{push_local, wakeup_on}
 use Rattle.context_ops.specs.Reply.{Reply, reply, refuse, replied}
 use Rattle.switch_ops.specs.Reply.{decide, Attempts}
-use Rattle.calls.specs.declared.Checked.TheVariants as checks
 use Rattle.calls.specs.Call.{check, checked_by, switch_call}
 use Rattle.calls.proofs.Called.{call_image, call_time, call_ranged, call_machine}
 use Rattle.numbers.specs.Limits.{max_number}
@@ -43,7 +41,7 @@ prio_fits {c} i x p q h g f =
 
 -- the name was put on the list, or there was no room for it
 module _ {m' : List ℕ} {a : Answer} (m : List ℕ) (k x p : ℕ) (q : Context) (M : Machine) (e : q ≡ context_at M.contexts x)
-    (f : reply a m' ≡ replied m (wakeup_on k x 0 (set_context x (with_prio p q) M) Absent)) where
+    (f : reply a m' ≡ replied m (wakeup_on k x 0 (set_context x (with_prio p q) M) None)) where
   abbrev names : List ℕ
   names = (cpu_at M k).local_wakeup_list
 
@@ -107,7 +105,7 @@ module _ {c n k time x : ℕ} (m : List ℕ) (o : Ready m c n k time x) where
       room : has_room (decode m) k ≡ true
       room = sym there.0 ∙ t
 
-      passes : checks.Passed c n ≡ check m₂ time
+      passes : Ok (c, n) ≡ check m₂ time
       passes = rw (there.1 t) (tried_passes m p o h room)
 
       pub ready_to_switch : record { image : Image c n m₂; time_le_max_number : time ≤ max_number; ranged : Ranged c n max_number max_number m₂ }

@@ -11,10 +11,7 @@ fn read_some<R: Read>(reader: &mut R, space: &mut [u8]) -> usize
     ensures within { result ≤ length space.new }
     ensures bytes { Consumes (R.remaining reader.old) (R.remaining reader.new) (take result space.new) }
 {
-    match reader.read(space) {
-        Ok(got) => got,
-        Err(_) => 0,
-    }
+    reader.read(space).unwrap_or(0)
 }
 
 // Reads until the space is full, the input ends or a read fails: how many bytes stand at the space's start, which are those that the reader has given.
@@ -23,6 +20,7 @@ pub fn read_full<R: Read>(reader: &mut R, space: &mut [u8]) -> usize
     ensures bytes { Consumes (R.remaining reader.old) (R.remaining reader.new) (take result space.new) }
 {
     let mut have = 0;
+    // no `for`: each turn goes on by as many bytes as its read gave
     while have < space.len() {
         let got = read_some(reader, &mut space[have..]);
         if got == 0 {

@@ -1,5 +1,5 @@
 -- The call: its refusals, and the game from what the first turn told. Assumes nothing.
-use Rattle.std.specs.Prelude.{if◌then◌else◌}
+use Rattle.std.specs.Prelude.{if◌then◌else◌, None, Option, Some, Err, Ok, Result}
 use mathlib.Core.Path.{◌≡◌, refl, sym, ap, ◌∙◌, subst}
 use mathlib.Core.Bool.{Bool, true, false, not, ◌&&◌}
 use mathlib.Core.List.{List}
@@ -10,10 +10,6 @@ use lib.ListN.{length}
 use borrow.Author.Tests.{le-leb, lt-leb, leb-true, eqb-true, eq-eqb, ne_eqb}
 use Rattle.columns.specs.Common.{mark}
 use Rattle.columns.proofs.Tests.{and_both}
-use Rattle.machine.specs.declared.Lookup.{Lookup}
-use Rattle.machine.specs.declared.Lookup.TheVariants.{Live, Gone}
-use Rattle.machine.specs.declared.CpuLookup.{CpuLookup}
-use Rattle.machine.specs.declared.CpuLookup.TheVariants.{Present, Absent}
 use Rattle.machine.specs.Machine.{Machine}
 use Rattle.machine.specs.Encode.{encode, decode}
 use Rattle.machine.specs.Shape.{Image, Fits}
@@ -21,8 +17,6 @@ use Rattle.machine.specs.LookUp.{look_up, get_percpu_block}
 use Rattle.machine.proofs.LookUps.{live, present}
 use Rattle.machine.proofs.Steps.{sized}
 use Rattle.numbers.specs.Limits.{max_number}
-use Rattle.calls.specs.declared.Checked.{Checked}
-use Rattle.calls.specs.declared.Checked.TheVariants.{Refused, Passed}
 use Rattle.calls.specs.Call.{check}
 use Rattle.calls.proofs.Called.{call_machine}
 use Rattle.rival.specs.declared.Game.{Game}
@@ -67,31 +61,31 @@ module _ (p : Parties) (rounds time : ℕ) (m : List ℕ) (x w : ℕ) (e : x ≡
 
 -- a, b, d: what looking up CPU, writer and rival gave
 module _ (n rounds time : ℕ) (m : List ℕ) (M : Machine) (cpu writer rival : ℕ) where
-  pub no_cpu : (a : CpuLookup) → a ≡ get_percpu_block M cpu → a ≡ Absent → refused 5 ≡ game_of n rounds time m (get_percpu_block M cpu) (look_up M writer) (look_up M rival)
+  pub no_cpu : (a : Option ℕ) → a ≡ get_percpu_block M cpu → a ≡ None → refused 5 ≡ game_of n rounds time m (get_percpu_block M cpu) (look_up M writer) (look_up M rival)
   unfolding game_of
   no_cpu a e f = rw (sym e ∙ f)
 
-  module _ (a : CpuLookup) (k : ℕ) (e : a ≡ get_percpu_block M cpu) (f : a ≡ Present k) where
-    pub no_writer : (b : Lookup) → b ≡ look_up M writer → b ≡ Gone → refused 5 ≡ game_of n rounds time m (get_percpu_block M cpu) (look_up M writer) (look_up M rival)
+  module _ (a : Option ℕ) (k : ℕ) (e : a ≡ get_percpu_block M cpu) (f : a ≡ Some k) where
+    pub no_writer : (b : Option ℕ) → b ≡ look_up M writer → b ≡ None → refused 5 ≡ game_of n rounds time m (get_percpu_block M cpu) (look_up M writer) (look_up M rival)
     unfolding game_of
     no_writer b g h = rw (sym e ∙ f, sym g ∙ h)
 
-    module _ (b : Lookup) (w : ℕ) (g : b ≡ look_up M writer) (h : b ≡ Live w) where
-      pub no_rival : (d : Lookup) → d ≡ look_up M rival → d ≡ Gone → refused 5 ≡ game_of n rounds time m (get_percpu_block M cpu) (look_up M writer) (look_up M rival)
+    module _ (b : Option ℕ) (w : ℕ) (g : b ≡ look_up M writer) (h : b ≡ Some w) where
+      pub no_rival : (d : Option ℕ) → d ≡ look_up M rival → d ≡ None → refused 5 ≡ game_of n rounds time m (get_percpu_block M cpu) (look_up M writer) (look_up M rival)
       unfolding game_of
       no_rival d i j = rw (sym e ∙ f, sym g ∙ h, sym i ∙ j)
 
-      pub both_live : (d : Lookup) (r : ℕ) (z : Game) (y : Bool) → d ≡ look_up M rival → d ≡ Live r → y ≡ is_game w r rounds
+      pub both_live : (d : Option ℕ) (r : ℕ) (z : Game) (y : Bool) → d ≡ look_up M rival → d ≡ Some r → y ≡ is_game w r rounds
           → z ≡ (if y then game (record { contexts = n; cpu = k; writer = w; rival = r }) rounds time m else refused 14)
           → z ≡ game_of n rounds time m (get_percpu_block M cpu) (look_up M writer) (look_up M rival)
       unfolding game_of
       both_live d r z y i j o q = rw (sym e ∙ f, sym g ∙ h, sym i ∙ j, ← o) q
 
 -- the parties of an image that was checked
-pub inside : {c n : ℕ} {m : List ℕ} (k w r cpu writer rival rounds time : ℕ) (a : CpuLookup) (b d : Lookup) → (i : Image c n m)
-    → ((M : Machine) → m ≡ encode M → Fits c n M → a ≡ get_percpu_block M cpu) → a ≡ Present k
-    → ((M : Machine) → m ≡ encode M → Fits c n M → b ≡ look_up M writer) → b ≡ Live w
-    → ((M : Machine) → m ≡ encode M → Fits c n M → d ≡ look_up M rival) → d ≡ Live r
+pub inside : {c n : ℕ} {m : List ℕ} (k w r cpu writer rival rounds time : ℕ) (a : Option ℕ) (b d : Option ℕ) → (i : Image c n m)
+    → ((M : Machine) → m ≡ encode M → Fits c n M → a ≡ get_percpu_block M cpu) → a ≡ Some k
+    → ((M : Machine) → m ≡ encode M → Fits c n M → b ≡ look_up M writer) → b ≡ Some w
+    → ((M : Machine) → m ≡ encode M → Fits c n M → d ≡ look_up M rival) → d ≡ Some r
     → time ≤ max_number → true ≡ is_game w r rounds
     → record { inside : Inside (record { contexts = n; cpu = k; writer = w; rival = r }) (length m); in_time : (InTime rounds time) × (1 ≤ rounds) }
 inside {c} {n} {m} k w r cpu writer rival rounds time a b d i ea fa eb fb ed fd t g =
@@ -116,12 +110,12 @@ inside {c} {n} {m} k w r cpu writer rival rounds time a b d i ea fa eb fb ed fd 
     }
 
 -- y: what the code's check gave
-module _ (m : List ℕ) (cpu time writer rival rounds : ℕ) (y : Checked) (e : y ≡ check m time) where
-  pub rival_refused : (z : Game) (r : ℕ) → y ≡ Refused r → z ≡ refused r → z ≡ rival_call m cpu time writer rival rounds
+module _ (m : List ℕ) (cpu time writer rival rounds : ℕ) (y : Result (ℕ × ℕ) ℕ) (e : y ≡ check m time) where
+  pub rival_refused : (z : Game) (r : ℕ) → y ≡ Err r → z ≡ refused r → z ≡ rival_call m cpu time writer rival rounds
   unfolding rival_by
   rival_refused z r g h = rw (← e, g) h
 
-  pub rival_passed : (z : Game) (c n : ℕ) → y ≡ Passed c n
+  pub rival_passed : (z : Game) (c n : ℕ) → y ≡ Ok (c, n)
       → ((M : Machine) → m ≡ encode M → Fits c n M → z ≡ game_of n rounds time m (get_percpu_block M cpu) (look_up M writer) (look_up M rival))
       → z ≡ rival_call m cpu time writer rival rounds
   unfolding rival_by

@@ -1,9 +1,8 @@
 -- The game is the table of all sequences of choices, each played from the beginning, folded from the end. Assumes nothing.
-use Rattle.std.specs.Prelude.{if◌then◌else◌}
+use Rattle.std.specs.Prelude.{if◌then◌else◌, None, Option, Some}
 use mathlib.Core.Path.{◌≡◌, refl, sym, ap, ◌∙◌}
 use mathlib.Core.Bool.{Bool, true, false}
 use mathlib.Core.List.{List, [], ◌∷◌, ◌++◌}
-use mathlib.Core.Option.{Option, none, some}
 use Prim.Native.Nat.{ℕ, zero, suc, ◌+◌}
 use lib.Dec.{eqb}
 use Rattle.columns.proofs.Tests.{by_test}
@@ -23,12 +22,12 @@ module _ (p : Parties) where
 
   -- what the writer can force from where a sequence leads
   abbrev value : ℕ → Option Position → Bool
-  value r none = false
-  value r (some q) = forces p r q.time q.image
+  value r None = false
+  value r (Some q) = forces p r q.time q.image
 
   arrived_value : (r time : ℕ) (o : Option (List ℕ)) → value r (arrived p time o) ≡ won (forces p r time) o
-  arrived_value r time none = refl
-  arrived_value r time (some m) = refl
+  arrived_value r time None = refl
+  arrived_value r time (Some m) = refl
 
   -- a turn asks its choices alone, and of one that has none the go on
   turn_same : (x : ℕ) (g h : Choice → Bool) → ((c : Choice) → g (taken p x c) ≡ h (taken p x c)) → turn p x (λ (c : Choice). g (taken p x c)) ≡ turn p x h
@@ -42,8 +41,8 @@ module _ (p : Parties) where
   turn_cong x g h e = rw (e GoOn, e Yield, e Block)
 
   chooses_cong : (o : Option Position) (g h : Choice → Bool) → ((c : Choice) → g c ≡ h c) → chooses p o g ≡ chooses p o h
-  chooses_cong none g h e = refl
-  chooses_cong (some q) g h e = turn_cong (in_charge p q.image) g h e
+  chooses_cong None g h e = refl
+  chooses_cong (Some q) g h e = turn_cong (in_charge p q.image) g h e
 
   abbrev after : Position → Choice → Option (List ℕ)
   after q d = played p.cpu (in_charge p q.image) q.time d q.image
@@ -51,24 +50,24 @@ module _ (p : Parties) where
   -- one round back
   round_back : (r : ℕ) (o : Option Position) → chooses p o (λ (c : Choice). value r (moved_on p o c)) ≡ value (suc r) o
   unfolding forces
-  round_back r none = refl
-  round_back r (some q) =
+  round_back r None = refl
+  round_back r (Some q) =
       turn_same (in_charge p q.image) (λ (d : Choice). value r (arrived p (q.time + nanos d) (after q d))) (λ (d : Choice). won (forces p r (q.time + nanos d)) (after q d))
       (λ c. arrived_value r (q.time + nanos (taken p (in_charge p q.image) c)) (after q (taken p (in_charge p q.image) c)))
 
   ended : (o : Option Position) → ends_well p o ≡ value 0 o
   unfolding forces
-  ended none = refl
-  ended (some q) = refl
+  ended None = refl
+  ended (Some q) = refl
 
   -- after any sequence
-  folded_value : (q : Position) (r : ℕ) (cs : List Choice) → folded p q r cs ≡ value r (reached p (some q) cs)
+  folded_value : (q : Position) (r : ℕ) (cs : List Choice) → folded p q r cs ≡ value r (reached p (Some q) cs)
   unfolding folded
-  folded_value q zero cs = ended (reached p (some q) cs)
+  folded_value q zero cs = ended (reached p (Some q) cs)
   folded_value q (suc r) cs =
-      let o = reached p (some q) cs
+      let o = reached p (Some q) cs
       in chooses_cong o (λ (c : Choice). folded p q r (cs ++ (c ∷ []))) (λ (c : Choice). value r (moved_on p o c))
-      (λ c. folded_value q r (cs ++ (c ∷ [])) ∙ ap (value r) (one_more (some q) cs c))
+      (λ c. folded_value q r (cs ++ (c ∷ [])) ∙ ap (value r) (one_more (Some q) cs c))
       ∙ round_back r o
 
   pub forces_folded : (rounds time : ℕ) (m : List ℕ) → forces p rounds time m ≡ folded p (record { image = m; time = time }) rounds []

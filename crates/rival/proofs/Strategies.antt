@@ -1,10 +1,9 @@
 -- The writer can force the end exactly where it has a strategy that wins against every strategy of the rival; where it cannot,
 -- the rival has one that wins against every strategy of the writer. Assumes nothing.
-use Rattle.std.specs.Prelude.{if◌then◌else◌}
+use Rattle.std.specs.Prelude.{if◌then◌else◌, None, Option, Some}
 use mathlib.Core.Path.{◌≡◌, refl}
 use mathlib.Core.Bool.{Bool, true, false}
 use mathlib.Core.List.{List, [], ◌∷◌}
-use mathlib.Core.Option.{Option, none, some}
 use Prim.Native.Nat.{ℕ, zero, suc, ◌+◌}
 use lib.Dec.{eqb}
 use Rattle.columns.proofs.Tests.{by_test, clash}
@@ -47,8 +46,8 @@ some_loses g e Block = by_test (g GoOn) (λ a. clash refl (rw a at e)) (λ a. by
 
 -- a strategy from the image after a round, if there is one
 abbrev from : (List ℕ → Strategy) → Option (List ℕ) → Strategy
-from f none cs = GoOn
-from f (some m) cs = f m cs
+from f None cs = GoOn
+from f (Some m) cs = f m cs
 
 module _ (p : Parties) where
   -- a choice wins
@@ -70,8 +69,8 @@ module _ (p : Parties) where
   -- h: what holds of the rounds that are left, on whatever image the round leads to
   on_strategy : (r time : ℕ) (t : Strategy) → ((l : List ℕ) → forces p r time l ≡ true → wins p r (strategy r time l) t time l ≡ true)
       → (o : Option (List ℕ)) → won (forces p r time) o ≡ true → won (wins p r (from (strategy r time) o) t time) o ≡ true
-  on_strategy r time t h none e = e
-  on_strategy r time t h (some l) e = h l e
+  on_strategy r time t h None e = e
+  on_strategy r time t h (Some l) e = h l e
 
   pub strategy_wins : (rounds time : ℕ) (m : List ℕ) → forces p rounds time m ≡ true → (rival : Strategy) → wins p rounds (strategy rounds time m) rival time m ≡ true
   unfolding forces wins strategy
@@ -95,8 +94,8 @@ module _ (p : Parties) where
 
   on_counter : (r time : ℕ) (s : Strategy) → ((l : List ℕ) → forces p r time l ≡ false → wins p r s (counter r time l) time l ≡ false)
       → (o : Option (List ℕ)) → won (forces p r time) o ≡ false → won (wins p r s (from (counter r time) o) time) o ≡ false
-  on_counter r time s h none e = e
-  on_counter r time s h (some l) e = h l e
+  on_counter r time s h None e = e
+  on_counter r time s h (Some l) e = h l e
 
   pub counter_wins : (rounds time : ℕ) (m : List ℕ) → forces p rounds time m ≡ false → (writer : Strategy) → wins p rounds writer (counter rounds time m) time m ≡ false
   unfolding forces wins counter

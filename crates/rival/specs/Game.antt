@@ -1,17 +1,10 @@
 -- Writer against rival (document 02, No. 13): whether the writer can force itself into charge. Assumes nothing.
-use Rattle.std.specs.Prelude.{Bool, true, false, not, ◌&&◌, ◌||◌, List, ℕ, zero, suc, ◌+◌, ◌-◌, leb, eqb, get_or, if◌then◌else◌}
-use Rattle.std.proofs.Math.Option.{Option, none, some}
+use Rattle.std.specs.Prelude.{Bool, true, false, not, ◌&&◌, ◌||◌, List, ℕ, zero, suc, ◌+◌, ◌-◌, leb, eqb, get_or, if◌then◌else◌, None, Option, Some, Err, Ok, Result}
 use Rattle.columns.specs.Common.{mark}
 use Rattle.percpu.specs.Places.{sched_ctxt_place}
-use Rattle.machine.specs.declared.Lookup.{Lookup}
-use Rattle.machine.specs.declared.Lookup.TheVariants.{Live, Gone}
-use Rattle.machine.specs.declared.CpuLookup.{CpuLookup}
-use Rattle.machine.specs.declared.CpuLookup.TheVariants.{Present, Absent}
 use Rattle.machine.specs.Machine.{Machine}
 use Rattle.machine.specs.Encode.{decode, cpu_place}
 use Rattle.machine.specs.LookUp.{look_up, get_percpu_block}
-use Rattle.calls.specs.declared.Checked.{Checked}
-use Rattle.calls.specs.declared.Checked.TheVariants.{Refused, Passed}
 use Rattle.calls.specs.Call.{check}
 use Rattle.rounds.specs.declared.Choice.{Choice}
 use Rattle.rounds.specs.declared.Choice.TheVariants.{GoOn, Yield, Block}
@@ -32,8 +25,8 @@ every_choice g = g GoOn && (g Yield && g Block)
 
 -- f: whether the writer can force the end from an image. A branch in which a call is refused is lost to it
 abbrev pub won : (List ℕ → Bool) → Option (List ℕ) → Bool
-won f none = false
-won f (some m) = f m
+won f None = false
+won f (Some m) = f m
 
 module _ (p : Parties) where
   -- who is in charge of the CPU
@@ -80,18 +73,18 @@ unfoldable pub is_game : (writer rival rounds : ℕ) → Bool
 is_game writer rival rounds = leb 1 rounds && (leb rounds 6 && not (eqb writer rival))
 
 -- refusal 5 covers both parties, 14 comes last; n: how many contexts the image has
-unfoldable pub game_of : (n rounds time : ℕ) → List ℕ → CpuLookup → Lookup → Lookup → Game
-game_of n rounds time m Absent writer rival = refused 5
-game_of n rounds time m (Present k) Gone rival = refused 5
-game_of n rounds time m (Present k) (Live w) Gone = refused 5
-game_of n rounds time m (Present k) (Live w) (Live r) =
+unfoldable pub game_of : (n rounds time : ℕ) → List ℕ → Option ℕ → Option ℕ → Option ℕ → Game
+game_of n rounds time m None writer rival = refused 5
+game_of n rounds time m (Some k) None rival = refused 5
+game_of n rounds time m (Some k) (Some w) None = refused 5
+game_of n rounds time m (Some k) (Some w) (Some r) =
     if is_game w r rounds
     then game (record { contexts = n; cpu = k; writer = w; rival = r }) rounds time m
     else refused 14
 
-unfoldable pub rival_by : List ℕ → (cpu time writer rival rounds : ℕ) → Checked → Game
-rival_by m cpu time writer rival rounds (Refused r) = refused r
-rival_by m cpu time writer rival rounds (Passed c n) =
+unfoldable pub rival_by : List ℕ → (cpu time writer rival rounds : ℕ) → Result (ℕ × ℕ) ℕ → Game
+rival_by m cpu time writer rival rounds (Err r) = refused r
+rival_by m cpu time writer rival rounds (Ok (c, n)) =
     game_of n rounds time m (get_percpu_block (decode m) cpu) (look_up (decode m) writer) (look_up (decode m) rival)
 
 abbrev pub rival_call : List ℕ → (cpu time writer rival rounds : ℕ) → Game

@@ -1,7 +1,6 @@
 -- The same game by whole sequences of choices, each played from the beginning, and by strategies. That forces of Game is both is
 -- proved (forces-folded; strategy-wins, counter-wins, answered-forces), so that nobody has to take its some and every on trust. Assumes nothing.
-use Rattle.std.specs.Prelude.{Bool, true, false, List, [], ◌∷◌, ◌++◌, ℕ, zero, suc, ◌+◌, eqb, if◌then◌else◌}
-use Rattle.std.proofs.Math.Option.{Option, none, some}
+use Rattle.std.specs.Prelude.{Bool, true, false, List, [], ◌∷◌, ◌++◌, ℕ, zero, suc, ◌+◌, eqb, if◌then◌else◌, None, Option, Some}
 use Rattle.rounds.specs.declared.Choice.{Choice}
 use Rattle.rounds.specs.declared.Choice.TheVariants.{GoOn, Yield, Block}
 use Rattle.rounds.specs.Round.{nanos, played}
@@ -19,8 +18,8 @@ module _ (p : Parties) where
   taken x c = if eqb x p.writer then c else if eqb x p.rival then c else GoOn
 
   abbrev pub arrived : ℕ → Option (List ℕ) → Option Position
-  arrived time none = none
-  arrived time (some m) = some (record { image = m; time = time })
+  arrived time None = None
+  arrived time (Some m) = Some (record { image = m; time = time })
 
   -- one round
   abbrev pub moved : Position → Choice → Option Position
@@ -29,8 +28,8 @@ module _ (p : Parties) where
       arrived (q.time + nanos d) (played p.cpu (in_charge p q.image) q.time d q.image)
 
   abbrev pub moved_on : Option Position → Choice → Option Position
-  moved_on none c = none
-  moved_on (some q) c = moved q c
+  moved_on None c = None
+  moved_on (Some q) c = moved q c
 
   -- a sequence of choices, played from the beginning; none: a call was refused
   unfoldable pub reached : Option Position → List Choice → Option Position
@@ -39,18 +38,18 @@ module _ (p : Parties) where
 
   -- the writer is in charge at the end of a sequence
   abbrev pub ends_well : Option Position → Bool
-  ends_well none = false
-  ends_well (some q) = eqb (in_charge p q.image) p.writer
+  ends_well None = false
+  ends_well (Some q) = eqb (in_charge p q.image) p.writer
 
   -- whose choice comes after a sequence, and what it is worth: some for the writer, every one for the rival
   abbrev pub chooses : Option Position → (Choice → Bool) → Bool
-  chooses none g = false
-  chooses (some q) g = turn p (in_charge p q.image) g
+  chooses None g = false
+  chooses (Some q) g = turn p (in_charge p q.image) g
 
   -- the table of all sequences of so many more choices, folded from the end: its rows are the sequences, each played from q
   unfoldable pub folded : Position → (rounds : ℕ) → List Choice → Bool
-  folded q zero cs = ends_well (reached (some q) cs)
-  folded q (suc r) cs = chooses (reached (some q) cs) (λ (c : Choice). folded q r (cs ++ (c ∷ [])))
+  folded q zero cs = ends_well (reached (Some q) cs)
+  folded q (suc r) cs = chooses (reached (Some q) cs) (λ (c : Choice). folded q r (cs ++ (c ∷ [])))
 
 -- a strategy: what is chosen after the choices so far
 abbrev pub Strategy : Type 0

@@ -11,12 +11,12 @@ ghost use Rattle.machine.specs.LookUp.{look_up, get_percpu_block};
 ghost use Rattle.numbers.specs.Limits.{max_number};
 ghost use Rattle.rival.specs.Game.{refused, game, is_game, game_of, rival_call};
 ghost use Rattle.rival.specs.Reached.{Inside, InTime};
+ghost use Rattle.refusal.specs.Number.{refusal_number};
 
-use calls::Checked;
-use machine::{CpuLookup, Lookup};
+use refusal::Refusal;
 pub use turns::Parties;
 
-// 0 or the number of its refusal, whether the writer can force itself into charge, and its first winning choice
+// 0 or the number of its refusal, whether the writer can force itself into charge, and its first winning choice: numbers, since C is handed them
 #[repr(C)]
 #[derive(Clone, Copy)]
 pub struct Game {
@@ -25,11 +25,11 @@ pub struct Game {
     pub choice: u64,
 }
 
-fn refused(number: u64) -> Game
-    ensures { result ≡ refused number }
+fn refused(refusal: Refusal) -> Game
+    ensures { result ≡ refused (refusal_number refusal) }
 {
     Game {
-        refusal: number,
+        refusal: refusal.into(),
         forced: 0,
         choice: 0,
     }
@@ -84,16 +84,16 @@ fn rival_on(
     ensures { (M : Machine) → m.now ≡ encode M → Fits c n M → result ≡ game_of n rounds time m.now (get_percpu_block M cpu) (look_up M writer) (look_up M rival) }
 {
     let here = machine::get_percpu_block(m, c, n, cpu);
-    let CpuLookup::Present(k) = here else {
-        return refused(5);
+    let Some(k) = here else {
+        return refused(Refusal::Name);
     };
     let first = machine::look_up(m, c, n, writer);
-    let Lookup::Live(w) = first else {
-        return refused(5);
+    let Some(w) = first else {
+        return refused(Refusal::Name);
     };
     let second = machine::look_up(m, c, n, rival);
-    let Lookup::Live(r) = second else {
-        return refused(5);
+    let Some(r) = second else {
+        return refused(Refusal::Name);
     };
     if is_game(w, r, rounds) {
         let p = Parties {
@@ -104,7 +104,7 @@ fn rival_on(
         };
         return play(m, p, time, rounds);
     }
-    refused(14)
+    refused(Refusal::Game)
 }
 
 // Whether the writer can force itself into charge at the end of the last round, of any words.
@@ -113,7 +113,7 @@ pub fn rival(image: &[u64], cpu: u64, time: u64, writer: u64, rival: u64, rounds
 {
     let checked = calls::check(image, time);
     match checked {
-        Checked::Refused(number) => refused(number),
-        Checked::Passed(c, n) => rival_on(image, c, n, cpu, time, writer, rival, rounds),
+        Err(refusal) => refused(refusal),
+        Ok((c, n)) => rival_on(image, c, n, cpu, time, writer, rival, rounds),
     }
 }

@@ -1,5 +1,5 @@
 -- Demand 3 of a call, from its definition: what operations 1 to 3 leave is the outcome of the decision. Assumes nothing.
-use Rattle.std.specs.Prelude.{if◌then◌else◌}
+use Rattle.std.specs.Prelude.{if◌then◌else◌, None, Option, Some}
 use mathlib.Core.Path.{◌≡◌, refl, ap, ◌∙◌, subst}
 use mathlib.Core.Bool.{Bool, true, false}
 use Prim.Native.Nat.{ℕ}
@@ -8,10 +8,6 @@ use mathlib.Core.List.{List}
 use lib.Dec.{eqb}
 use borrow.Author.Tests.{eqb-true, eqb-false}
 use Rattle.columns.proofs.Tests.{by_test}
-use Rattle.machine.specs.declared.Lookup.{Lookup}
-use Rattle.machine.specs.declared.Lookup.TheVariants.{Live, Gone}
-use Rattle.machine.specs.declared.CpuLookup.{CpuLookup}
-use Rattle.machine.specs.declared.CpuLookup.TheVariants.{Present, Absent}
 use Rattle.machine.specs.Machine.{Machine, cpu_at}
 use Rattle.machine.specs.Encode.{decode}
 use Rattle.machine.specs.LookUp.{look_up, get_percpu_block}
@@ -59,20 +55,20 @@ module _ (a : Answer) (m m' : List ℕ) (cpu time : ℕ) (z : a.refusal ≡ 0) (
         (λ r. record { is = refl; formed = decision_leaves (size_c m) (size_n m) M (well_formed m p) k time (here a m m' time z p cpu k i) (is_present a m m' time z p cpu k i) p.words.time_most c t r }) (rw y at e)))
         (λ y. refused_not (refusal c M k time) m (eqb-false (refusal c M k time) 0 y) (rw y at e) z)
 
-    by_cpu : (l : CpuLookup) → l ≡ get_percpu_block M cpu → reply a m' ≡ decide_by m M time c l → decode m' ≡ (outcome c cpu time M).machine
+    by_cpu : (l : Option ℕ) → l ≡ get_percpu_block M cpu → reply a m' ≡ decide_by m M time c l → decode m' ≡ (outcome c cpu time M).machine
     unfolding decide_by
-    by_cpu Absent h e = refused_not 5 m (λ w. omega arith) e z
-    by_cpu (Present k) h e =
+    by_cpu None h e = refused_not 5 m (λ w. omega arith) e z
+    by_cpu (Some k) h e =
         let i = present M cpu k h in subst (λ (j : ℕ). decode m' ≡ (outcome c j time M).machine) i.is (on_cpu k i e)
 
     pub decided : reply a m' ≡ decide m M cpu time c → decode m' ≡ (outcome c cpu time M).machine
     decided e = by_cpu (get_percpu_block M cpu) refl e
 
-  directed_by : (context : ℕ) (l : Lookup) → l ≡ look_up M context → reply a m' ≡ direct_switch_by m M cpu time l
+  directed_by : (context : ℕ) (l : Option ℕ) → l ≡ look_up M context → reply a m' ≡ direct_switch_by m M cpu time l
       → decode m' ≡ (outcome (by_direct_switch context) cpu time M).machine
   unfolding direct_switch_by
-  directed_by context Gone h e = refused_not 5 m (λ w. omega arith) e z
-  directed_by context (Live x) h e =
+  directed_by context None h e = refused_not 5 m (λ w. omega arith) e z
+  directed_by context (Some x) h e =
       subst (λ (y : ℕ). decode m' ≡ (outcome (by_direct_switch y) cpu time M).machine) (live M context x h).is
       (decided (by_direct_switch x) (live_name a m m' time z p context x (live M context x h)) e)
 

@@ -1,4 +1,5 @@
 -- Demand 3 of a call, from what the decision said. Assumes nothing.
+use Rattle.std.specs.Prelude.{None, Option, Some, Err, Ok, Result}
 use mathlib.Core.Path.{◌≡◌, refl, sym, ap, ◌∙◌, subst}
 use mathlib.Core.Bool.{true, false}
 use Prim.Native.Nat.{ℕ}
@@ -7,10 +8,6 @@ use mathlib.Core.List.{List}
 use lib.Dec.{eqb}
 use borrow.Author.Tests.{eqb-false}
 use Rattle.columns.proofs.Tests.{by_test}
-use Rattle.machine.specs.declared.Lookup.{Lookup}
-use Rattle.machine.specs.declared.Lookup.TheVariants.{Live, Gone}
-use Rattle.machine.specs.declared.CpuLookup.{CpuLookup}
-use Rattle.machine.specs.declared.CpuLookup.TheVariants.{Present, Absent}
 use Rattle.machine.specs.Machine.{Machine, cpu_at}
 use Rattle.machine.specs.Encode.{encode, decode}
 use Rattle.machine.specs.Shape.{Fits}
@@ -25,8 +22,6 @@ use Rattle.answer.specs.declared.Answer.{Answer}
 use Rattle.context_ops.specs.Reply.{reply, replied}
 use Rattle.switch_ops.specs.Reply.{refusal, decide_on, decide_by, decide, direct_switch_by, direct_switch, Replies}
 use Rattle.image.proofs.Admitted as admitted
-use Rattle.calls.specs.declared.Checked.{Checked}
-use Rattle.calls.specs.declared.Checked.TheVariants.{Refused, Passed}
 use Rattle.calls.specs.Call.{check}
 use Rattle.ronthuyal.specs.Demand.{StandsFor, DemandMet}
 use Rattle.calls.proofs.Called.{is_refused, call_none, call_machine}
@@ -48,20 +43,20 @@ module _ {a : Answer} {m' : List ℕ} (m : List ℕ) (M : Machine) (cpu time : �
       by_test (eqb (refusal call M k time) 0) (λ t. room_of (outcome call k time M) (rw t at e))
       (λ t. refused_not (refusal call M k time) m (eqb-false (refusal call M k time) 0 t) (rw t at e) z)
 
-  by_of : (call : Call) (p : CpuLookup) → p ≡ get_percpu_block M cpu → reply a m' ≡ decide_by m M time call p → WasAccepted M cpu time call
+  by_of : (call : Call) (p : Option ℕ) → p ≡ get_percpu_block M cpu → reply a m' ≡ decide_by m M time call p → WasAccepted M cpu time call
   unfolding decide_by
-  by_of call Absent h e = refused_not 5 m (λ w. omega arith) e z
-  by_of call (Present k) h e =
+  by_of call None h e = refused_not 5 m (λ w. omega arith) e z
+  by_of call (Some k) h e =
       let i = present M cpu k h
       in record { present = i.present; room = subst (λ (j : ℕ). (outcome call j time M).no_room ≡ false) i.is (on_of k call e) }
 
   pub accepted_by : (call : Call) → reply a m' ≡ decide m M cpu time call → WasAccepted M cpu time call
   accepted_by call e = by_of call (get_percpu_block M cpu) refl e
 
-  to_of : (context : ℕ) (l : Lookup) → l ≡ look_up M context → reply a m' ≡ direct_switch_by m M cpu time l → WasAccepted M cpu time (by_direct_switch context)
+  to_of : (context : ℕ) (l : Option ℕ) → l ≡ look_up M context → reply a m' ≡ direct_switch_by m M cpu time l → WasAccepted M cpu time (by_direct_switch context)
   unfolding direct_switch_by
-  to_of context Gone h e = refused_not 5 m (λ w. omega arith) e z
-  to_of context (Live x) h e =
+  to_of context None h e = refused_not 5 m (λ w. omega arith) e z
+  to_of context (Some x) h e =
       subst (λ (y : ℕ). WasAccepted M cpu time (by_direct_switch y)) (live M context x h).is (accepted_by (by_direct_switch x) e)
 
   pub accepted_to : (context : ℕ) → reply a m' ≡ direct_switch m M cpu time context → WasAccepted M cpu time (by_direct_switch context)
@@ -103,20 +98,20 @@ module _ {time : ℕ} (m : List ℕ) (p : admitted.Passed time m) where
       }
 
 -- w: what the code's check gave
-module _ {a : Answer} {m' : List ℕ} (m : List ℕ) (time : ℕ) (w : Checked) (e : w ≡ check m time) where
-  pub demand_refused : (operation cpu context r : ℕ) → w ≡ Refused r → a ≡ record { refusal = r; result = 0; interrupt = 0; rule = 0 }
+module _ {a : Answer} {m' : List ℕ} (m : List ℕ) (time : ℕ) (w : Result (ℕ × ℕ) ℕ) (e : w ≡ check m time) where
+  pub demand_refused : (operation cpu context r : ℕ) → w ≡ Err r → a ≡ record { refusal = r; result = 0; interrupt = 0; rule = 0 }
       → DemandMet m m' operation cpu time context a.refusal
   demand_refused operation cpu context r g h =
       record { met = λ d s z. absurd (is_refused m time r (sym g ∙ e) (sym (ap (λ (b : Answer). b.refusal) h) ∙ z)) }
 
-  pub demand_decided : (operation cpu context : ℕ) (call : Call) → ((d : Call) → StandsFor operation context d → d ≡ call) → (c n : ℕ) → w ≡ Passed c n
+  pub demand_decided : (operation cpu context : ℕ) (call : Call) → ((d : Call) → StandsFor operation context d → d ≡ call) → (c n : ℕ) → w ≡ Ok (c, n)
       → ((M : Machine) → m ≡ encode M → Fits c n M → Replies m' a (decide m M cpu time call) (outcome call cpu time M).machine)
       → DemandMet m m' operation cpu time context a.refusal
   demand_decided operation cpu context call only c n g h =
       let r = call_machine m time w e {A = λ M. Replies m' a (decide m M cpu time call) (outcome call cpu time M).machine} c n g h
       in demanded m (admitted.passed time m (call_none m time w e c n g)) operation context cpu call only (λ z. accepted_by m (decode m) cpu time z call r.replies) r.leaves
 
-  pub demand_directed : (cpu context c n : ℕ) → w ≡ Passed c n
+  pub demand_directed : (cpu context c n : ℕ) → w ≡ Ok (c, n)
       → ((M : Machine) → m ≡ encode M → Fits c n M → Replies m' a (direct_switch m M cpu time context) (outcome (by_direct_switch context) cpu time M).machine)
       → DemandMet m m' 3 cpu time context a.refusal
   demand_directed cpu context c n g h =

@@ -1,5 +1,5 @@
 -- The call for a set: it is the single calls one by one; the empty set; what the call leaves. Assumes nothing.
-use Rattle.std.specs.Prelude.{if◌then◌else◌}
+use Rattle.std.specs.Prelude.{if◌then◌else◌, None, Option, Some, Err, Ok, Result}
 use mathlib.Core.Path.{◌≡◌, refl, sym, ap, ◌∙◌, subst}
 use mathlib.Core.List.{List, [], ◌∷◌}
 use Prim.Native.Nat.{ℕ, ◌<◌, ◌≤◌}
@@ -9,8 +9,6 @@ use borrow.Author.Tests.{ne_eqb}
 use Rattle.columns.specs.Common.{fold}
 use Rattle.cpu_set.specs.Members.{members, next_cpu, rest_cpus}
 use Rattle.cpu_set.proofs.Members.{members_step, members_none}
-use Rattle.machine.specs.declared.CpuLookup.{CpuLookup}
-use Rattle.machine.specs.declared.CpuLookup.TheVariants.{Present, Absent}
 use Rattle.machine.specs.Machine.{Machine}
 use Rattle.machine.specs.Encode.{encode, decode}
 use Rattle.machine.specs.LookUp.{get_percpu_block}
@@ -24,8 +22,6 @@ use Rattle.context_ops.specs.Operations.{unblock_context}
 use Rattle.context_ops.specs.Reply.{Reply, reply, refuse, replied, reply_to}
 use Rattle.context_ops.proofs.Resolved.{absent_cpu}
 use Rattle.group_ops.specs.Group.{first_check, names_refusal, unblock_each, group_on, unblock_group}
-use Rattle.calls.specs.declared.Checked.{Checked}
-use Rattle.calls.specs.declared.Checked.TheVariants.{Refused, Passed}
 use Rattle.calls.specs.Call.{check, checked, checked_by, unblock_context_call, unblock_group_call}
 use Rattle.ronthuyal.specs.Leaves.{Leaves}
 use Rattle.ronthuyal.specs.Singles.{singles, image_after, zero_answer, joined_answer, joined, none_named}
@@ -63,20 +59,20 @@ module _ (m : List ℕ) (cpu time x : ℕ) (xs : List ℕ) where
   abbrev one_by_one : Reply
   one_by_one = joined m (singles m cpu time (x ∷ xs)) (image_after m cpu time (x ∷ xs))
 
-  absent : (y : ℕ) → Absent ≡ get_percpu_block (decode m) cpu → reply_to m (λ (i j : ℕ). unblock_context i j (decode m)) (named (decode m) cpu y) ≡ refuse 5 m
+  absent : (y : ℕ) → None ≡ get_percpu_block (decode m) cpu → reply_to m (λ (i j : ℕ). unblock_context i j (decode m)) (named (decode m) cpu y) ≡ refuse 5 m
   unfolding reply_to
-  absent y h = rw (← absent_cpu (decode m) cpu y Absent h refl)
+  absent y h = rw (← absent_cpu (decode m) cpu y None h refl)
 
-  by_cpu : image_refusal time m ≡ 0 → (l : CpuLookup) → l ≡ get_percpu_block (decode m) cpu → group_on m (decode m) cpu (x ∷ xs) l ≡ one_by_one
+  by_cpu : image_refusal time m ≡ 0 → (l : Option ℕ) → l ≡ get_percpu_block (decode m) cpu → group_on m (decode m) cpu (x ∷ xs) l ≡ one_by_one
   unfolding group_on joined
-  by_cpu none Absent h =
+  by_cpu none None h =
       all_refused m cpu time 5 (λ w. omega arith) (λ y. call_on m cpu time none (decode m) m (start m cpu time none) y ∙ absent y h) x xs
-  by_cpu none (Present k) h = same_reply m cpu _ _ _ _ (group_alike m cpu time none k h (x ∷ xs))
+  by_cpu none (Some k) h = same_reply m cpu _ _ _ _ (group_alike m cpu time none k h (x ∷ xs))
 
-  by_check : (w : Checked) → w ≡ check m time → checked_by m (λ (M : Machine). group_on m M cpu (x ∷ xs) (get_percpu_block M cpu)) w ≡ one_by_one
+  by_check : (w : Result (ℕ × ℕ) ℕ) → w ≡ check m time → checked_by m (λ (M : Machine). group_on m M cpu (x ∷ xs) (get_percpu_block M cpu)) w ≡ one_by_one
   unfolding checked_by
-  by_check (Refused r) e = all_refused m cpu time r (is_refused m time r e) (λ y. sym (call_refused m time (Refused r) e r (λ (M : Machine). reply_to m (λ (k j : ℕ). unblock_context k j M) (named M cpu y)) refl refl)) x xs
-  by_check (Passed c n) e = by_cpu (call_none m time (Passed c n) e c n refl) (get_percpu_block (decode m) cpu) refl
+  by_check (Err r) e = all_refused m cpu time r (is_refused m time r e) (λ y. sym (call_refused m time (Err r) e r (λ (M : Machine). reply_to m (λ (k j : ℕ). unblock_context k j M) (named M cpu y)) refl refl)) x xs
+  by_check (Ok (c, n)) e = by_cpu (call_none m time (Ok (c, n)) e c n refl) (get_percpu_block (decode m) cpu) refl
 
   pub list_is_singles : group_of m cpu time (x ∷ xs) ≡ one_by_one
   list_is_singles = by_check (check m time) refl
@@ -92,16 +88,16 @@ group_is_singles m cpu time mask p h =
 
 -- no name is looked at
 module _ (m : List ℕ) (cpu time : ℕ) where
-  none_on : m ≡ encode (decode m) → (l : CpuLookup) → group_on m (decode m) cpu [] l ≡ none_named m l
+  none_on : m ≡ encode (decode m) → (l : Option ℕ) → group_on m (decode m) cpu [] l ≡ none_named m l
   unfolding group_on names_refusal unblock_each replied
-  none_on e Absent = refl
-  none_on e (Present k) = ap (reply zero_answer) (sym e)
+  none_on e None = refl
+  none_on e (Some k) = ap (reply zero_answer) (sym e)
 
-  none_checked : (w : Checked) → w ≡ check m time
+  none_checked : (w : Result (ℕ × ℕ) ℕ) → w ≡ check m time
       → checked_by m (λ (M : Machine). group_on m M cpu [] (get_percpu_block M cpu)) w ≡ checked_by m (λ (M : Machine). none_named m (get_percpu_block M cpu)) w
   unfolding checked_by
-  none_checked (Refused r) e = refl
-  none_checked (Passed c n) e = none_on (admitted.decoded m (admitted.passed time m (call_none m time (Passed c n) e c n refl))) (get_percpu_block (decode m) cpu)
+  none_checked (Err r) e = refl
+  none_checked (Ok (c, n)) e = none_on (admitted.decoded m (admitted.passed time m (call_none m time (Ok (c, n)) e c n refl))) (get_percpu_block (decode m) cpu)
 
   -- the empty set: the refusals of the image, the time and the CPU, else nothing changes
   pub empty_group : unblock_group_call m cpu time 0 ≡ checked m time (λ (M : Machine). none_named m (get_percpu_block M cpu))
@@ -116,15 +112,15 @@ module _ (a : Answer) (m m' : List ℕ) (cpu time mask : ℕ) (z : a.refusal ≡
   left_by r o b l (crowded y t w N s) e = refused_not 9 m (λ v. omega arith) (rw (y, t) at e) z
   left_by r o b l (refused i w N s) e = refused_not r m (λ v. omega arith) (rw (ne_eqb r 0 (λ v. omega arith)) at e) z
 
-  left_on : image_refusal time m ≡ 0 → (l : CpuLookup) → l ≡ get_percpu_block (decode m) cpu → reply a m' ≡ group_on m (decode m) cpu (members mask) l → Unraised (size_c m) (size_n m) m'
+  left_on : image_refusal time m ≡ 0 → (l : Option ℕ) → l ≡ get_percpu_block (decode m) cpu → reply a m' ≡ group_on m (decode m) cpu (members mask) l → Unraised (size_c m) (size_n m) m'
   unfolding group_on
-  left_on none Absent h e = refused_not 5 m (λ v. omega arith) e z
-  left_on none (Present k) h e = left_by _ _ _ _ (group_alike m cpu time none k h (members mask)) e
+  left_on none None h e = refused_not 5 m (λ v. omega arith) e z
+  left_on none (Some k) h e = left_by _ _ _ _ (group_alike m cpu time none k h (members mask)) e
 
-  left_checked : (w : Checked) → w ≡ check m time → reply a m' ≡ checked_by m (λ (M : Machine). unblock_group m M cpu mask) w → Unraised (size_c m) (size_n m) m'
+  left_checked : (w : Result (ℕ × ℕ) ℕ) → w ≡ check m time → reply a m' ≡ checked_by m (λ (M : Machine). unblock_group m M cpu mask) w → Unraised (size_c m) (size_n m) m'
   unfolding checked_by unblock_group
-  left_checked (Refused r) h e = refused_not r m (is_refused m time r h) e z
-  left_checked (Passed c n) h e = left_on (call_none m time (Passed c n) h c n refl) (get_percpu_block (decode m) cpu) refl e
+  left_checked (Err r) h e = refused_not r m (is_refused m time r h) e z
+  left_checked (Ok (c, n)) h e = left_on (call_none m time (Ok (c, n)) h c n refl) (get_percpu_block (decode m) cpu) refl e
 
 pub group_promises : {a : Answer} {m' : List ℕ} (m : List ℕ) (cpu time mask : ℕ) → reply a m' ≡ unblock_group_call m cpu time mask
     → record { image_after : reply a m' ≡ unblock_group_call m cpu time mask; leaves : Leaves max_number m m' a.refusal }

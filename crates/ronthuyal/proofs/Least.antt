@@ -1,4 +1,5 @@
 -- A refused set has the least number that any of the single calls meets, and keeps every word. Assumes nothing.
+use Rattle.std.specs.Prelude.{None, Option, Some, Err, Ok, Result}
 use mathlib.Core.Path.{◌≡◌, refl, sym, ap, ◌∙◌}
 use mathlib.Core.List.{List, [], ◌∷◌}
 use mathlib.Core.Logic.{◌⊎◌, inl, inr}
@@ -8,8 +9,6 @@ use lib.Dec.{ltb, eqb}
 use borrow.Author.Tests.{eqb-true, eqb-false, ltb-true, ltb-false}
 use Rattle.columns.specs.Common.{fold, In}
 use Rattle.cpu_set.specs.Members.{members}
-use Rattle.machine.specs.declared.CpuLookup.{CpuLookup}
-use Rattle.machine.specs.declared.CpuLookup.TheVariants.{Present, Absent}
 use Rattle.machine.specs.Machine.{Machine}
 use Rattle.machine.specs.Encode.{decode}
 use Rattle.machine.specs.LookUp.{get_percpu_block}
@@ -17,8 +16,6 @@ use Rattle.model.proofs.Cases.{pick}
 use Rattle.answer.specs.declared.Answer.{Answer}
 use Rattle.context_ops.specs.Reply.{Reply, replied}
 use Rattle.group_ops.specs.Group.{first_check, names_refusal, unblock_each, group_on, unblock_group}
-use Rattle.calls.specs.declared.Checked.{Checked}
-use Rattle.calls.specs.declared.Checked.TheVariants.{Refused, Passed}
 use Rattle.calls.specs.Call.{check, checked_by, unblock_group_call}
 use Rattle.ronthuyal.specs.Singles.{singles, image_after, zero_answer, joined_answer, joined, Met, Least}
 use Rattle.ronthuyal.proofs.Grouped.{group_is_singles}
@@ -101,17 +98,17 @@ abbrev Kept : List ℕ → Reply → Type 0
 Kept m u = (u.answer.refusal ≡ 0 → ⊥) → u.image ≡ m
 
 module _ (m : List ℕ) (cpu time mask : ℕ) where
-  kept_on : (M : Machine) (l : CpuLookup) → Kept m (group_on m M cpu (members mask) l)
+  kept_on : (M : Machine) (l : Option ℕ) → Kept m (group_on m M cpu (members mask) l)
   unfolding group_on replied
-  kept_on M Absent = λ n. refl
-  kept_on M (Present k) =
+  kept_on M None = λ n. refl
+  kept_on M (Some k) =
       pick (Kept m) (eqb (names_refusal M cpu (members mask)) 0)
       (λ t. pick (Kept m) (unblock_each k (members mask) M).no_room (λ s n. refl) (λ s n. absurd (n refl))) (λ t n. refl)
 
-  kept_checked : (w : Checked) → Kept m (checked_by m (λ (M : Machine). unblock_group m M cpu mask) w)
+  kept_checked : (w : Result (ℕ × ℕ) ℕ) → Kept m (checked_by m (λ (M : Machine). unblock_group m M cpu mask) w)
   unfolding checked_by unblock_group
-  kept_checked (Refused r) = λ n. refl
-  kept_checked (Passed c k) = kept_on (decode m) (get_percpu_block (decode m) cpu)
+  kept_checked (Err r) = λ n. refl
+  kept_checked (Ok (c, k)) = kept_on (decode m) (get_percpu_block (decode m) cpu)
 
   pub refused_group : ((unblock_group_call m cpu time mask).answer.refusal ≡ 0 → ⊥) → (unblock_group_call m cpu time mask).image ≡ m
   refused_group = kept_checked (check m time)

@@ -1,4 +1,5 @@
 -- What an operation leaves of an image that passed the check: the image of a well-formed machine. Assumes nothing.
+use Rattle.std.specs.Prelude.{None, Option, Some}
 use mathlib.Core.Path.{◌≡◌, refl, sym, ap, subst}
 use mathlib.Core.Bool.{true, false}
 use Prim.Native.Nat.{ℕ, ◌<◌}
@@ -8,10 +9,6 @@ use lib.Dec.{eqb}
 use borrow.Author.Tests.{eqb-false}
 use Rattle.columns.proofs.Tests.{by_test}
 use Rattle.context.specs.declared.Status.{Status}
-use Rattle.machine.specs.declared.Lookup.{Lookup}
-use Rattle.machine.specs.declared.Lookup.TheVariants.{Live, Gone}
-use Rattle.machine.specs.declared.CpuLookup.{CpuLookup}
-use Rattle.machine.specs.declared.CpuLookup.TheVariants.{Present, Absent}
 use Rattle.machine.specs.Machine.{Machine, context_at, cpu_at}
 use Rattle.machine.specs.Encode.{encode, decode}
 use Rattle.machine.specs.LookUp.{look_up, get_percpu_block}
@@ -94,21 +91,21 @@ module _ (a : Answer) (m m' : List ℕ) (time : ℕ) (z : a.refusal ≡ 0) (p : 
   live_name context x i = rw i.is (record { below = omega (arith, i.below, W.contexts); live = i.alive })
 
   -- operations 1 to 3
-  pub by : (cpu : ℕ) (call : Call) → TargetFormed n M.contexts call → (l : CpuLookup) → l ≡ get_percpu_block M cpu → reply a m' ≡ decide_by m M time call l → Formed c n m'
+  pub by : (cpu : ℕ) (call : Call) → TargetFormed n M.contexts call → (l : Option ℕ) → l ≡ get_percpu_block M cpu → reply a m' ≡ decide_by m M time call l → Formed c n m'
   unfolding decide_by
-  by cpu call t Absent h e = refused_not 5 m (λ w. omega arith) e z
-  by cpu call t (Present k) h e = decided cpu k (present M cpu k h) call t e
+  by cpu call t None h e = refused_not 5 m (λ w. omega arith) e z
+  by cpu call t (Some k) h e = decided cpu k (present M cpu k h) call t e
 
-  pub directly : (cpu context : ℕ) (l : Lookup) → l ≡ look_up M context → reply a m' ≡ direct_switch_by m M cpu time l → Formed c n m'
+  pub directly : (cpu context : ℕ) (l : Option ℕ) → l ≡ look_up M context → reply a m' ≡ direct_switch_by m M cpu time l → Formed c n m'
   unfolding direct_switch_by
-  directly cpu context Gone h e = refused_not 5 m (λ w. omega arith) e z
-  directly cpu context (Live x) h e = by cpu (by_direct_switch x) (live_name context x (live M context x h)) (get_percpu_block M cpu) refl e
+  directly cpu context None h e = refused_not 5 m (λ w. omega arith) e z
+  directly cpu context (Some x) h e = by cpu (by_direct_switch x) (live_name context x (live M context x h)) (get_percpu_block M cpu) refl e
 
   -- operation 5
-  pub on : (cpu : ℕ) (l : CpuLookup) → l ≡ get_percpu_block M cpu → reply a m' ≡ reply_on m (λ (k : ℕ). drain_ipi_context_wakeups k M) l → Unraised c n m'
+  pub on : (cpu : ℕ) (l : Option ℕ) → l ≡ get_percpu_block M cpu → reply a m' ≡ reply_on m (λ (k : ℕ). drain_ipi_context_wakeups k M) l → Unraised c n m'
   unfolding reply_on
-  on cpu Absent h e = refused_not 5 m (λ w. omega arith) e z
-  on cpu (Present k) h e =
+  on cpu None h e = refused_not 5 m (λ w. omega arith) e z
+  on cpu (Some k) h e =
       let i = present M cpu k h in
       after (InRange c n) _
       (λ y. record { formed = drain_leaves c n M W k (here cpu k i) (is_present cpu k i) y; raised = drain_raises_none max_number c n k M (here cpu k i) (decoded_raised m p) }) e
@@ -116,18 +113,18 @@ module _ (a : Answer) (m m' : List ℕ) (time : ℕ) (z : a.refusal ≡ 0) (p : 
   -- f: operation 4, 6 or 7
   module _ (cpu context : ℕ) (f : ℕ → ℕ → Outcome)
       (g : (k x : ℕ) → k < c → (cpu_at M k).block.present ≡ true → LiveName n M.contexts x → (f k x).no_room ≡ false → InRange c n (f k x).machine) where
-    to_context : (k : ℕ) → IsPresent M cpu k → (l : Lookup) → l ≡ look_up M context → reply a m' ≡ reply_to m f (named_context M k l) → Unraised c n m'
+    to_context : (k : ℕ) → IsPresent M cpu k → (l : Option ℕ) → l ≡ look_up M context → reply a m' ≡ reply_to m f (named_context M k l) → Unraised c n m'
     unfolding named_context reply_to
-    to_context k i Gone h e = refused_not 5 m (λ w. omega arith) e z
-    to_context k i (Live x) h e =
+    to_context k i None h e = refused_not 5 m (λ w. omega arith) e z
+    to_context k i (Some x) h e =
         by_test (eqb (context_at M.contexts x).lock 0)
         (λ t. after (InRange c n) (f k x) (g k x (here cpu k i) (is_present cpu k i) (live_name context x (live M context x h))) (rw t at e))
         (λ t. refused_not 6 m (λ w. omega arith) (rw t at e) z)
 
-    pub to : (l : CpuLookup) → l ≡ get_percpu_block M cpu → reply a m' ≡ reply_to m f (named_on M context l) → Unraised c n m'
+    pub to : (l : Option ℕ) → l ≡ get_percpu_block M cpu → reply a m' ≡ reply_to m f (named_on M context l) → Unraised c n m'
     unfolding named_on reply_to
-    to Absent h e = refused_not 5 m (λ w. omega arith) e z
-    to (Present k) h e = to_context k (present M cpu k h) (look_up M context) refl e
+    to None h e = refused_not 5 m (λ w. omega arith) e z
+    to (Some k) h e = to_context k (present M cpu k h) (look_up M context) refl e
 
   pub block_in_range : (s : Status) (k x : ℕ) → LiveName n M.contexts x → InRange c n (block_with s x M).machine
   block_in_range s k x o =

@@ -1,5 +1,5 @@
 -- What an accepted call leaves: of the definitions, and as the calls promise it. Assumes nothing.
-use Rattle.std.specs.Prelude.{if◌then◌else◌}
+use Rattle.std.specs.Prelude.{if◌then◌else◌, Err, Ok, Result}
 use mathlib.Core.Path.{◌≡◌, refl, sym, ◌∙◌, subst}
 use mathlib.Core.Bool.{Bool, true, false}
 use Prim.Native.Nat.{ℕ, ◌≤◌}
@@ -22,8 +22,6 @@ use Rattle.model_leaves.proofs.Passing.{MachineRaised, cpus_are, names_are, leng
 use Rattle.answer.specs.declared.Answer.{Answer}
 use Rattle.context_ops.specs.Named.{named}
 use Rattle.context_ops.specs.Reply.{Reply, reply}
-use Rattle.calls.specs.declared.Checked.{Checked}
-use Rattle.calls.specs.declared.Checked.TheVariants.{Refused, Passed}
 use Rattle.calls.specs.Call.{check, checked, checked_by, tick_call, switch_call, direct_switch_to_call, unblock_context_call, drain_ipi_context_wakeups_call, block_call, hard_block_call, call}
 use Rattle.ronthuyal.specs.Demand.{DemandMet}
 use Rattle.ronthuyal.specs.Leaves.{Left, Leaves}
@@ -35,11 +33,11 @@ use Rattle.numbers.specs.Limits.{max_number, max_word}
 
 module _ (a : Answer) (m m' : List ℕ) (cpu time context : ℕ) (z : a.refusal ≡ 0) where
   -- the check comes first
-  past_check : {A : Type 0} (f : Machine → Reply) → ((p : admitted.Passed time m) → reply a m' ≡ f (decode m) → A) → (w : Checked) → w ≡ check m time
+  past_check : {A : Type 0} (f : Machine → Reply) → ((p : admitted.Passed time m) → reply a m' ≡ f (decode m) → A) → (w : Result (ℕ × ℕ) ℕ) → w ≡ check m time
       → reply a m' ≡ checked_by m f w → A
   unfolding checked_by
-  past_check f g (Refused r) h e = refused_not r m (is_refused m time r h) e z
-  past_check f g (Passed c n) h e = g (admitted.passed time m (call_none m time (Passed c n) h c n refl)) e
+  past_check f g (Err r) h e = refused_not r m (is_refused m time r h) e z
+  past_check f g (Ok (c, n)) h e = g (admitted.passed time m (call_none m time (Ok (c, n)) h c n refl)) e
 
   pub through : {A : Type 0} (f : Machine → Reply) → ((p : admitted.Passed time m) → reply a m' ≡ f (decode m) → A) → reply a m' ≡ checked m time f → A
   through f g e = past_check f g (check m time) refl e

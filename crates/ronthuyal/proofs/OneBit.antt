@@ -1,4 +1,5 @@
 -- A mask of one bit is operation 4 itself. Assumes nothing.
+use Rattle.std.specs.Prelude.{Err, Ok, Result}
 use mathlib.Core.Path.{◌≡◌, refl, sym, ap, ◌∙◌}
 use mathlib.Core.Bool.{false}
 use mathlib.Core.List.{List, [], ◌∷◌}
@@ -15,13 +16,9 @@ use Rattle.machine.specs.Machine.{Machine}
 use Rattle.machine.specs.Encode.{encode, decode}
 use Rattle.machine.specs.Outcome.{Outcome}
 use Rattle.model.proofs.Cases.{pick}
-use Rattle.context_ops.specs.declared.named.Named.{Named}
-use Rattle.context_ops.specs.declared.named.Named.TheVariants as names
 use Rattle.context_ops.specs.Named.{named}
 use Rattle.context_ops.specs.Reply.{Reply, reply, refuse, replied, reply_to}
 use Rattle.group_ops.specs.Group.{first_check, unblock_group}
-use Rattle.calls.specs.declared.Checked.{Checked}
-use Rattle.calls.specs.declared.Checked.TheVariants.{Refused, Passed}
 use Rattle.calls.specs.Call.{check, checked_by, unblock_context_call, unblock_group_call}
 use Rattle.ronthuyal.specs.Singles.{singles, image_after, joined_answer, joined}
 use Rattle.ronthuyal.proofs.Reached.{given}
@@ -63,15 +60,15 @@ module _ (m : List ℕ) where
   unfolding replied
   replied_whole o z = pick Whole o.no_room (λ t. refuse_whole 9) (λ t. given_whole o (encode o.machine) z)
 
-  to_whole : (f : ℕ → ℕ → Outcome) → ((k x : ℕ) → (f k x).rule ≡ 0) → (v : Named) → Whole (reply_to m f v)
+  to_whole : (f : ℕ → ℕ → Outcome) → ((k x : ℕ) → (f k x).rule ≡ 0) → (v : Result (ℕ × ℕ) ℕ) → Whole (reply_to m f v)
   unfolding reply_to
-  to_whole f h (names.Refused r) = refuse_whole r
-  to_whole f h (names.Found k x) = replied_whole (f k x) (h k x)
+  to_whole f h (Err r) = refuse_whole r
+  to_whole f h (Ok (k, x)) = replied_whole (f k x) (h k x)
 
-  checked_whole : (f : Machine → Reply) → ((M : Machine) → Whole (f M)) → (w : Checked) → Whole (checked_by m f w)
+  checked_whole : (f : Machine → Reply) → ((M : Machine) → Whole (f M)) → (w : Result (ℕ × ℕ) ℕ) → Whole (checked_by m f w)
   unfolding checked_by
-  checked_whole f g (Refused r) = refuse_whole r
-  checked_whole f g (Passed c n) = g (decode m)
+  checked_whole f g (Err r) = refuse_whole r
+  checked_whole f g (Ok (c, n)) = g (decode m)
 
 -- a mask of one bit is `unblock_context`, refused or not
 pub one_bit : (m : List ℕ) (cpu time x : ℕ) → x < 64 → unblock_group_call m cpu time (2 ^ x) ≡ unblock_context_call m cpu time x

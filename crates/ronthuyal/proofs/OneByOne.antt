@@ -1,15 +1,14 @@
 -- Operation 4 for a set, and the calls one by one, go through the names side by side. Assumes nothing.
-use Rattle.std.specs.Prelude.{if◌then◌else◌}
+use Rattle.std.specs.Prelude.{if◌then◌else◌, Some}
 use mathlib.Core.Path.{◌≡◌, refl, sym, ap, ◌∙◌, subst}
 use mathlib.Core.Bool.{Bool, true, false, ◌||◌}
 use mathlib.Core.List.{List, [], ◌∷◌}
-use Prim.Native.Nat.{ℕ, ◌+◌, max}
+use Prim.Native.Nat.{ℕ, ◌+◌}
 use native.Mathlib.Omega.{arith}
 use lib.Dec.{ltb, eqb}
 use borrow.Author.Tests.{ne_eqb, lt-ltb, le-ltb}
 use Rattle.columns.specs.Common.{mark, fold}
 use Rattle.model.proofs.Cases.{pick}
-use Rattle.machine.specs.declared.CpuLookup.TheVariants.{Present}
 use Rattle.machine.specs.Machine.{Machine}
 use Rattle.machine.specs.Encode.{decode}
 use Rattle.machine.specs.LookUp.{get_percpu_block}
@@ -92,7 +91,7 @@ module _ (m : List ℕ) (cpu k x q : ℕ) (u : Reply) (r : ℕ) (o : Outcome) (a
   after_refused N l e (done y f w s) =
       refused (subst OfName (sym (check_none r q l y)) l) (λ i. first_check (e i) ((ap (λ (b : Answer). b.refusal) w ∙ sym y) i)) (unblock_context k x N).machine s
 
-module _ (m : List ℕ) (cpu time : ℕ) (none : image_refusal time m ≡ 0) (k : ℕ) (h : Present k ≡ get_percpu_block (decode m) cpu) where
+module _ (m : List ℕ) (cpu time : ℕ) (none : image_refusal time m ≡ 0) (k : ℕ) (h : Some k ≡ get_percpu_block (decode m) cpu) where
   one_more : (r : ℕ) (o : Outcome) (a : Answer) (m' : List ℕ) (x : ℕ) → Alike m cpu r o a m'
       → Alike m cpu (first_check r (name_refusal (named (decode m) cpu x))) (also_unblock k o x) (joined_answer a (unblock_context_call m' cpu time x).answer) (unblock_context_call m' cpu time x).image
   one_more r o a m' x (accepted z t e s) = after_accepted m cpu k x _ _ r o a z t e (ends m cpu time none o.machine m' s k x h)

@@ -1,4 +1,5 @@
 -- An image that calls of operation 4 reached, and one call more on it. Assumes nothing.
+use Rattle.std.specs.Prelude.{None, Option, Some, Err, Ok, Result}
 use mathlib.Core.Path.{◌≡◌, refl, sym, ap, ◌∙◌, subst}
 use mathlib.Core.Bool.{true, false}
 use mathlib.Core.List.{List}
@@ -10,10 +11,6 @@ use Rattle.columns.proofs.Tests.{by_test}
 use Rattle.context.specs.declared.Context.{Context}
 use Rattle.percpu.specs.Cpu.{Cpu}
 use Rattle.percpu.proofs.Read.{Short}
-use Rattle.machine.specs.declared.Lookup.{Lookup}
-use Rattle.machine.specs.declared.Lookup.TheVariants.{Live, Gone}
-use Rattle.machine.specs.declared.CpuLookup.{CpuLookup}
-use Rattle.machine.specs.declared.CpuLookup.TheVariants.{Present, Absent}
 use Rattle.machine.specs.Machine.{Machine, context_at, cpu_at, no_cpu}
 use Rattle.machine.specs.Encode.{encode, decode}
 use Rattle.machine.specs.LookUp.{look_up, get_percpu_block}
@@ -28,8 +25,6 @@ use Rattle.model_leaves.proofs.Operations.{unblock_leaves}
 use Rattle.model_leaves.proofs.Decoding.{well_formed}
 use Rattle.model_leaves.proofs.Raising.{decoded_raised, unblock_raises_none}
 use Rattle.answer.specs.declared.Answer.{Answer}
-use Rattle.context_ops.specs.declared.named.Named.{Named}
-use Rattle.context_ops.specs.declared.named.Named.TheVariants.{Refused, Found}
 use Rattle.context_ops.specs.Named.{named, named_on, named_context}
 use Rattle.context_ops.specs.Operations.{unblock_context}
 use Rattle.context_ops.specs.Reply.{Reply, replied, reply_to}
@@ -67,26 +62,26 @@ pub data Ends (m : List ℕ) (cpu : ℕ) (N : Machine) (k x q : ℕ) (u : Reply)
 
 -- a name's refusal is 5 or 6
 module _ (M : Machine) (r : ℕ) where
-  is_five : Refused r ≡ Refused 5 → OfName r
+  is_five : ◌≡◌ {A = Result (ℕ × ℕ) ℕ} (Err r) (Err 5) → OfName r
   is_five e = let z : r ≡ 5 = cc in record { least = omega arith; most = omega arith }
 
-  is_six : Refused r ≡ Refused 6 → OfName r
+  is_six : ◌≡◌ {A = Result (ℕ × ℕ) ℕ} (Err r) (Err 6) → OfName r
   is_six e = let z : r ≡ 6 = cc in record { least = omega arith; most = omega arith }
 
-  of_context : (k : ℕ) (l : Lookup) → Refused r ≡ named_context M k l → OfName r
+  of_context : (k : ℕ) (l : Option ℕ) → Err r ≡ named_context M k l → OfName r
   unfolding named_context
-  of_context k Gone e = is_five e
-  of_context k (Live x) e = by_test (eqb (context_at M.contexts x).lock 0) (λ t. never (rw t at e)) (λ t. is_six (rw t at e))
+  of_context k None e = is_five e
+  of_context k (Some x) e = by_test (eqb (context_at M.contexts x).lock 0) (λ t. never (rw t at e)) (λ t. is_six (rw t at e))
     where
-      never : Refused r ≡ Found k x → OfName r
+      never : ◌≡◌ {A = Result (ℕ × ℕ) ℕ} (Err r) (Ok (k, x)) → OfName r
       never q = let w : ◌≡◌ {A = ℕ} 0 1 = cc in absurd (omega arith)
 
-  of_cpu : (x : ℕ) (l : CpuLookup) → Refused r ≡ named_on M x l → OfName r
+  of_cpu : (x : ℕ) (l : Option ℕ) → Err r ≡ named_on M x l → OfName r
   unfolding named_on
-  of_cpu x Absent e = is_five e
-  of_cpu x (Present k) e = of_context k (look_up M x) e
+  of_cpu x None e = is_five e
+  of_cpu x (Some k) e = of_context k (look_up M x) e
 
-  of_name : (cpu x : ℕ) → Refused r ≡ named M cpu x → OfName r
+  of_name : (cpu x : ℕ) → Err r ≡ named M cpu x → OfName r
   unfolding named
   of_name cpu x e = of_cpu x (get_percpu_block M cpu) e
 
@@ -140,15 +135,15 @@ module _ (m : List ℕ) (cpu time : ℕ) (none : image_refusal time m ≡ 0) whe
           pick (Ends m cpu N k x 0) (unblock_context k x N).no_room (λ t. full refl t refl s)
           (λ t. done refl t refl (record { is = refl; in_range = unblocked j t; names = λ y. unblock_keeps k x N cpu y ∙ s.names y }))
 
-      by_name : Present k ≡ get_percpu_block (decode m) cpu → (v : Named) → v ≡ named (decode m) cpu x
+      by_name : Some k ≡ get_percpu_block (decode m) cpu → (v : Result (ℕ × ℕ) ℕ) → v ≡ named (decode m) cpu x
           → Ends m cpu N k x (name_refusal v) (reply_to m' (λ (i y : ℕ). unblock_context i y N) v)
       unfolding reply_to name_refusal
-      by_name h (Refused r) e = misnamed (of_name (decode m) r cpu x e) refl s
-      by_name h (Found i y) e =
+      by_name h (Err r) e = misnamed (of_name (decode m) r cpu x e) refl s
+      by_name h (Ok (i, y)) e =
           let j = found N cpu x i y (e ∙ sym (s.names x)) in
           let a : i ≡ k = j.cpu_is.is ∙ sym (look_ups.present (decode m) cpu k h).is in
           let b : y ≡ x = j.context_is.is in
           rw (a, b) (free (rw (a, b) at j))
 
-      pub ends : Present k ≡ get_percpu_block (decode m) cpu → Ends m cpu N k x (name_refusal (named (decode m) cpu x)) (unblock_context_call m' cpu time x)
+      pub ends : Some k ≡ get_percpu_block (decode m) cpu → Ends m cpu N k x (name_refusal (named (decode m) cpu x)) (unblock_context_call m' cpu time x)
       ends h = subst (Ends m cpu N k x (name_refusal (named (decode m) cpu x))) (sym (call_on x)) (by_name h (named (decode m) cpu x) refl)

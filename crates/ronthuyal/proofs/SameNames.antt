@@ -1,18 +1,15 @@
 -- Unblocking a context changes neither which CPUs and contexts there are nor any lock: a name means after it what it meant before. Assumes nothing.
+use Rattle.std.specs.Prelude.{None, Option, Some}
 use mathlib.Core.Path.{◌≡◌, refl, ap, ◌∙◌}
 use mathlib.Core.List.{List, [], ◌∷◌}
 use Prim.Native.Nat.{ℕ, zero, suc}
 use lib.ListN.{length, get_or, set, length-set}
 use Rattle.context.specs.declared.Context.{Context}
-use Rattle.context.specs.declared.Changed.{Changed}
+use Rattle.context.specs.Block.{Changed}
 use Rattle.context.specs.Status.{is_runnable, is_soft_blocked}
 use Rattle.context.specs.Block.{unblocked}
 use Rattle.percpu.specs.Cpu.{Cpu}
 use Rattle.percpu.specs.Lists.{cpu_push_local, cpu_push_ipi}
-use Rattle.machine.specs.declared.Lookup.{Lookup}
-use Rattle.machine.specs.declared.Lookup.TheVariants.{Live, Gone}
-use Rattle.machine.specs.declared.CpuLookup.{CpuLookup}
-use Rattle.machine.specs.declared.CpuLookup.TheVariants.{Present, Absent}
 use Rattle.machine.specs.Machine.{Machine, context_at, cpu_at, set_context, set_cpu, no_context, no_cpu}
 use Rattle.machine.specs.LookUp.{look_up, get_percpu_block}
 use Rattle.machine.specs.Outcome.{Outcome}
@@ -38,15 +35,15 @@ module _ (M N : Machine) (s : SameNames M N) where
   unfolding look_up
   same_look_up x = rw (s.contexts, ap (λ (f : Fixed). f.gone) (s.context x))
 
-  same_context : (k : ℕ) (l : Lookup) → named_context N k l ≡ named_context M k l
+  same_context : (k : ℕ) (l : Option ℕ) → named_context N k l ≡ named_context M k l
   unfolding named_context
-  same_context k Gone = refl
-  same_context k (Live x) = rw (ap (λ (f : Fixed). f.lock) (s.context x))
+  same_context k None = refl
+  same_context k (Some x) = rw (ap (λ (f : Fixed). f.lock) (s.context x))
 
-  same_on : (x : ℕ) (l : CpuLookup) → named_on N x l ≡ named_on M x l
+  same_on : (x : ℕ) (l : Option ℕ) → named_on N x l ≡ named_on M x l
   unfolding named_on
-  same_on x Absent = refl
-  same_on x (Present k) = ap (named_context N k) (same_look_up x) ∙ same_context k (look_up M x)
+  same_on x None = refl
+  same_on x (Some k) = ap (named_context N k) (same_look_up x) ∙ same_context k (look_up M x)
 
   same_named : (cpu x : ℕ) → named N cpu x ≡ named M cpu x
   unfolding named
@@ -79,17 +76,17 @@ unblocked_fixed : (q : Context) → fixed (unblocked q).context ≡ fixed q
 unfolding unblocked
 unblocked_fixed q = pick (λ (d : Changed). fixed d.context ≡ fixed q) (is_soft_blocked q.status) (λ z. refl) (λ z. refl)
 
-wakeup_keeps : (k x r : ℕ) (M : Machine) (l : CpuLookup) → Keeps M (wakeup_on k x r M l).machine
+wakeup_keeps : (k x r : ℕ) (M : Machine) (l : Option ℕ) → Keeps M (wakeup_on k x r M l).machine
 unfolding wakeup_on push_local push_ipi
-wakeup_keeps k x r M Absent = set_cpu_keeps M k (cpu_push_local x (cpu_at M k)) refl
-wakeup_keeps k x r M (Present t) = set_cpu_keeps M t (cpu_push_ipi x (cpu_at M t)) refl
+wakeup_keeps k x r M None = set_cpu_keeps M k (cpu_push_local x (cpu_at M k)) refl
+wakeup_keeps k x r M (Some t) = set_cpu_keeps M t (cpu_push_ipi x (cpu_at M t)) refl
 
 pub unblock_keeps : (k x : ℕ) (M : Machine) → Keeps M (unblock_context k x M).machine
 unfolding unblock_context wakeup_context
 unblock_keeps k x M =
     let q : Context = context_at M.contexts x in
     let M₁ : Machine = set_context x (unblocked q).context M in
-    let on : Machine → CpuLookup = λ (N : Machine). other_cpu k (context_at N.contexts x).cpu_id N in
+    let on : Machine → Option ℕ = λ (N : Machine). other_cpu k (context_at N.contexts x).cpu_id N in
     pick (λ (o : Outcome). Keeps M o.machine) (unblocked q).done
     (λ z cpu y. wakeup_keeps k x 1 M₁ (on M₁) cpu y ∙ set_context_keeps M x (unblocked q).context (unblocked_fixed q) cpu y)
     (λ z. pick (λ (o : Outcome). Keeps M o.machine) (is_runnable q.status) (λ y. wakeup_keeps k x 0 M (on M)) (λ y cpu j. refl))

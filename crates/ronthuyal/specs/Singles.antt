@@ -1,8 +1,6 @@
 -- Operation 4 for the contexts of a list, one call after the other, and what these calls come to. Assumes nothing.
-use Rattle.std.specs.Prelude.{◌≡◌, ◌⊎◌, List, [], ◌∷◌, ℕ, ◌+◌, ◌≤◌, max, eqb, if◌then◌else◌}
+use Rattle.std.specs.Prelude.{◌≡◌, ◌⊎◌, List, [], ◌∷◌, ℕ, ◌+◌, ◌≤◌, max, eqb, if◌then◌else◌, None, Option, Some}
 use Rattle.columns.specs.Common.{fold, All, In}
-use Rattle.machine.specs.declared.CpuLookup.{CpuLookup}
-use Rattle.machine.specs.declared.CpuLookup.TheVariants.{Present, Absent}
 use Rattle.answer.specs.declared.Answer.{Answer}
 use Rattle.context_ops.specs.Reply.{Reply, reply, refuse}
 use Rattle.group_ops.specs.Group.{first_check}
@@ -37,9 +35,9 @@ joined m answers m' =
     if eqb a.refusal 0 then reply a m' else refuse a.refusal m
 
 -- no context is named: only the CPU is looked at
-abbrev pub none_named : List ℕ → CpuLookup → Reply
-none_named m Absent = refuse 5 m
-none_named m (Present k) = reply zero_answer m
+abbrev pub none_named : List ℕ → Option ℕ → Reply
+none_named m None = refuse 5 m
+none_named m (Some k) = reply zero_answer m
 
 -- an answer that is refused by the number r
 pub record Met (r : ℕ) (answers : List Answer) : Type 0 where

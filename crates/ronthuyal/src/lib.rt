@@ -1,20 +1,11 @@
 // The calls, of any words: the image is checked, and refused by document 01's number or worked on.
 #![tactic(auto)]
 
+mod single;
+
 ghost use Rattle.std.specs.Prelude.{◌≡◌};
 ghost use Rattle.context_ops.specs.Reply.{reply};
-ghost use Rattle.calls.specs.Call.{
-  tick_call,
-  switch_call,
-  direct_switch_to_call,
-  unblock_context_call,
-  drain_ipi_context_wakeups_call,
-  block_call,
-  hard_block_call,
-  unblock_group_call,
-  total_weight_call,
-  call,
-};
+ghost use Rattle.calls.specs.Call.{unblock_group_call, total_weight_call, call};
 ghost use Rattle.asked.specs.OfReply.{asked};
 ghost use Rattle.ask.specs.Ask.{ask, commit};
 ghost use Rattle.window.specs.Shares.{share_answer};
@@ -29,97 +20,14 @@ ghost use Rattle.numbers.specs.Limits.{max_number, max_word};
 
 use answer::Answer;
 use asked::Asked;
-use calls::Checked;
 use humblest::Humblest;
+use refusal::refused;
 use rival::Game;
+pub use single::{
+    ronthuyal_block, ronthuyal_direct_switch_to, ronthuyal_drain_ipi_context_wakeups,
+    ronthuyal_hard_block, ronthuyal_switch, ronthuyal_tick, ronthuyal_unblock_context,
+};
 use window::Whose;
-
-// Operation 1. The result is 0 if no switch is due, else as in operation 2.
-pub fn ronthuyal_tick(image: &mut [u64], cpu: u64, time: u64) -> Answer
-    ensures image_after { reply result image.new ≡ tick_call image.old cpu time }
-    ensures demand_met { DemandMet image.old image.new 1 cpu time 0 result.refusal }
-    ensures leaves { Leaves max_word image.old image.new result.refusal }
-{
-    let checked = calls::check(image, time);
-    match checked {
-        Checked::Refused(number) => answer::refused(number),
-        Checked::Passed(c, n) => switch_ops::tick(image, c, n, cpu, time),
-    }
-}
-
-// Operation 2. The result is 1 for Switched, 2 for AllContextsIdle.
-pub fn ronthuyal_switch(image: &mut [u64], cpu: u64, time: u64) -> Answer
-    ensures image_after { reply result image.new ≡ switch_call image.old cpu time }
-    ensures demand_met { DemandMet image.old image.new 2 cpu time 0 result.refusal }
-    ensures leaves { Leaves max_word image.old image.new result.refusal }
-{
-    let checked = calls::check(image, time);
-    match checked {
-        Checked::Refused(number) => answer::refused(number),
-        Checked::Passed(c, n) => switch_ops::switch(image, c, n, cpu, time),
-    }
-}
-
-// Operation 3. The result is as in operation 2.
-pub fn ronthuyal_direct_switch_to(image: &mut [u64], cpu: u64, time: u64, context: u64) -> Answer
-    ensures image_after { reply result image.new ≡ direct_switch_to_call image.old cpu time context }
-    ensures demand_met { DemandMet image.old image.new 3 cpu time context result.refusal }
-    ensures leaves { Leaves max_word image.old image.new result.refusal }
-{
-    let checked = calls::check(image, time);
-    match checked {
-        Checked::Refused(number) => answer::refused(number),
-        Checked::Passed(c, n) => switch_ops::direct_switch_to(image, c, n, cpu, time, context),
-    }
-}
-
-// Operation 4. The result is 1 if the context was soft-blocked.
-pub fn ronthuyal_unblock_context(image: &mut [u64], cpu: u64, time: u64, context: u64) -> Answer
-    ensures image_after { reply result image.new ≡ unblock_context_call image.old cpu time context }
-    ensures leaves { Leaves max_number image.old image.new result.refusal }
-{
-    let checked = calls::check(image, time);
-    match checked {
-        Checked::Refused(number) => answer::refused(number),
-        Checked::Passed(c, n) => context_ops::unblock_context(image, c, n, cpu, context),
-    }
-}
-
-// Operation 5. The result is 0.
-pub fn ronthuyal_drain_ipi_context_wakeups(image: &mut [u64], cpu: u64, time: u64) -> Answer
-    ensures image_after { reply result image.new ≡ drain_ipi_context_wakeups_call image.old cpu time }
-    ensures leaves { Leaves max_number image.old image.new result.refusal }
-{
-    let checked = calls::check(image, time);
-    match checked {
-        Checked::Refused(number) => answer::refused(number),
-        Checked::Passed(c, n) => context_ops::drain_ipi_context_wakeups(image, c, n, cpu),
-    }
-}
-
-// Operation 6. The result is 1 if the context was runnable.
-pub fn ronthuyal_block(image: &mut [u64], cpu: u64, time: u64, context: u64) -> Answer
-    ensures image_after { reply result image.new ≡ block_call image.old cpu time context }
-    ensures leaves { Leaves max_number image.old image.new result.refusal }
-{
-    let checked = calls::check(image, time);
-    match checked {
-        Checked::Refused(number) => answer::refused(number),
-        Checked::Passed(c, n) => context_ops::block(image, c, n, cpu, context),
-    }
-}
-
-// Operation 7, as Stopped. The result is 1 if the context was runnable.
-pub fn ronthuyal_hard_block(image: &mut [u64], cpu: u64, time: u64, context: u64) -> Answer
-    ensures image_after { reply result image.new ≡ hard_block_call image.old cpu time context }
-    ensures leaves { Leaves max_number image.old image.new result.refusal }
-{
-    let checked = calls::check(image, time);
-    match checked {
-        Checked::Refused(number) => answer::refused(number),
-        Checked::Passed(c, n) => context_ops::hard_block(image, c, n, cpu, context),
-    }
-}
 
 // Any operation, by its number; operations 1, 2 and 5 leave the context aside.
 pub fn ronthuyal_call(
@@ -158,8 +66,8 @@ pub fn ronthuyal_unblock_group(image: &mut [u64], cpu: u64, time: u64, mask: u64
 {
     let checked = calls::check(image, time);
     match checked {
-        Checked::Refused(number) => answer::refused(number),
-        Checked::Passed(c, n) => group_ops::unblock_group(image, c, n, cpu, mask),
+        Err(refusal) => refused(refusal),
+        Ok((c, n)) => group_ops::unblock_group(image, c, n, cpu, mask),
     }
 }
 
@@ -169,8 +77,8 @@ pub fn ronthuyal_total_weight(image: &[u64], cpu: u64) -> Answer
 {
     let checked = calls::check(image, 0);
     match checked {
-        Checked::Refused(number) => answer::refused(number),
-        Checked::Passed(c, n) => total_weight::answer(image, c, n, cpu),
+        Err(refusal) => refused(refusal),
+        Ok((c, n)) => total_weight::answer(image, c, n, cpu),
     }
 }
 
@@ -264,8 +172,8 @@ pub fn ronthuyal_apart(image: &[u64], one: u64, other: u64) -> Answer
 {
     let checked = calls::check(image, 0);
     match checked {
-        Checked::Refused(number) => answer::refused(number),
-        Checked::Passed(c, n) => apart::answer(image, c, n, one, other),
+        Err(refusal) => refused(refusal),
+        Ok((c, n)) => apart::answer(image, c, n, one, other),
     }
 }
 

@@ -1,9 +1,8 @@
 -- A round, from what its calls said. Assumes nothing.
-use Rattle.std.specs.Prelude.{if◌then◌else◌}
+use Rattle.std.specs.Prelude.{if◌then◌else◌, None, Option, Some, is_some}
 use mathlib.Core.Path.{◌≡◌, refl, sym, ap, ◌∙◌, subst}
 use mathlib.Core.Bool.{Bool, true, false}
 use mathlib.Core.List.{List}
-use mathlib.Core.Option.{Option, none, some}
 use Prim.Native.Nat.{ℕ, ◌+◌}
 use lib.Dec.{eqb}
 use lib.ListN.{set}
@@ -12,15 +11,14 @@ use borrow.Author.Tests.{eqb-true}
 use Rattle.columns.proofs.Tests.{clash}
 use Rattle.answer.specs.declared.Answer.{Answer}
 use Rattle.context_ops.specs.Reply.{Reply, reply}
-use Rattle.model.specs.State.{is_some}
 use Rattle.calls.specs.Call.{switch_call, block_call}
 use Rattle.trial.specs.Trial.{Tried}
 use Rattle.rounds.specs.declared.Choice.{Choice}
 use Rattle.rounds.specs.declared.Choice.TheVariants.{GoOn, Yield, Block}
 use Rattle.rounds.specs.Round.{go_on_nanos, yield_nanos, wake_nanos, left_by, and_then, switched, asleep, played, Plays}
 
-by_refusal : (b : Bool) (m m' : List ℕ) → (b ≡ true → m' ≡ m) → Plays (if b then some m else none) m' b
-by_refusal true m m' f = record { told = refl; leaves = λ t. ap some (sym (f refl)) }
+by_refusal : (b : Bool) (m m' : List ℕ) → (b ≡ true → m' ≡ m) → Plays (if b then Some m else None) m' b
+by_refusal true m m' f = record { told = refl; leaves = λ t. ap Some (sym (f refl)) }
 by_refusal false m m' f = record { told = refl; leaves = λ t. clash t refl }
 
 own : (m' : List ℕ) (y : Reply) → (y.answer.refusal ≡ 0 → m' ≡ y.image) → Plays (left_by y) m' (eqb y.answer.refusal 0)
@@ -61,5 +59,5 @@ module _ (cpu x time : ℕ) (m : List ℕ) where
   refused_block n b s t = not_asleep (asleep cpu x time m) s.told
     where
       not_asleep : (o : Option (List ℕ)) → b ≡ is_some o → Plays (and_then o (switched cpu (time + yield_nanos))) n false
-      not_asleep none e = record { told = refl; leaves = λ z. clash z refl }
-      not_asleep (some l) e = clash e t
+      not_asleep None e = record { told = refl; leaves = λ z. clash z refl }
+      not_asleep (Some l) e = clash e t

@@ -1,9 +1,7 @@
 -- A round of writer against rival (document 02, No. 13): the image after it. Assumes nothing.
-use Rattle.std.specs.Prelude.{◌≡◌, Bool, true, false, List, ℕ, ◌+◌, eqb, set, if◌then◌else◌}
-use Rattle.std.proofs.Math.Option.{Option, none, some}
+use Rattle.std.specs.Prelude.{◌≡◌, Bool, true, false, List, ℕ, ◌+◌, eqb, set, if◌then◌else◌, None, Option, Some, is_some}
 use Rattle.machine.specs.Encode.{context_place}
 use Rattle.context_ops.specs.Reply.{Reply}
-use Rattle.model.specs.State.{is_some}
 use Rattle.calls.specs.Call.{switch_call, block_call}
 use Rattle.rounds.specs.declared.Choice.{Choice}
 use Rattle.rounds.specs.declared.Choice.TheVariants.{GoOn, Yield, Block}
@@ -25,11 +23,11 @@ nanos Block = yield_nanos
 
 -- the image that an accepted call leaves; none: the call was refused
 abbrev pub left_by : Reply → Option (List ℕ)
-left_by y = if eqb y.answer.refusal 0 then some y.image else none
+left_by y = if eqb y.answer.refusal 0 then Some y.image else None
 
 abbrev pub and_then : Option (List ℕ) → (List ℕ → Option (List ℕ)) → Option (List ℕ)
-and_then none f = none
-and_then (some m) f = f m
+and_then None f = None
+and_then (Some m) f = f m
 
 -- two words of a record
 abbrev pub has_wake_place : ℕ
@@ -59,4 +57,4 @@ module _ (cpu : ℕ) where
 -- r: whether every call was accepted; if so, m' is the image after the last
 pub record Plays (o : Option (List ℕ)) (m' : List ℕ) (r : Bool) : Type 0 where
   pub told : r ≡ is_some o
-  pub leaves : r ≡ true → o ≡ some m'
+  pub leaves : r ≡ true → o ≡ Some m'

@@ -10,8 +10,8 @@ ghost use Rattle.numbers.specs.Limits.{half_range};
 ghost use Rattle.rounds.specs.Round.{nanos, switched, asleep, played, Plays};
 
 use answer::Answer;
-use calls::Checked;
 use context::places;
+use refusal::refused;
 
 pub const GO_ON_NANOS: u64 = 6_750_000;
 
@@ -51,8 +51,8 @@ fn block(m: &mut [u64], cpu: u64, time: u64, x: u64) -> Answer
 {
     let checked = calls::check(m, time);
     match checked {
-        Checked::Refused(number) => answer::refused(number),
-        Checked::Passed(c, n) => context_ops::block(m, c, n, cpu, x),
+        Err(refusal) => refused(refusal),
+        Ok((c, n)) => context_ops::block(m, c, n, cpu, x),
     }
 }
 

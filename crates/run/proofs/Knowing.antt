@@ -1,12 +1,12 @@
 -- A call on an image that is known to pass, or was checked, is the call; and what is known after it. Assumes nothing.
+use Rattle.std.specs.Prelude.{Option, None, Some, IfSome, Err, Ok, Result}
 use mathlib.Core.Path.{◌≡◌, refl, sym, ap, ◌∙◌, subst}
-use mathlib.Core.Bool.{Bool, true, false}
+use mathlib.Core.Bool.{true}
 use mathlib.Core.List.{List}
 use Prim.Native.Nat.{ℕ, ◌<◌, ◌≤◌}
 use native.Mathlib.Omega.{arith}
 use lib.ListN.{length}
 use borrow.Author.Tests.{le-leb, lt-leb, le-ltb, lt-ltb, eq-eqb}
-use Rattle.model.proofs.Cases.{never}
 use Rattle.machine.specs.Machine.{Machine}
 use Rattle.machine.specs.Encode.{encode, decode, cpu_place}
 use Rattle.machine.specs.Shape.{Image, Fits}
@@ -19,8 +19,6 @@ use Rattle.model_leaves.proofs.Passing.{machine_passes}
 use Rattle.model_leaves.proofs.Raising.{decoded_raised}
 use Rattle.answer.specs.declared.Answer.{Answer}
 use Rattle.context_ops.specs.Reply.{Reply, reply, refuse}
-use Rattle.calls.specs.declared.Checked.{Checked}
-use Rattle.calls.specs.declared.Checked.TheVariants.{Refused, Passed as IsPassed}
 use Rattle.calls.specs.Call.{check, checked_by, call}
 use Rattle.calls.proofs.Called.{check_passed, check_refused, is_passed}
 use Rattle.operations.specs.Operation.{operation_reply}
@@ -33,6 +31,7 @@ use Rattle.growth.proofs.Knowing.{known_eq, known_fits, known_passes, stays_know
 use Rattle.measure.specs.Measured.{Measured}
 use Rattle.measure.proofs.Within.{measured_within}
 use Rattle.run.specs.declared.Call.{Call}
+use Rattle.run.specs.declared.knowledge.Passing.{Passing}
 use Rattle.run.specs.declared.knowledge.Knowledge.{Knowledge}
 use Rattle.run.specs.Knowledge.{Holds, Makes}
 
@@ -49,24 +48,29 @@ refused_call m operation cpu time context r e n =
     ap (checked_by m (λ (M : Machine). operation_reply m M operation cpu time context)) (check_refused m time r e n) ∙ sym (call_is m operation cpu time context)
 
 -- nothing is known
-pub unknown : (s : Knowledge) (m : List ℕ) → s.known ≡ false → Holds s m
-unknown s m e = record { knows = λ t. never {b = s.known} t e }
+pub unknown : (s : Knowledge) (m : List ℕ) → s.known ≡ None → Holds s m
+unknown s m e = record { knows = subst (λ (o : Option Passing). IfSome o (λ (p : Passing). Known p.cpus p.contexts p.bounds m)) (sym e) tt }
 
 -- the code's own words for a call on the image m that left m'; after: the bounds then
-module _ {c n : ℕ} {b : Bounds} {m m' : List ℕ} (q : Call) (a : Answer) (after : Bounds) (known : Bool) (wait : ℕ) (o : Known c n b m) (soon : q.time ≤ max_number) where
-  pub known_makes : ((M : Machine) → m ≡ encode M → Fits c n M → after ≡ call_bounds c M q.operation q.cpu q.time b) → known ≡ is_in_range after
-      → ((M : Machine) → m ≡ encode M → Fits c n M → reply a m' ≡ operation_reply m M q.operation q.cpu q.time q.context)
-      → Makes m m' q (record { answer = a; knowledge = record { known = known; wait = wait; cpus = c; contexts = n; bounds = after } })
-  known_makes h e f =
+module _ {c n : ℕ} {b : Bounds} {m m' : List ℕ} (q : Call) (a : Answer) (o : Known c n b m) (soon : q.time ≤ max_number)
+    (f : (M : Machine) → m ≡ encode M → Fits c n M → reply a m' ≡ operation_reply m M q.operation q.cpu q.time q.context) where
+  made : reply a m' ≡ operation_reply m (decode m) q.operation q.cpu q.time q.context
+  made = f (decode m) (known_eq o) (known_fits o)
+
+  pub known_makes : (after : Bounds) (wait : ℕ) → ((M : Machine) → m ≡ encode M → Fits c n M → after ≡ call_bounds c M q.operation q.cpu q.time b) → is_in_range after ≡ true
+      → Makes m m' q (record { answer = a; knowledge = record { known = Some (record { cpus = c; contexts = n; bounds = after }); wait = wait } })
+  known_makes after wait h t =
       let d : after ≡ call_bounds c (decode m) q.operation q.cpu q.time b = h (decode m) (known_eq o) (known_fits o) in
-      let g : reply a m' ≡ operation_reply m (decode m) q.operation q.cpu q.time q.context = f (decode m) (known_eq o) (known_fits o) in
       record {
-        replies = g ∙ passing_call m q.operation q.cpu q.time q.context (known_passes o q.time soon);
+        replies = made ∙ passing_call m q.operation q.cpu q.time q.context (known_passes o q.time soon);
         holds = record {
-          knows = λ t. subst (λ (y : Bounds). Known c n y m') (sym d)
-              (stays_known o q.operation q.cpu q.time q.context soon a m' g (subst InRange d (in_range after (sym e ∙ t))));
+          knows = subst (λ (y : Bounds). Known c n y m') (sym d) (stays_known o q.operation q.cpu q.time q.context soon a m' made (subst InRange d (in_range after t)));
         };
       }
+
+  -- a number is over what is known to be in range
+  pub over_makes : (s : Knowledge) → s.known ≡ None → Makes m m' q (record { answer = a; knowledge = s })
+  over_makes s e = record { replies = made ∙ passing_call m q.operation q.cpu q.time q.context (known_passes o q.time soon); holds = unknown s m' e }
 
 -- an image that passed the check at the call's time
 module _ (c n : ℕ) (m : List ℕ) (time : ℕ) (z : image_refusal time m ≡ 0) (hc : c ≡ size_c m) (hn : n ≡ size_n m) where
@@ -95,7 +99,7 @@ module _ (c n : ℕ) (m : List ℕ) (time : ℕ) (z : image_refusal time m ≡ 0
         within = rw (hc, hn) (measured_within m b p (rw (hc, hn) at o));
       }
 
-  pub passed_makes : {m' : List ℕ} (q : Call) (a : Answer) (s : Knowledge) → q.time ≡ time → s.known ≡ false
+  pub passed_makes : {m' : List ℕ} (q : Call) (a : Answer) (s : Knowledge) → q.time ≡ time → s.known ≡ None
       → ((M : Machine) → m ≡ encode M → Fits c n M → reply a m' ≡ operation_reply m M q.operation q.cpu q.time q.context) → Makes m m' q (record { answer = a; knowledge = s })
   passed_makes {m'} q a s e k f =
       record {
@@ -104,11 +108,11 @@ module _ (c n : ℕ) (m : List ℕ) (time : ℕ) (z : image_refusal time m ≡ 0
       }
 
 -- what the check gave
-pub refused_makes : (m : List ℕ) (q : Call) (w : Checked) (r : ℕ) (a : Answer) (s : Knowledge) → w ≡ check m q.time → w ≡ Refused r → a ≡ record { refusal = r; result = 0; interrupt = 0; rule = 0 }
-    → s.known ≡ false → Makes m m q (record { answer = a; knowledge = s })
+pub refused_makes : (m : List ℕ) (q : Call) (w : Result (ℕ × ℕ) ℕ) (r : ℕ) (a : Answer) (s : Knowledge) → w ≡ check m q.time → w ≡ Err r → a ≡ record { refusal = r; result = 0; interrupt = 0; rule = 0 }
+    → s.known ≡ None → Makes m m q (record { answer = a; knowledge = s })
 refused_makes m q w r a s e g h k = record { replies = refused_is m q.time w e q.operation q.cpu q.context r g h; holds = unknown s m k }
 
-pub check_says : (m : List ℕ) (time : ℕ) (w : Checked) (c n : ℕ) → w ≡ check m time → w ≡ IsPassed c n → (image_refusal time m ≡ 0) × (c ≡ size_c m) × (n ≡ size_n m)
+pub check_says : (m : List ℕ) (time : ℕ) (w : Result (ℕ × ℕ) ℕ) (c n : ℕ) → w ≡ check m time → w ≡ Ok (c, n) → (image_refusal time m ≡ 0) × (c ≡ size_c m) × (n ≡ size_n m)
 check_says m time w c n e g = let i = is_passed m time c n (sym g ∙ e) in (i.none, i.cpus, i.names)
 
 -- a time out of range, on an image that passes at any other
@@ -127,13 +131,13 @@ late m time o h =
     )
     refl
 
-pub late_makes : (m : List ℕ) (q : Call) (a : Answer) (s : Knowledge) → s.known ≡ true → Holds s m → max_number < q.time → a ≡ record { refusal = 3; result = 0; interrupt = 0; rule = 0 }
-    → Makes m m q (record { answer = a; knowledge = s })
-late_makes m q a s k o h e =
+pub late_makes : {c n : ℕ} {b : Bounds} (m : List ℕ) (q : Call) (a : Answer) → Known c n b m → max_number < q.time → a ≡ record { refusal = 3; result = 0; interrupt = 0; rule = 0 }
+    → Makes m m q (record { answer = a; knowledge = record { known = Some (record { cpus = c; contexts = n; bounds = b }); wait = 0 } })
+late_makes m q a k h e =
     record {
-      replies = ap (λ (y : Answer). reply y m) e ∙ refused_call m q.operation q.cpu q.time q.context 3 (late m q.time (o.knows k).passes h) (λ z. omega arith);
-      holds = o;
+      replies = ap (λ (y : Answer). reply y m) e ∙ refused_call m q.operation q.cpu q.time q.context 3 (late m q.time k.passes h) (λ z. omega arith);
+      holds = record { knows = k };
     }
 
-pub unmeasured_makes : (m m' : List ℕ) (q : Call) (a : Answer) (s : Knowledge) → reply a m' ≡ call m q.operation q.cpu q.time q.context → s.known ≡ false → Makes m m' q (record { answer = a; knowledge = s })
+pub unmeasured_makes : (m m' : List ℕ) (q : Call) (a : Answer) (s : Knowledge) → reply a m' ≡ call m q.operation q.cpu q.time q.context → s.known ≡ None → Makes m m' q (record { answer = a; knowledge = s })
 unmeasured_makes m m' q a s e k = record { replies = e; holds = unknown s m' k }

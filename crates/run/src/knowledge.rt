@@ -1,5 +1,5 @@
 // What a run knows of its image: that it passes the check, and how far its numbers can have grown. As long as that is in range no check is made.
-ghost use Rattle.std.specs.Prelude.{◌≡◌, true, false, ◌≤◌};
+ghost use Rattle.std.specs.Prelude.{◌≡◌, None, ◌≤◌};
 ghost use Rattle.image.specs.Refusal.{size_c, size_n, image_refusal};
 ghost use Rattle.numbers.specs.Limits.{max_number};
 ghost use Rattle.growth.specs.Growth.{Known};
@@ -7,21 +7,25 @@ ghost use Rattle.run.specs.Knowledge.{Holds, Makes};
 
 use crate::Call;
 use answer::Answer;
-use calls::Checked;
 use growth::Bounds;
+use refusal::{Refusal, refused};
 
 // calls that are checked without measuring where a measurement served one call only
 const WAIT: u64 = 16;
 
-// Where `known`, the image passes, has so many CPUs and contexts, and no number that a call can raise is over its bound. Else so many calls wait for the
-// next measurement.
+// The image passes, has so many CPUs and contexts, and no number that a call can raise is over its bound.
 #[derive(Clone, Copy)]
-pub struct Knowledge {
-    pub known: bool,
-    pub wait: u64,
+pub struct Passing {
     pub cpus: usize,
     pub contexts: usize,
     pub bounds: Bounds,
+}
+
+// What is known of the image, if it is. If not, so many calls wait for the next measurement.
+#[derive(Clone, Copy)]
+pub struct Knowledge {
+    pub known: Option<Passing>,
+    pub wait: u64,
 }
 
 #[derive(Clone, Copy)]
@@ -31,38 +35,40 @@ pub struct Made {
 }
 
 pub fn nothing(wait: u64) -> Knowledge
-    ensures { result.known ≡ false }
+    ensures { result.known ≡ None }
 {
-    Knowledge {
-        known: false,
-        wait,
-        cpus: 0,
-        contexts: 0,
-        bounds: Bounds {
-            times: 0,
-            virtual_times: 0,
-        },
-    }
+    Knowledge { known: None, wait }
 }
 
 // The image passes at every time: nothing is checked. wait: of what is known after, if nothing is.
-fn on_known(image: &mut [u64], c: usize, n: usize, b: Bounds, q: Call, wait: u64) -> Made
-    requires known { Known c n b image.old }
+fn on_known(image: &mut [u64], p: Passing, q: Call, wait: u64) -> Made
+    requires known { Known p.cpus p.contexts p.bounds image.old }
     requires time_le_max_number { q.time ≤ max_number }
     ensures { Makes image.old image.new q result }
 {
+    let c = p.cpus;
+    let n = p.contexts;
+    let b = p.bounds;
     let after = growth::call_bounds(image, c, n, q.operation, q.cpu, q.time, b);
     let known = growth::is_in_range(after);
-    let a = operations::on_image(image, c, n, q.operation, q.cpu, q.time, q.context);
-    Made {
-        answer: a,
-        knowledge: Knowledge {
-            known,
-            wait,
+    let answer = operations::on_image(image, c, n, q.operation, q.cpu, q.time, q.context);
+    if known {
+        let passing = Passing {
             cpus: c,
             contexts: n,
             bounds: after,
-        },
+        };
+        return Made {
+            answer,
+            knowledge: Knowledge {
+                known: Some(passing),
+                wait,
+            },
+        };
+    }
+    Made {
+        answer,
+        knowledge: nothing(wait),
     }
 }
 
@@ -73,7 +79,12 @@ fn measured(image: &mut [u64], c: usize, n: usize, q: Call) -> Made
 {
     let b = measure::measure(image, c, n);
     if growth::is_in_range(b) {
-        return on_known(image, c, n, b, q, WAIT);
+        let p = Passing {
+            cpus: c,
+            contexts: n,
+            bounds: b,
+        };
+        return on_known(image, p, q, WAIT);
     }
     let a = operations::on_image(image, c, n, q.operation, q.cpu, q.time, q.context);
     Made {
@@ -87,11 +98,11 @@ fn checked(image: &mut [u64], q: Call) -> Made
 {
     let found = calls::check(image, q.time);
     match found {
-        Checked::Refused(number) => Made {
-            answer: answer::refused(number),
+        Err(refusal) => Made {
+            answer: refused(refusal),
             knowledge: nothing(0),
         },
-        Checked::Passed(c, n) => measured(image, c, n, q),
+        Ok((c, n)) => measured(image, c, n, q),
     }
 }
 
@@ -107,29 +118,33 @@ fn unmeasured(image: &mut [u64], wait: u64, q: Call) -> Made
 }
 
 // Nothing of the check but refusal 3 depends on the time.
-fn unchecked(image: &mut [u64], s: Knowledge, q: Call) -> Made
-    requires { (s.known ≡ true) × Holds s image.old }
+fn unchecked(image: &mut [u64], p: Passing, q: Call) -> Made
+    requires { Known p.cpus p.contexts p.bounds image.old }
     ensures { Makes image.old image.new q result }
 {
     if numbers::MAX_NUMBER < q.time {
         return Made {
-            answer: answer::refused(3),
-            knowledge: s,
+            answer: refused(Refusal::Range),
+            knowledge: Knowledge {
+                known: Some(p),
+                wait: 0,
+            },
         };
     }
-    let b = s.bounds;
-    on_known(image, s.cpus, s.contexts, b, q, 0)
+    on_known(image, p, q, 0)
 }
 
 pub fn make_call(image: &mut [u64], s: Knowledge, q: Call) -> Made
     requires { Holds s image.old }
     ensures { Makes image.old image.new q result }
 {
-    if s.known {
-        return unchecked(image, s, q);
+    match s.known {
+        Some(p) => unchecked(image, p, q),
+        None => {
+            if s.wait != 0 {
+                return unmeasured(image, s.wait - 1, q);
+            }
+            checked(image, q)
+        }
     }
-    if s.wait != 0 {
-        return unmeasured(image, s.wait - 1, q);
-    }
-    checked(image, q)
 }

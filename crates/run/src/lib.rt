@@ -55,14 +55,10 @@ fn make_calls(image: &mut [u64], calls: &[u64], answers: &mut [u64], count: usiz
     ensures { ran image.new answers.new ≡ run_calls image.old (calls_of calls.now) }
 {
     let mut s = knowledge::nothing(0);
-    let mut i = 0;
-    while i < count {
-        let c = call_at(calls, i);
-        let r = knowledge::make_call(image, s, c);
+    for i in 0..count {
+        let r = knowledge::make_call(image, s, call_at(calls, i));
         s = r.knowledge;
-        let a = r.answer;
-        put_answer(answers, i, a);
-        i += 1;
+        put_answer(answers, i, r.answer);
     }
 }
 

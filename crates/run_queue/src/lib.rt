@@ -1,7 +1,7 @@
 // The run queue in a CPU's block: six columns, sorted by key (`RunContextData` of context/mod.rs, a `BTreeMap` there).
 #![tactic(auto)]
 
-ghost use Rattle.std.specs.Prelude.{◌≡◌, ℕ, ◌<◌, ◌≤◌, length, get_or};
+ghost use Rattle.std.specs.Prelude.{◌≡◌, ℕ, ◌<◌, ◌≤◌, length, get_or, is_err};
 ghost use Rattle.entries.specs.Order.{entry_before};
 ghost use Rattle.entries.specs.Queue.{queue_remove};
 ghost use Rattle.entries.specs.Found.{has_key};
@@ -13,31 +13,30 @@ ghost use Rattle.run_queue.specs.Put.{no_room, queue_put};
 ghost use Rattle.percpu.specs.Places.{queue_count, block_size};
 
 use entries::{Entry, Key};
-use percpu::places::{
-    ENTRY_CONTEXT_REF, ENTRY_VTIME, ENTRY_WEIGHT, KEY_CTXT_ID, KEY_REM_SLICE, KEY_VD, QUEUE_COUNT,
-};
+use percpu::places::{ENTRY_CONTEXT_REF, ENTRY_VTIME, ENTRY_WEIGHT, KEY_VD, QUEUE_COUNT};
+use table::{NoRoom, QUEUE_KEYS};
 
 pub fn entry(b: &[u64], i: usize) -> Entry
     requires { (length b.now ≡ block_size) × (i < 64) }
     ensures { result ≡ entry_at b.now i }
 {
     Entry {
-        key: table::key(b, KEY_VD, KEY_REM_SLICE, KEY_CTXT_ID, i),
+        key: QUEUE_KEYS.key(b, i),
         vtime: b[ENTRY_VTIME + i],
         weight: b[ENTRY_WEIGHT + i],
         context_ref: b[ENTRY_CONTEXT_REF + i],
     }
 }
 
-// An entry of the same key is replaced. True if there is no room; then nothing is changed.
-pub fn insert(b: &mut [u64], e: Entry) -> bool
+// An entry of the same key is replaced.
+pub fn insert(b: &mut [u64], e: Entry) -> Result<(), NoRoom>
     requires { (length b.old ≡ block_size) × (get_or b.old queue_count 0 ≤ 64) }
-    ensures { (c : Cpu) → b.old ≡ cpu_words c → length c.queue ≤ 64 → Sorted entry_before c.queue → (result ≡ no_room e c) × (b.new ≡ cpu_words (queue_put e c)) }
+    ensures { (c : Cpu) → b.old ≡ cpu_words c → length c.queue ≤ 64 → Sorted entry_before c.queue → (is_err result ≡ no_room e c) × (b.new ≡ cpu_words (queue_put e c)) }
 {
     let n = b[QUEUE_COUNT] as usize;
     let k = e.key;
-    let p = table::find(b, KEY_VD, KEY_REM_SLICE, KEY_CTXT_ID, n, k);
-    let held = table::holds(b, KEY_VD, KEY_REM_SLICE, KEY_CTXT_ID, n, p, k);
+    let p = QUEUE_KEYS.find(b, n, k);
+    let held = QUEUE_KEYS.holds(b, n, p, k);
     let values = [
         k.vd,
         k.rem_slice,
@@ -55,8 +54,8 @@ pub fn remove(b: &mut [u64], k: Key) -> bool
     ensures { (c : Cpu) → b.old ≡ cpu_words c → length c.queue ≤ 64 → Sorted entry_before c.queue → (result ≡ has_key k c.queue) × (b.new ≡ cpu_words (cpu_queue (queue_remove k c.queue) c)) }
 {
     let n = b[QUEUE_COUNT] as usize;
-    let p = table::find(b, KEY_VD, KEY_REM_SLICE, KEY_CTXT_ID, n, k);
-    if table::holds(b, KEY_VD, KEY_REM_SLICE, KEY_CTXT_ID, n, p, k) {
+    let p = QUEUE_KEYS.find(b, n, k);
+    if QUEUE_KEYS.holds(b, n, p, k) {
         table::remove_row(b, KEY_VD, 6, n, p);
         b[QUEUE_COUNT] = (n - 1) as u64;
         return true;

@@ -58,8 +58,8 @@ pub fn update_runnable(
         return UpdateResult::Skip;
     }
     if is_due(c, schedule_time) {
-        let woken = c.wake_up();
-        let awake = woken.context;
+        let mut awake = c;
+        awake.wake_up();
         return UpdateResult::CanSwitch(awake);
     }
     let status = c.status;

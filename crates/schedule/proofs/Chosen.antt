@@ -1,10 +1,11 @@
 -- The choice and the stealing together. Assumes nothing.
+use Rattle.schedule.proofs.Parts.{no_part}
+use Rattle.std.specs.Prelude.{None, Option, Some, is_some}
 use mathlib.Core.Path.{◌≡◌, refl, sym, ap, ◌∙◌, subst}
 use mathlib.Core.Bool.{Bool, true, false, ◌&&◌}
 use mathlib.Core.List.{List, ◌∷◌}
 use Prim.Native.Nat.{ℕ, ◌<◌}
 use native.Mathlib.Omega.{arith}
-use mathlib.Core.Option.{Option, none, some}
 use lib.Dec.{leb, ltb, eqb}
 use borrow.Author.Tests.{eq-eqb, ne_eqb}
 use mathlib.Core.Logic.{◌≢◌}
@@ -19,7 +20,7 @@ use Rattle.percpu.specs.Cpu.{Cpu}
 use Rattle.machine.specs.Machine.{Machine, context_at, cpu_at}
 use Rattle.machine.specs.Encode.{encode}
 use Rattle.machine.specs.Shape.{Fits, Image}
-use Rattle.model.specs.State.{State, state_of, is_some, holder, prev_runnable}
+use Rattle.model.specs.State.{State, state_of, holder, prev_runnable}
 use Rattle.model.specs.Choice.{Choice, goes_before, prev_is_eligible, choice, chosen}
 use Rattle.model.specs.Scan.{Scan}
 use Rattle.model.specs.Rule.{rule_nobody, rule_by, rule_of}
@@ -28,14 +29,11 @@ use Rattle.model.specs.Schedule.{scanned, locks, choose_and_steal}
 use Rattle.stages.specs.Stage.{put_state, Stage, Ranged}
 use Rattle.stages.proofs.Compose.{state_put}
 use Rattle.stages.proofs.Kept.{ranged_stage}
-use Rattle.picked.specs.declared.Picked.{Picked}
-use Rattle.picked.specs.declared.Picked.TheVariants.{Nobody, Somebody}
-use Rattle.picked.specs.Names.{picked_of}
 use Rattle.select_judge.specs.Values.{WinnerBelow}
 use Rattle.select.proofs.Bounded.{below_chosen}
 use Rattle.steal.specs.Moves.{machine_of, StealsAt, Steals}
 use Rattle.steal.proofs.Bounded.{steal_ranged}
-use Rattle.schedule.specs.Part.{ruled, chosen_by, put_in, PartAt, Part}
+use Rattle.schedule.specs.Part.{Ruled, ruled, chosen_by, put_in, PartAt, Part}
 use Rattle.schedule.specs.Stolen.{stolen_rule}
 use Rattle.schedule.specs.Named.{NamedBelow}
 use lib.Seq.{set-set}
@@ -57,17 +55,17 @@ chosen_machine k time M = put_state k (taken k time (state_of k M)) M
 -- only where nobody waits does the stealing count
 nobody_stolen : (s : State) (o : Option Entry) (b : Bool) → stolen_rule b (rule_nobody s false o) ≡ rule_nobody s b o
 unfolding stolen_rule
-nobody_stolen s none b = by_test (prev_runnable s) (λ t. rw t) (λ t. rw t)
-nobody_stolen s (some e) b =
+nobody_stolen s None b = by_test (prev_runnable s) (λ t. rw t) (λ t. rw t)
+nobody_stolen s (Some e) b =
     by_test (prev_runnable s && leb (holder s).vtime e.vtime) (λ t. rw t)
     (λ t. rw t (by_test (prev_runnable s && leb (holder s).vd e.key.vd) (λ u. rw u) (λ u. rw u)))
 
 stolen_by : (s : State) (f : Scan) (o : Option Entry) (b : Bool) → stolen_rule b (rule_by s false f o) ≡ rule_by s b f o
 unfolding stolen_rule
-stolen_by s f (some e) b =
+stolen_by s f (Some e) b =
     let c = context_at f.contexts e.context_ref in
     by_test (prev_is_eligible s && goes_before (holder s) c) (λ t. rw t (by_test (ltb (holder s).vd c.vd) (λ u. rw u) (λ u. rw u))) (λ t. rw t)
-stolen_by s f none b = by_test (prev_is_eligible s) (λ t. rw t) (λ t. rw t (nobody_stolen s f.ineligible_best b))
+stolen_by s f None b = by_test (prev_is_eligible s) (λ t. rw t) (λ t. rw t (nobody_stolen s f.ineligible_best b))
 
 stolen_is_rule : (s : State) (f : Scan) (b : Bool) → stolen_rule b (rule_of s false f) ≡ rule_of s b f
 unfolding rule_of
@@ -75,7 +73,7 @@ stolen_is_rule s f b = stolen_by s f f.eligible_best b
 
 -- q: the choice as the code has it; runs and locked: what the stealing is given besides the winner; p and p': the rule before and after it
 module _ (time : ℕ) (runs : Bool) (locked : List ℕ) {c n k : ℕ} {m m' m'' : List ℕ} (h : k < c) {q : Choice} (t : Stage c n k m m' false q (λ (s : State). taken k time s) (λ (s : State). choice s (scanned k time s)))
-    {full : Bool} {w' : Picked} (u : Steals c n k m' m'' full w' (λ (M : Machine). steal k runs locked M.cpus q.winner (state_of k M)))
+    {full : Bool} {w' : Option ℕ} (u : Steals c n k m' m'' full w' (λ (M : Machine). steal k runs locked M.cpus q.winner (state_of k M)))
     (hr : (M : Machine) → m ≡ encode M → Fits c n M → runs ≡ prev_runnable (state_of k M))
     (hl : (M : Machine) → m ≡ encode M → Fits c n M → locked ≡ (state_of k M).cpu.block.sched_ctxt ∷ q.locked) where
   module _ (M : Machine) (e : m ≡ encode M) (o : Fits c n M) (cpus : List Cpu) (z : set cpus k (cpu_at M k) ≡ M.cpus) where
@@ -100,8 +98,8 @@ module _ (time : ℕ) (runs : Bool) (locked : List ℕ) {c n k : ℕ} {m m' m'' 
     put_is : machine_of k (over k (taken k time (state_of k M)).cpu (choose_and_steal k time cpus (state_of k M))) ≡ put_in k (choose_and_steal k time cpus (state_of k M)).cpus (choose_and_steal k time cpus (state_of k M)).state
     put_is = λ i. record { contexts = (choose_and_steal k time cpus (state_of k M)).state.contexts; cpus = set-set (choose_and_steal k time cpus (state_of k M)).cpus k (taken k time (state_of k M)).cpu (choose_and_steal k time cpus (state_of k M)).state.cpu i }
 
-    part_at : {p p' : Rule} → ((M : Machine) → m ≡ encode M → Fits c n M → p ≡ rule_of (state_of k M) false (scanned k time (state_of k M))) → p' ≡ stolen_rule (is_some (picked_of w')) p
-        → PartAt c n k m'' full (ruled (picked_of w') p') (chosen_by k time cpus (state_of k M))
+    part_at : {p p' : Rule} → ((M : Machine) → m ≡ encode M → Fits c n M → p ≡ rule_of (state_of k M) false (scanned k time (state_of k M))) → p' ≡ stolen_rule (is_some w') p
+        → PartAt c n k m'' full (ruled w' p') (chosen_by k time cpus (state_of k M))
     part_at hp hs =
         let a = t.stage M e o
         in let b = subst (StealsAt c n k m'' full w') stolen_is (u.steals (chosen_machine k time M) (a.after refl) (a.fits refl))
@@ -112,14 +110,23 @@ module _ (time : ℕ) (runs : Bool) (locked : List ℕ) {c n k : ℕ} {m m' m'' 
           answer = λ y. λ i. ruled (b.winner y i) ((hs ∙ (λ j. stolen_rule (is_some (b.winner y j)) (hp M e o j)) ∙ stolen_is_rule (state_of k M) (scanned k time (state_of k M)) _) i);
         }
 
-  pub chosen_part : {p p' : Rule} → ((M : Machine) → m ≡ encode M → Fits c n M → p ≡ rule_of (state_of k M) false (scanned k time (state_of k M))) → p' ≡ stolen_rule (is_some (picked_of w')) p
-      → Part c n k m m'' full (ruled (picked_of w') p') (λ (cpus : List Cpu) (s : State). chosen_by k time cpus s)
+  pub chosen_part : {p p' : Rule} → ((M : Machine) → m ≡ encode M → Fits c n M → p ≡ rule_of (state_of k M) false (scanned k time (state_of k M))) → p' ≡ stolen_rule (is_some w') p
+      → Part c n k m m'' full (ruled w' p') (λ (cpus : List Cpu) (s : State). chosen_by k time cpus s)
   chosen_part hp hs = record { image = u.image; part = λ M e o cpus z. part_at M e o cpus z hp hs }
+
+  -- without room, whoever is said to have won
+  pub unchosen_part : {q' : Ruled} {m''' : List ℕ} → full ≡ true → Part c n k m m''' true q' (λ (cpus : List Cpu) (s : State). chosen_by k time cpus s)
+  unchosen_part f =
+      no_part
+      (λ M e o cpus z.
+      let a = t.stage M e o
+      in let b = subst (StealsAt c n k m'' full w') (stolen_is M e o cpus z) (u.steals (chosen_machine k time M) (a.after refl) (a.fits refl))
+      in sym b.room ∙ f)
 
   pub stolen_ranged : full ≡ false → Ranged c n t_timed b_charged m → Ranged c n t_timed b_stolen m''
   stolen_ranged z r = steal_ranged runs locked q.winner h z u (chosen_ranged time h t r)
 
-  pub stolen_named : full ≡ false → Image c n m → NamedBelow n q.winner → NamedBelow n (picked_of w')
+  pub stolen_named : full ≡ false → Image c n m → NamedBelow n q.winner → NamedBelow n w'
   stolen_named z i y x e =
       let a = t.stage i.M i.eq i.fits
       in let M : Machine = chosen_machine k time i.M
@@ -140,9 +147,9 @@ module _ {c n : ℕ} {m : List ℕ} (k : ℕ) (b : PercpuBlock) (hb : (M : Machi
       rw (idle_is false (ne_eqb _ _ z)) (hr ∙ ap (λ (y : Context). is_runnable y.status) (hq ∙ ap (context_at M.contexts) (hx ∙ ap (λ (y : PercpuBlock). y.sched_ctxt) (hb M e o))))
 
 -- the winner of the choice is a context's number
-pub winner_named : (n : ℕ) (w : Picked) → WinnerBelow n w → NamedBelow n (picked_of w)
-winner_named n Nobody h x z = let g : ◌≡◌ {A = ℕ} 0 1 = cc in absurd (omega arith)
-winner_named n (Somebody y) h x z = let g : y ≡ x = cc in subst (λ (i : ℕ). i < n) g h
+pub winner_named : (n : ℕ) (w : Option ℕ) → WinnerBelow n w → NamedBelow n w
+winner_named n None h x z = let g : ◌≡◌ {A = ℕ} 0 1 = cc in absurd (omega arith)
+winner_named n (Some y) h x z = let g : y ≡ x = cc in subst (λ (i : ℕ). i < n) g h
 
 -- the holder and what the choice keeps locked, as the stealing is told
 pub locks_are : {c n : ℕ} {m : List ℕ} (k : ℕ) (b : PercpuBlock) → ((M : Machine) → m ≡ encode M → Fits c n M → b ≡ (cpu_at M k).block) → {x : ℕ} → x ≡ b.sched_ctxt → (l : List ℕ)

@@ -1,8 +1,8 @@
 -- The calls that decide, from their parts to the outcome. Assumes nothing.
+use Rattle.std.specs.Prelude.{None, Option, Some, is_some}
 use mathlib.Core.Path.{◌≡◌, refl, sym, ap, ◌∙◌, subst}
 use mathlib.Core.Bool.{Bool, true, false}
 use mathlib.Core.List.{List}
-use mathlib.Core.Option.{Option, none, some}
 use Prim.Native.Nat.{ℕ, ◌<◌, ◌≤◌}
 use native.Mathlib.Omega.{arith}
 use lib.ListN.{length, set}
@@ -11,7 +11,7 @@ use Rattle.machine.specs.Machine.{Machine, cpu_at}
 use Rattle.machine.specs.Encode.{encode}
 use Rattle.machine.specs.Shape.{Fits, Image}
 use Rattle.machine.specs.Outcome.{Outcome}
-use Rattle.model.specs.State.{State, state_of, is_some}
+use Rattle.model.specs.State.{State, state_of}
 use Rattle.model.specs.Schedule.{finish_by, finish}
 use Rattle.stages.specs.Stage.{put_state, Stage}
 use Rattle.stages.proofs.Compose.{state_put}
@@ -81,9 +81,9 @@ unfolding cpu_at
 ends_decides {k = k} t = record { decides = λ M e o. t.ends M e o M.cpus (set-get_or M.cpus k _) }
 
 -- where no direct switch was made, nothing was stored
-pub none_is : (o : Option State) → false ≡ is_some o → none ≡ o
-none_is none e = refl
-none_is (some x) e = never (sym e)
+pub none_is : (o : Option State) → false ≡ is_some o → None ≡ o
+none_is None e = refl
+none_is (Some x) e = never (sym e)
 
 pub same_image : {c n k : ℕ} {m m' : List ℕ} (d : State → Option State) → Stage c n k m m' false false (λ (s : State). or_same s (d s)) (λ (s : State). is_some (d s)) → Image c n m → m' ≡ m
 same_image {k = k} d t i =

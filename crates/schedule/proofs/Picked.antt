@@ -1,8 +1,8 @@
 -- From the choice to who gets the slice. Assumes nothing.
+use Rattle.std.specs.Prelude.{Option, is_some}
 use mathlib.Core.Path.{◌≡◌, refl, sym, ap, ◌∙◌}
 use mathlib.Core.Bool.{Bool, true, false}
 use mathlib.Core.List.{List}
-use mathlib.Core.Option.{Option}
 use Prim.Native.Nat.{ℕ, ◌<◌, ◌≤◌}
 use native.Mathlib.Omega.{arith}
 use lib.ListN.{set}
@@ -12,7 +12,7 @@ use Rattle.percpu.specs.Cpu.{Cpu}
 use Rattle.machine.specs.Machine.{Machine, cpu_at}
 use Rattle.machine.specs.Encode.{encode}
 use Rattle.machine.specs.Shape.{Fits}
-use Rattle.model.specs.State.{State, state_of, is_some, prev_runnable}
+use Rattle.model.specs.State.{State, state_of, prev_runnable}
 use Rattle.model.specs.Turn.{charge_holder}
 use Rattle.model.specs.Choice.{choice}
 use Rattle.model.specs.Schedule.{scanned, choose_and_steal, selected, select_next_context}

@@ -1,10 +1,9 @@
 -- Stealing does not look at the place of the CPU that steals, and names a context. Assumes nothing.
-use Rattle.std.specs.Prelude.{if◌then◌else◌}
+use Rattle.std.specs.Prelude.{if◌then◌else◌, Option, Some}
 use mathlib.Core.Path.{◌≡◌, refl, sym, ap, ◌∙◌, subst}
 use mathlib.Core.Logic.{◌≢◌, ◌⊎◌, inl, inr}
 use mathlib.Core.Bool.{Bool, true, false, not, ◌||◌}
 use mathlib.Core.List.{List, [], ◌∷◌}
-use mathlib.Core.Option.{Option, some}
 use Prim.Native.Nat.{ℕ, zero, suc, ◌<◌, ◌≤◌}
 use native.Mathlib.Omega.{arith}
 use lib.Dec.{ltb}
@@ -66,7 +65,7 @@ module _ (n : ℕ) (runs : Bool) where
   unfolding move_entry
   first_named m e h f = by_test (first_wins runs m.winner) (λ z. rw z (λ x y. subst (λ (i : ℕ). i < n) (some_is y) f.name)) (λ z. rw z h)
     where
-      some_is : {x y : ℕ} → some x ≡ some y → x ≡ y
+      some_is : {x y : ℕ} → Some x ≡ Some y → x ≡ y
       some_is y = cc
 
   moved_named : (es : List Entry) (m : Moving) → NamedBelow n m.winner → All (EntryFits n) es → NamedBelow n (fold (move_entry runs) m es).winner

@@ -1,8 +1,8 @@
 -- `schedule` from its beginning, the selection and the hand-over. Assumes nothing.
+use Rattle.std.specs.Prelude.{None, Option, Some}
 use mathlib.Core.Path.{◌≡◌, refl, sym, ap, ◌∙◌, subst}
 use mathlib.Core.Bool.{Bool, true, false}
 use mathlib.Core.List.{List}
-use mathlib.Core.Option.{Option, none, some}
 use Prim.Native.Nat.{ℕ, ◌<◌, ◌≤◌}
 use native.Mathlib.Omega.{arith}
 use lib.ListN.{set}
@@ -38,24 +38,24 @@ module _ (k time : ℕ) where
   -- what was picked, in three parts
   picked_state : (was : Bool) (rule : Rule) (cpus : List Cpu) (o : Option ℕ) (s : State) → handed time was o s ≡ (picked_as time was rule cpus o s).state
   unfolding handed picked_as
-  picked_state was rule cpus none s = refl
-  picked_state was rule cpus (some x) s = refl
+  picked_state was rule cpus None s = refl
+  picked_state was rule cpus (Some x) s = refl
 
   picked_cpus : (was : Bool) (rule : Rule) (cpus : List Cpu) (o : Option ℕ) (s : State) → cpus ≡ (picked_as time was rule cpus o s).cpus
   unfolding picked_as
-  picked_cpus was rule cpus none s = refl
-  picked_cpus was rule cpus (some x) s = refl
+  picked_cpus was rule cpus None s = refl
+  picked_cpus was rule cpus (Some x) s = refl
 
   picked_who : (was : Bool) (rule : Rule) (cpus : List Cpu) (o : Option ℕ) (s : State) → ruled o rule ≡ ruled (picked_as time was rule cpus o s).picked (picked_as time was rule cpus o s).rule
   unfolding picked_as
-  picked_who was rule cpus none s = refl
-  picked_who was rule cpus (some x) s = refl
+  picked_who was rule cpus None s = refl
+  picked_who was rule cpus (Some x) s = refl
 
   -- without room at the beginning, or when the next context is known, there is none at the end
   picked_full : (was : Bool) (rule : Rule) (cpus : List Cpu) (o : Option ℕ) (s : State) → s.no_room ≡ true → (picked_as time was rule cpus o s).state.no_room ≡ true
   unfolding picked_as hand_over
-  picked_full was rule cpus none s e = e
-  picked_full was rule cpus (some x) s e = e
+  picked_full was rule cpus None s e = e
+  picked_full was rule cpus (Some x) s e = e
 
   next_full : (cpus : List Cpu) (s : State) → (next cpus s).state.no_room ≡ true → (schedule k time cpus s).state.no_room ≡ true
   unfolding schedule
@@ -105,11 +105,11 @@ module _ {c n k : ℕ} {m m' : List ℕ} {turn : Turn} (time : ℕ) (h : k < c)
 
 -- the hand-over, by who was picked
 module _ {c n k : ℕ} {m : List ℕ} (time : ℕ) (was : Bool) where
-  pub handed_nobody : {w : Option ℕ} → w ≡ none → Image c n m → Staged c n k m m false (λ (s : State). handed time was w s)
+  pub handed_nobody : {w : Option ℕ} → w ≡ None → Image c n m → Staged c n k m m false (λ (s : State). handed time was w s)
   unfolding handed
   handed_nobody e i = rw e (unchanged k (λ (s : State). s) i (λ M z o. refl))
 
-  pub handed_to : {m' : List ℕ} (x : ℕ) {w : Option ℕ} → w ≡ some x → Staged c n k m m' false (λ (s : State). hand_over time was x s) → Staged c n k m m' false (λ (s : State). handed time was w s)
+  pub handed_to : {m' : List ℕ} (x : ℕ) {w : Option ℕ} → w ≡ Some x → Staged c n k m m' false (λ (s : State). hand_over time was x s) → Staged c n k m m' false (λ (s : State). handed time was w s)
   unfolding handed
   handed_to x e t = rw e t
 

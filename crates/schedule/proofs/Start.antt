@@ -1,8 +1,8 @@
 -- Counting, wake-ups and times as the beginning of a decision. Assumes nothing.
+use Rattle.std.specs.Prelude.{None, Option, Some}
 use mathlib.Core.Path.{◌≡◌, refl, sym, ap, ◌∙◌, subst}
 use mathlib.Core.Bool.{Bool, true, false}
 use mathlib.Core.List.{List, [], ◌∷◌}
-use mathlib.Core.Option.{Option, none, some}
 use Prim.Native.Nat.{ℕ, ◌+◌, ◌<◌, ◌≤◌}
 use native.Mathlib.Omega.{arith}
 use lib.ListN.{length, get_or, set}
@@ -32,8 +32,8 @@ use Rattle.stages.specs.Bounds.{t_counted, t_timed, b_woken}
 -- wake-ups do not touch what a turn is measured by
 module _ (time : ℕ) where
   back_kept : (w : Option ℕ) (x : ℕ) (s : State) → turn_of time (put_back w x s).cpu ≡ turn_of time s.cpu
-  back_kept none x s = refl
-  back_kept (some t) x s = refl
+  back_kept None x s = refl
+  back_kept (Some t) x s = refl
 
   woken_kept : (s : State) (w : Wakeup) (r : WakeupResult) → turn_of time (wake_as s w r).cpu ≡ turn_of time s.cpu
   unfolding wake_as enter

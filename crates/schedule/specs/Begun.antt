@@ -1,5 +1,7 @@
 -- What a decision needs of the image when it begins. Assumes nothing.
-use Rattle.std.specs.Prelude.{◌≡◌, List, ℕ, ◌≤◌}
+use Rattle.std.specs.Prelude.{◌≡◌, List, ℕ, ◌≤◌, false, Result, Ok, Err}
+use Rattle.table.specs.declared.NoRoom.{NoRoom}
+use Rattle.turn.specs.declared.timing.Turn.{Turn}
 use Rattle.machine.specs.Machine.{Machine, cpu_at}
 use Rattle.machine.specs.Encode.{encode}
 use Rattle.machine.specs.Shape.{Fits}
@@ -17,3 +19,8 @@ pub record CanBegin (c n k time : ℕ) (m : List ℕ) : Type 0 where
   pub below : Below c n t_counted max_number M
   pub counted : StateBelow n t_counted max_number (on_cpu count_switch (state_of k M))
   pub in_time : elapsed time (cpu_at M k) ≤ max_elapsed
+
+-- the turn; where there was no room nothing is said of it
+abbrev pub turn_in : Result Turn NoRoom → Turn
+turn_in (Ok turn) = turn
+turn_in (Err e) = record { spent = record { elapsed = 0; ticks = 0 }; was_idle = false }

@@ -1,12 +1,15 @@
 -- The contract of a part of a decision that may change other CPUs than CPU k, as stealing does. Assumes nothing.
-use Rattle.std.specs.Prelude.{◌≡◌, Bool, false, List, ℕ, set}
-use Rattle.std.proofs.Math.Option.{Option}
+use Rattle.std.specs.Prelude.{◌≡◌, Bool, false, List, ℕ, set, Option, None, is_some, Ok, Err}
+use Rattle.std.specs.Prelude as prelude
+use Rattle.answer.specs.declared.Rule.TheVariants.{Idle}
+use Rattle.table.specs.declared.NoRoom.{NoRoom}
+use Rattle.schedule.specs.declared.selecting.Next.{Next}
 use Rattle.answer.specs.declared.Rule.{Rule}
 use Rattle.percpu.specs.Cpu.{Cpu}
 use Rattle.machine.specs.Machine.{Machine, cpu_at}
 use Rattle.machine.specs.Encode.{encode}
 use Rattle.machine.specs.Shape.{Fits, Image}
-use Rattle.model.specs.State.{State, state_of, is_some}
+use Rattle.model.specs.State.{State, state_of}
 use Rattle.model.specs.Rule.{rule_of}
 use Rattle.model.specs.Schedule.{Selected, Scheduled, scanned, choose_and_steal}
 
@@ -23,6 +26,11 @@ pub record Ruled : Type 0 where
 
 abbrev pub ruled : Option ℕ → Rule → Ruled
 ruled w u = record { who = w; rule = u }
+
+-- where there was no room nothing is said of them
+abbrev pub ruled_of : prelude.Result Next NoRoom → Ruled
+ruled_of (Ok next) = ruled next.context next.rule
+ruled_of (Err e) = ruled None Idle
 
 -- the choice and the stealing, where s is the state before them
 abbrev pub chosen_by : (k time : ℕ) → List Cpu → State → Result Ruled

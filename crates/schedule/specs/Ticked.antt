@@ -1,18 +1,19 @@
--- What a tick came to: whether there was no room, and the numbers of its result and rule. Assumes nothing.
-use Rattle.std.specs.Prelude.{Bool, false}
+-- The numbers of a call's result and rule; where there was no room nothing is said of them. Assumes nothing.
+use Rattle.std.specs.Prelude.{Option, Some, None, Result, Ok, Err}
 use Rattle.answer.specs.Number.{result_number}
+use Rattle.table.specs.declared.NoRoom.{NoRoom}
 use Rattle.schedule.specs.Decides.{Told, told, undecided}
 use Rattle.schedule.specs.declared.switching.Decided.{Decided}
-use Rattle.schedule.specs.declared.calls.Ticked.{Ticked}
-use Rattle.schedule.specs.declared.calls.Ticked.TheVariants.{NotDue, Due}
-
-abbrev pub ticked_full : Ticked → Bool
-ticked_full NotDue = false
-ticked_full (Due d) = d.full
 
 abbrev pub decided_told : Decided → Told
 decided_told d = told (result_number d.result) d.rule
 
-abbrev pub ticked_told : Ticked → Told
-ticked_told NotDue = undecided 0
-ticked_told (Due d) = decided_told d
+abbrev pub told_of : Result Decided NoRoom → Told
+told_of (Ok d) = decided_told d
+told_of (Err e) = undecided 0
+
+-- no switch was due, or the switch
+abbrev pub ticked_told : Result (Option Decided) NoRoom → Told
+ticked_told (Ok None) = undecided 0
+ticked_told (Ok (Some d)) = decided_told d
+ticked_told (Err e) = undecided 0

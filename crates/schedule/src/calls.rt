@@ -1,5 +1,5 @@
 // Operations 1 to 3 on an image that refusals 1 to 8 let pass.
-ghost use Rattle.std.specs.Prelude.{◌≡◌, Bool, false, ℕ, ◌+◌, ◌<◌, ◌≤◌};
+ghost use Rattle.std.specs.Prelude.{◌≡◌, Bool, false, ℕ, ◌+◌, ◌<◌, ◌≤◌, is_err};
 ghost use Rattle.machine.specs.Machine.{Machine, cpu_at};
 ghost use Rattle.machine.specs.Encode.{encode};
 ghost use Rattle.machine.specs.Shape.{Image, Fits};
@@ -9,19 +9,12 @@ ghost use Rattle.model.specs.Schedule.{ticked, tick, switch, direct_switch_to};
 ghost use Rattle.stages.specs.Stage.{Stage, Ranged};
 ghost use Rattle.schedule.specs.Decides.{Decides};
 ghost use Rattle.numbers.specs.Limits.{max_number, max_elapsed};
-ghost use Rattle.schedule.specs.Ticked.{decided_told, ticked_full, ticked_told};
+ghost use Rattle.schedule.specs.Ticked.{told_of, ticked_told};
 
 use crate::switching;
 use crate::switching::Decided;
 use answer::SwitchResult;
-use switch_to::DirectSwitch;
-
-// What a tick came to: no switch was due, or the switch.
-#[derive(Clone, Copy)]
-pub enum Ticked {
-    NotDue,
-    Due(Decided),
-}
+use stages::NoRoom;
 
 // The tick is counted, and the count returned.
 fn count_tick(m: &mut [u64], c: usize, n: usize, k: usize) -> u64
@@ -37,60 +30,67 @@ fn count_tick(m: &mut [u64], c: usize, n: usize, k: usize) -> u64
     count
 }
 
-pub fn tick(m: &mut [u64], c: usize, n: usize, k: usize, time: u64) -> Ticked
+// The switch, where one was due.
+pub fn tick(
+    m: &mut [u64],
+    c: usize,
+    n: usize,
+    k: usize,
+    time: u64,
+) -> Result<Option<Decided>, NoRoom>
     requires image { Image c n m.old }
     requires k_lt_c { (k < c) × (time ≤ max_number) }
     requires ranged { Ranged c n max_number max_number m.old }
     requires k_bound { (M : Machine) → m.old ≡ encode M → Fits c n M → elapsed time (cpu_at M k) ≤ max_elapsed }
-    ensures { Decides c n m.old m.new (ticked_full result) (ticked_told result) (λ (M : Machine). tick k time M) }
+    ensures { Decides c n m.old m.new (is_err result) (ticked_told result) (λ (M : Machine). tick k time M) }
 {
     let count = count_tick(m, c, n, k);
     if count < ticks::TICK_INTERVAL {
-        return Ticked::NotDue;
+        return Ok(None);
     }
-    let decided = switching::switch_inner(m, c, n, k, time);
-    Ticked::Due(decided)
+    let decided = switching::switch_inner(m, c, n, k, time)?;
+    Ok(Some(decided))
 }
 
-pub fn switch(m: &mut [u64], c: usize, n: usize, k: usize, time: u64) -> Decided
+pub fn switch(m: &mut [u64], c: usize, n: usize, k: usize, time: u64) -> Result<Decided, NoRoom>
     requires image { Image c n m.old }
     requires k_lt_c { (k < c) × (time ≤ max_number) }
     requires ranged { Ranged c n max_number max_number m.old }
     requires k_bound { (M : Machine) → m.old ≡ encode M → Fits c n M → elapsed time (cpu_at M k) ≤ max_elapsed }
-    ensures { Decides c n m.old m.new result.full (decided_told result) (λ (M : Machine). switch k time M) }
+    ensures { Decides c n m.old m.new (is_err result) (told_of result) (λ (M : Machine). switch k time M) }
 {
     switching::switch_inner(m, c, n, k, time)
 }
 
-pub fn direct_switch_to(m: &mut [u64], c: usize, n: usize, k: usize, time: u64, x: usize) -> Decided
+pub fn direct_switch_to(
+    m: &mut [u64],
+    c: usize,
+    n: usize,
+    k: usize,
+    time: u64,
+    x: usize,
+) -> Result<Decided, NoRoom>
     requires image { Image c n m.old }
     requires k_lt_c { (k < c) × (x < n) × (time ≤ max_number) }
     requires ranged { Ranged c n max_number max_number m.old }
     requires k_bound { (M : Machine) → m.old ≡ encode M → Fits c n M → elapsed time (cpu_at M k) ≤ max_elapsed }
-    ensures { Decides c n m.old m.new result.full (decided_told result) (λ (M : Machine). direct_switch_to k time x M) }
+    ensures { Decides c n m.old m.new (is_err result) (told_of result) (λ (M : Machine). direct_switch_to k time x M) }
 {
     let b = stages::load_block(m, c, n, k);
     let name = numbers::word(x);
     if b.current_ctxt == name {
-        return Decided {
-            full: false,
+        return Ok(Decided {
             result: SwitchResult::Switched,
             rule: 0,
-        };
+        });
     }
     let own = b.sched_ctxt == name;
-    let made = switch_to::direct_switch_by(m, c, n, k, time, x, own);
-    match made {
-        DirectSwitch::NoRoom => Decided {
-            full: true,
-            result: SwitchResult::AllContextsIdle,
-            rule: 0,
-        },
-        DirectSwitch::Switched => Decided {
-            full: false,
+    let made = switch_to::direct_switch_by(m, c, n, k, time, x, own)?;
+    if made {
+        return Ok(Decided {
             result: SwitchResult::Switched,
             rule: 0,
-        },
-        DirectSwitch::NotSwitched => switching::switch_inner(m, c, n, k, time),
+        });
     }
+    switching::switch_inner(m, c, n, k, time)
 }

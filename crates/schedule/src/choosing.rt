@@ -1,19 +1,20 @@
 // The choice and the stealing.
-ghost use Rattle.std.specs.Prelude.{◌≡◌, false, List, ◌<◌};
+ghost use Rattle.std.specs.Prelude.{◌≡◌, false, List, ◌<◌, is_err, IfOk};
 ghost use Rattle.percpu.specs.Cpu.{Cpu};
 ghost use Rattle.machine.specs.Machine.{Machine};
 ghost use Rattle.machine.specs.Encode.{encode};
 ghost use Rattle.machine.specs.Shape.{Image, Fits};
 ghost use Rattle.model.specs.State.{State, state_of, prev_runnable};
 ghost use Rattle.stages.specs.Stage.{Ranged};
-ghost use Rattle.picked.specs.Names.{picked_of};
 ghost use Rattle.schedule.specs.Stolen.{stolen_rule};
-ghost use Rattle.schedule.specs.Part.{ruled, chosen_by, Part};
+ghost use Rattle.schedule.specs.Part.{ruled_of, chosen_by, Part};
 ghost use Rattle.schedule.specs.Named.{NamedBelow};
 ghost use Rattle.stages.specs.Bounds.{t_timed, b_charged, b_stolen};
 
+use crate::selecting::Next;
 use answer::Rule;
-use picked::Picked;
+use entries::Key;
+use stages::NoRoom;
 use steal_judge::Locked;
 
 // An idle holder never counts as runnable.
@@ -32,15 +33,6 @@ pub fn prev_runnable(m: &[u64], c: usize, n: usize, k: usize) -> bool
     status.is_runnable()
 }
 
-// Who won after the stealing, and by which rule.
-#[derive(Clone, Copy)]
-pub struct Chosen {
-    // an insertion found no room
-    pub full: bool,
-    pub winner: Picked,
-    pub rule: Rule,
-}
-
 // Where nobody waits, the one who won was stolen.
 fn after_stealing(rule: Rule, won: bool) -> Rule
     ensures { result ≡ stolen_rule won rule }
@@ -56,6 +48,7 @@ fn after_stealing(rule: Rule, won: bool) -> Rule
     }
 }
 
+// Who won after the stealing, and by which rule.
 pub fn choose_and_steal(
     m: &mut [u64],
     c: usize,
@@ -63,16 +56,21 @@ pub fn choose_and_steal(
     k: usize,
     time: u64,
     runs: bool,
-) -> Chosen
+) -> Result<Next, NoRoom>
     requires image { Image c n m.old }
     requires k_lt_c { k < c }
     requires ranged { Ranged c n t_timed b_charged m.old }
     requires runs_value { (M : Machine) → m.old ≡ encode M → Fits c n M → runs ≡ prev_runnable (state_of k M) }
-    ensures part { Part c n k m.old m.new result.full (ruled (picked_of result.winner) result.rule) (λ (cpus : List Cpu) (s : State). chosen_by k time cpus s) }
-    ensures named_below { result.full ≡ false → NamedBelow n (picked_of result.winner) × Ranged c n t_timed b_stolen m.new }
+    ensures part { Part c n k m.old m.new (is_err result) (ruled_of result) (λ (cpus : List Cpu) (s : State). chosen_by k time cpus s) }
+    ensures named_below { IfOk result (λ next. NamedBelow n next.context × Ranged c n t_timed b_stolen m.new) }
 {
     let b = stages::load_block(m, c, n, k);
-    let mut keys = [0u64; select::KEY_WORDS];
+    let none = Key {
+        vd: 0,
+        rem_slice: 0,
+        ctxt_id: 0,
+    };
+    let mut keys = [none; select::MAX_KEYS];
     let s = select::select(m, c, n, k, time, &mut keys);
     let best = s.locked;
     let winner = s.winner;
@@ -80,12 +78,7 @@ pub fn choose_and_steal(
         sched_ctxt: numbers::index(b.sched_ctxt),
         best,
     };
-    let moved = steal::steal(m, c, n, k, runs, locked, winner);
-    let left = moved.winner;
-    let rule = s.rule;
-    Chosen {
-        full: moved.full,
-        winner: left,
-        rule: after_stealing(rule, left.is_some()),
-    }
+    let context = steal::steal(m, c, n, k, runs, locked, winner)?;
+    let rule = after_stealing(s.rule, context.is_some());
+    Ok(Next { context, rule })
 }

@@ -8,5 +8,5 @@ mod scheduling;
 mod selecting;
 mod switching;
 
-pub use calls::{Ticked, direct_switch_to, switch, tick};
+pub use calls::{direct_switch_to, switch, tick};
 pub use switching::Decided;

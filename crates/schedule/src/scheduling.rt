@@ -1,13 +1,12 @@
 // `schedule`: a decision.
-ghost use Rattle.std.specs.Prelude.{◌≡◌, false, List, ◌<◌, ◌≤◌};
+ghost use Rattle.std.specs.Prelude.{◌≡◌, false, List, ◌<◌, ◌≤◌, is_err, IfOk};
 ghost use Rattle.percpu.specs.Cpu.{Cpu};
 ghost use Rattle.machine.specs.Shape.{Image};
 ghost use Rattle.model.specs.State.{State};
 ghost use Rattle.model.specs.Schedule.{schedule};
 ghost use Rattle.stages.specs.Stage.{Staged, Ranged};
-ghost use Rattle.picked.specs.Names.{picked_of};
 ghost use Rattle.schedule.specs.Begun.{CanBegin};
-ghost use Rattle.schedule.specs.Part.{ruled, of_scheduled, Part};
+ghost use Rattle.schedule.specs.Part.{ruled_of, of_scheduled, Part};
 ghost use Rattle.schedule.specs.Named.{NamedBelow};
 ghost use Rattle.schedule.specs.Switched.{handed};
 ghost use Rattle.numbers.specs.Limits.{max_number};
@@ -15,48 +14,38 @@ ghost use Rattle.stages.specs.Bounds.{t_timed, t_handed, b_advanced};
 
 use crate::selecting::Next;
 use crate::{beginning, selecting};
-use picked::Picked;
+use stages::NoRoom;
 
-fn hand_over(m: &mut [u64], c: usize, n: usize, k: usize, time: u64, was_idle: bool, next: Picked)
+fn hand_over(
+    m: &mut [u64],
+    c: usize,
+    n: usize,
+    k: usize,
+    time: u64,
+    was_idle: bool,
+    next: Option<usize>,
+)
     requires image { Image c n m.old }
-    requires k_lt_c { (k < c) × (time ≤ max_number) × NamedBelow n (picked_of next) }
+    requires k_lt_c { (k < c) × (time ≤ max_number) × NamedBelow n next }
     requires ranged { Ranged c n t_timed b_advanced m.old }
-    ensures staged { Staged c n k m.old m.new false (λ (s : State). handed time was_idle (picked_of next) s) }
+    ensures staged { Staged c n k m.old m.new false (λ (s : State). handed time was_idle next s) }
     ensures ranged_2 { Ranged c n t_handed b_advanced m.new }
 {
     match next {
-        Picked::Nobody => {
-            return;
-        }
-        Picked::Somebody(x) => {
-            handover::hand_over(m, c, n, k, time, was_idle, x);
-        }
+        None => (),
+        Some(x) => handover::hand_over(m, c, n, k, time, was_idle, x),
     }
 }
 
-pub fn schedule(m: &mut [u64], c: usize, n: usize, k: usize, time: u64) -> Next
+pub fn schedule(m: &mut [u64], c: usize, n: usize, k: usize, time: u64) -> Result<Next, NoRoom>
     requires image { Image c n m.old }
     requires k_lt_c { (k < c) × (time ≤ max_number) }
     requires can_begin { CanBegin c n k time m.old }
-    ensures part { Part c n k m.old m.new result.full (ruled (picked_of result.context) result.rule) (λ (cpus : List Cpu) (s : State). of_scheduled (schedule k time cpus s)) }
-    ensures named_below { result.full ≡ false → NamedBelow n (picked_of result.context) × Ranged c n t_handed b_advanced m.new }
+    ensures part { Part c n k m.old m.new (is_err result) (ruled_of result) (λ (cpus : List Cpu) (s : State). of_scheduled (schedule k time cpus s)) }
+    ensures named_below { IfOk result (λ next. NamedBelow n next.context × Ranged c n t_handed b_advanced m.new) }
 {
-    let begun = beginning::begin(m, c, n, k, time);
-    if begun.full {
-        return selecting::no_room();
-    }
-    let turn = begun.turn;
-    let spent = turn.spent;
-    let next = selecting::select_next_context(m, c, n, k, time, spent);
-    if next.full {
-        return selecting::no_room();
-    }
-    let context = next.context;
-    let rule = next.rule;
-    hand_over(m, c, n, k, time, turn.was_idle, context);
-    Next {
-        full: false,
-        context,
-        rule,
-    }
+    let turn = beginning::begin(m, c, n, k, time)?;
+    let next = selecting::select_next_context(m, c, n, k, time, turn.spent)?;
+    hand_over(m, c, n, k, time, turn.was_idle, next.context);
+    Ok(next)
 }

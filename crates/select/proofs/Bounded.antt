@@ -1,7 +1,7 @@
 -- The scan, the clean-up and the choice keep the bounds of what grows. Assumes nothing.
+use Rattle.std.specs.Prelude.{None, Option, Some}
 use mathlib.Core.Bool.{◌&&◌, ◌||◌}
 use mathlib.Core.List.{List}
-use mathlib.Core.Option.{Option, none, some}
 use Prim.Native.Nat.{ℕ, ◌-◌, ◌<◌, ◌≤◌}
 use native.Mathlib.Omega.{arith}
 use lib.Dec.{leb}
@@ -35,13 +35,13 @@ module _ (n t b : ℕ) where
     here = (o.context s.cpu.block.sched_ctxt l).vtime
 
     below_nobody : (late : Option Entry) → LateBelow n t b late → v_below (nobody s late)
-    below_nobody none z = pick (λ (x : ℕ). x ≤ b) (prev_runnable s) here o.cpu.v
-    below_nobody (some e) z =
+    below_nobody None z = pick (λ (x : ℕ). x ≤ b) (prev_runnable s) here o.cpu.v
+    below_nobody (Some e) z =
         pick v_below (prev_runnable s && (leb (holder s).vtime e.vtime || leb (holder s).vd e.key.vd)) z z
 
     below_by_best : (best : Option Entry) → v_below (choice_by s f best)
-    below_by_best none = pick v_below (prev_is_eligible s) o.cpu.v (below_nobody f.ineligible_best g)
-    below_by_best (some e) = pick v_below (prev_is_eligible s && goes_before (holder s) (context_at f.contexts e.context_ref)) o.cpu.v o.cpu.v
+    below_by_best None = pick v_below (prev_is_eligible s) o.cpu.v (below_nobody f.ineligible_best g)
+    below_by_best (Some e) = pick v_below (prev_is_eligible s && goes_before (holder s) (context_at f.contexts e.context_ref)) o.cpu.v o.cpu.v
 
     below_choice : v_below (choice s f)
     unfolding choice
@@ -102,8 +102,8 @@ module _ (n t b : ℕ) where
       left = s.cpu.block.total_weight - f.weight_change
 
   below_taken : (x : Option ℕ) (s : State) → StateBelow n t b s → StateBelow n t b (taken_out x s)
-  below_taken none s o = o
-  below_taken (some x) s o =
+  below_taken None s o = o
+  below_taken (Some x) s o =
       pick (StateBelow n t b) (at s x).has_queue_key
       (record {
         context = set_kept n t b s.contexts x (without_key (at s x)) (λ l. unkeyed n t b (at s x) (o.context x l)) o.context;

@@ -1,13 +1,12 @@
 -- The clean-up, and the winner's key out of the queue, from what the calls ensure. Assumes nothing.
-use Rattle.std.specs.Prelude.{if◌then◌else◌}
+use Rattle.std.specs.Prelude.{if◌then◌else◌, Option}
 use mathlib.Core.Path.{◌≡◌, refl, sym, ap, ◌∙◌, subst}
 use mathlib.Core.Bool.{Bool, true, false}
 use mathlib.Core.List.{List, [], ◌∷◌}
-use mathlib.Core.Option.{Option}
 use Prim.Native.Nat.{ℕ, ◌+◌, ◌-◌, ◌<◌, ◌≤◌}
-use native.Mathlib.Numerals.{add-one}
-use lib.ListN.{length}
-use lib.Seq.{set-get_or}
+use Rattle.std.proofs.lemmas.List.{take_more}
+use lib.ListN.{length, get_or, take}
+use lib.Seq.{set-get_or, take_all}
 use Rattle.context.specs.declared.Context.{Context}
 use Rattle.entries.specs.declared.Key.{Key}
 use Rattle.entries.specs.Queue.{queue_remove}
@@ -24,9 +23,7 @@ use Rattle.stages.specs.Stage.{put_state, Staged}
 use Rattle.stages.specs.Read.{BlockFits}
 use Rattle.stages.proofs.Reading.{stage_none}
 use Rattle.stages.proofs.Compose.{stage_then, stage_as}
-use Rattle.picked.specs.declared.Picked.{Picked}
 use Rattle.select_judge.specs.Values.{WinnerBelow}
-use Rattle.select.specs.Scanning.{key_at, keys_in}
 use Rattle.select.specs.Cleaning.{lightened, remove_keys, cleaned}
 use Rattle.select_judge.proofs.Judging.{other}
 use Rattle.select.proofs.Walking.{fold_append}
@@ -37,29 +34,24 @@ pub put_contexts : (k : ℕ) (cs : List Context) (M : Machine) → record { cont
 unfolding cpu_at
 put_contexts k cs M = λ j. record { contexts = cs; cpus = sym (set-get_or M.cpus k no_cpu) j }
 
--- the keys, one by one
-pub remove_none : {c n k : ℕ} {m : List ℕ} (d : List ℕ) → Image c n m → Staged c n k m m false (λ (s : State). remove_keys (keys_in d 0) s)
-unfolding remove_keys keys_in
-remove_none d i = stage_none i
+-- the keys ks, one by one
+pub remove_none : {c n k : ℕ} {m : List ℕ} → Image c n m → Staged c n k m m false (λ (s : State). remove_keys [] s)
+unfolding remove_keys
+remove_none i = stage_none i
 
-remove_one : (d : List ℕ) (j : ℕ) (s : State) → remove_key (key_at d j) (remove_keys (keys_in d j) s) ≡ remove_keys (keys_in d (j + 1)) s
-unfolding remove_keys keys_in
-remove_one d j s = sym (rw (add-one j) (fold_append (λ (a : State) (k : Key). remove_key k a) s (keys_in d j) (key_at d j ∷ [])))
+remove_one : (ks : List Key) (j : ℕ) (key : Key) (s : State) → j < length ks → remove_key (get_or ks j key) (remove_keys (take j ks) s) ≡ remove_keys (take (j + 1) ks) s
+unfolding remove_keys
+remove_one ks j key s h =
+    sym (rw (take_more ks j key h) (fold_append (λ (a : State) (k : Key). remove_key k a) s (take j ks) (get_or ks j key ∷ [])))
 
-pub remove_next : {c n k : ℕ} {m₀ m m' : List ℕ} (d : List ℕ) (j : ℕ) {key : Key} → k < c → key ≡ key_at d j → Staged c n k m₀ m false (λ (s : State). remove_keys (keys_in d j) s)
-    → Staged c n k m m' false (λ (s : State). remove_key key s) → Staged c n k m₀ m' false (λ (s : State). remove_keys (keys_in d (j + 1)) s)
-remove_next {k = k} d j h e t u =
-    stage_as (stage_then h t u)
-    (λ M q o. (ap (λ (y : Key). remove_key y (remove_keys (keys_in d j) (state_of k M))) e ∙ remove_one d j (state_of k M), λ f g. refl))
+pub remove_next : {c n k : ℕ} {m₀ m m' : List ℕ} (ks : List Key) (j : ℕ) (key : Key) → k < c → j < length ks
+    → Staged c n k m₀ m false (λ (s : State). remove_keys (take j ks) s) → Staged c n k m m' false (λ (s : State). remove_key (get_or ks j key) s)
+    → Staged c n k m₀ m' false (λ (s : State). remove_keys (take (j + 1) ks) s)
+remove_next {k = k} ks j key h b t u = stage_as (stage_then h t u) (λ M q o. (remove_one ks j key (state_of k M) b, λ f g. refl))
 
-pub remove_all : {c n k : ℕ} {m₀ m : List ℕ} (d : List ℕ) {j number : ℕ} → j ≡ number → Staged c n k m₀ m false (λ (s : State). remove_keys (keys_in d j) s)
-    → Staged c n k m₀ m false (λ (s : State). remove_keys (keys_in d number) s)
-remove_all {c} {n} {k} {m₀} {m} d e t = subst (λ (y : ℕ). Staged c n k m₀ m false (λ (s : State). remove_keys (keys_in d y) s)) e t
-
-pub record Removing (c n k number : ℕ) (m₀ m d : List ℕ) (j : ℕ) : Type 0 where
-  pub here : j ≤ number
-  pub same : length m ≡ length m₀
-  pub stage : Staged c n k m₀ m false (λ (s : State). remove_keys (keys_in d j) s)
+pub remove_all : {c n k : ℕ} {m₀ m : List ℕ} (ks : List Key) {j : ℕ} → length ks ≤ j → Staged c n k m₀ m false (λ (s : State). remove_keys (take j ks) s)
+    → Staged c n k m₀ m false (λ (s : State). remove_keys ks s)
+remove_all {c} {n} {k} {m₀} {m} ks {j} h t = subst (λ (l : List Key). Staged c n k m₀ m false (λ (s : State). remove_keys l s)) (take_all j ks h) t
 
 -- the block and then the keys: b is what was stored
 module _ {c n : ℕ} {m : List ℕ} (k change len v : ℕ) {old b : PercpuBlock} (h : k < c) (i : Image c n m) (ho : (M : Machine) → m ≡ encode M → Fits c n M → old ≡ (cpu_at M k).block)
@@ -128,5 +120,5 @@ module _ {c n : ℕ} {m : List ℕ} (k x : ℕ) {q : Context} (h : k < c) (i : I
 pub taken_as : {c n k : ℕ} {m m' : List ℕ} {w w' : Option ℕ} → w ≡ w' → Staged c n k m m' false (λ (s : State). taken_out w' s) → Staged c n k m m' false (λ (s : State). taken_out w s)
 taken_as {c} {n} {k} {m} {m'} e t = subst (λ (y : Option ℕ). Staged c n k m m' false (λ (s : State). taken_out y s)) (sym e) t
 
-pub winner_at : (n : ℕ) {w w' : Picked} → w ≡ w' → WinnerBelow n w → WinnerBelow n w'
+pub winner_at : (n : ℕ) {w w' : Option ℕ} → w ≡ w' → WinnerBelow n w → WinnerBelow n w'
 winner_at n e h = subst (WinnerBelow n) e h

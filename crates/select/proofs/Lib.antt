@@ -1,4 +1,3 @@
-pub mod Keys
 pub mod Visiting
 pub mod Visited
 pub mod Walking

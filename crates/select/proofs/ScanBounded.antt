@@ -1,8 +1,7 @@
 -- The scan keeps the bounds of what grows. Assumes nothing.
-use Rattle.std.specs.Prelude.{if◌then◌else◌}
+use Rattle.std.specs.Prelude.{if◌then◌else◌, None, Option, Some, is_some}
 use mathlib.Core.Bool.{Bool, true, false, not, ◌&&◌, ◌||◌}
 use mathlib.Core.List.{List}
-use mathlib.Core.Option.{Option, none, some}
 use Prim.Native.Nat.{ℕ, ◌<◌, ◌≤◌}
 use native.Mathlib.Omega.{arith}
 use lib.Dec.{ltb, eqb}
@@ -21,9 +20,7 @@ use Rattle.runnable.specs.Runnable.{update_runnable, wake_has_come}
 use Rattle.percpu.specs.Cpu.{Cpu}
 use Rattle.machine.specs.Machine.{context_at, no_context}
 use Rattle.machine.proofs.Steps.{get_d_set}
-use Rattle.model.specs.State.{is_some}
 use Rattle.model.specs.Scan.{Scan, Visit, pass, gone, blocked, no_addr_space, ready, above, below, is_of, ineligible_min_vtime, is_eligible, by_update, judge, visit, visited, scan_step, scan_start, scan}
-use Rattle.model.specs.Choice.{choice}
 use Rattle.model.proofs.Lists.{all_at, fold_keeps_in}
 use Rattle.stages.specs.Stage.{ContextBelow}
 use Rattle.context.specs.Key.{without_key}
@@ -121,8 +118,8 @@ module _ (n t b : ℕ) where
       (below_judge k time p (context_at s.contexts e.context_ref) e o))
 
   abbrev pub LateBelow : Option Entry → Type 0
-  LateBelow none = Unit {0}
-  LateBelow (some e) = e.vtime ≤ b
+  LateBelow None = Unit {0}
+  LateBelow (Some e) = e.vtime ≤ b
 
   -- what the scan keeps
   abbrev pub ScanBelow : Scan → Type 0

@@ -1,8 +1,9 @@
 -- The scan, the clean-up and the choice as one stage. Assumes nothing.
+use Rattle.std.specs.Prelude.{Option}
+use Rattle.entries.specs.declared.Key.{Key}
 use mathlib.Core.Path.{◌≡◌, refl, sym, ap, ◌∙◌, subst}
 use mathlib.Core.Bool.{false}
 use mathlib.Core.List.{List}
-use mathlib.Core.Option.{Option}
 use Prim.Native.Nat.{ℕ, ◌<◌}
 use Rattle.context.specs.declared.Context.{Context}
 use Rattle.entries.specs.declared.Entry.{Entry}
@@ -19,11 +20,10 @@ use Rattle.model.specs.Rule.{rule_of}
 use Rattle.model.specs.Schedule.{scanned}
 use Rattle.stages.specs.Stage.{put_state, Stage, Staged}
 use Rattle.stages.proofs.Compose.{staged, stage_then, stage_as}
-use Rattle.select_judge.specs.declared.MinVtime.{MinVtime}
 use Rattle.select_judge.specs.declared.Holder.{Holder}
 use Rattle.select_judge.specs.declared.Scanner.{Scanner}
 use Rattle.select_judge.specs.declared.Scanned.{Scanned}
-use Rattle.select_judge.specs.Values.{vtime_of, cpu_with}
+use Rattle.select_judge.specs.Values.{cpu_with}
 use Rattle.select_judge.specs.Holding.{Holding, Scanning, Chosen}
 use Rattle.select.specs.Scanning.{scan_by, keys_in, found, Scans}
 use Rattle.select.specs.Cleaning.{cleaned, chosen_after}
@@ -36,7 +36,7 @@ holder_at k M hb hx hq = hq ∙ ap (context_at M.contexts) (hx ∙ ap (λ (b : P
 pub sched_below : {c n : ℕ} {m : List ℕ} (i : Image c n m) (k : ℕ) {b : PercpuBlock} → k < c → ((M : Machine) → m ≡ encode M → Fits c n M → b ≡ (cpu_at M k).block) → b.sched_ctxt < n
 sched_below {n = n} i k h f = subst (λ (b : PercpuBlock). b.sched_ctxt < n) (sym (f i.M i.eq i.fits)) (i.fits.cpu k h).sched
 
-pub scanning : (k time : ℕ) (b : PercpuBlock) (late : MinVtime) {x : ℕ} → x ≡ k → (s : State) → b ≡ s.cpu.block → vtime_of late ≡ ineligible_holder s
+pub scanning : (k time : ℕ) (b : PercpuBlock) (late : Option ℕ) {x : ℕ} → x ≡ k → (s : State) → b ≡ s.cpu.block → late ≡ ineligible_holder s
     → Scanning k time (record { cpu_id = x; time = time; idle_ctxt = b.idle_ctxt; sched_ctxt = b.sched_ctxt; current_ctxt = b.current_ctxt; v = b.v; ineligible_holder = late }) s
 scanning k time b late e s hb hl =
     record {
@@ -64,7 +64,7 @@ scan_is k time t s o =
 abbrev with_scan : Scan → State → State
 with_scan f s = record { contexts = f.contexts; cpu = s.cpu; no_room = s.no_room }
 
-scan_stage : {c n k : ℕ} {m m' d : List ℕ} {w : Scanned} (t : Scanner) → Image c n m → Scans c n m m' d w (λ (M : Machine). scan_by t M.contexts (cpu_at M k).queue)
+scan_stage : {c n k : ℕ} {m m' : List ℕ} {d : List Key} {w : Scanned} (t : Scanner) → Image c n m → Scans c n m m' d w (λ (M : Machine). scan_by t M.contexts (cpu_at M k).queue)
     → Staged c n k m m' false (λ (s : State). with_scan (scan_by t s.contexts s.cpu.queue) s)
 scan_stage {k = k} t i a =
     staged i
@@ -74,7 +74,7 @@ scan_stage {k = k} t i a =
     in record { room = refl; after = λ y. z.after ∙ ap encode p; fits = λ y. subst (Fits _ _) p z.fits; answer = λ y. refl })
 
 -- the choice and its effect, after the scan
-pub apply_then : {c n k : ℕ} {m m' m'' : List ℕ} (s : State) (w : Scanned) (d : List ℕ) {r : Choice} {h : Holder} → k < c
+pub apply_then : {c n k : ℕ} {m m' m'' : List ℕ} (s : State) (w : Scanned) (d : List Key) {r : Choice} {h : Holder} → k < c
     → ((M : Machine) → m ≡ encode M → Fits c n M → (s : State) (f : Scan) → Holding h s → Chosen M.contexts w f → r ≡ choice s f) → Holding h s
     → Staged c n k m m' false (λ (a : State). cleaned w.weight_change (keys_in d w.contexts_to_remove) r.v a) → Staged c n k m' m'' false (λ (a : State). taken_out r.winner a)
     → Stage c n k m m'' false r (λ (a : State). chosen_after s (found a.contexts w d) a) (λ (a : State). choice s (found a.contexts w d))
@@ -85,7 +85,7 @@ apply_then {k = k} s w d {r} h g o t u =
     let z : r ≡ choice s (found M.contexts w d) = g M e b s (found M.contexts w d) o (record { contexts = refl; best = refl; late = refl })
     in ((λ j. taken_out (z j).winner (cleaned w.weight_change (keys_in d w.contexts_to_remove) (z j).v (state_of k M))), λ f y. z))
 
-pub apply_rule : {c n : ℕ} {m : List ℕ} (w : Scanned) (d : List ℕ) {u : Rule} {h : Holder}
+pub apply_rule : {c n : ℕ} {m : List ℕ} (w : Scanned) (d : List Key) {u : Rule} {h : Holder}
     → ((M : Machine) → m ≡ encode M → Fits c n M → (s : State) (f : Scan) → Holding h s → Chosen M.contexts w f → u ≡ rule_of s false f)
     → (s : State) → Holding h s → (M : Machine) → m ≡ encode M → Fits c n M → u ≡ rule_of s false (found M.contexts w d)
 unfolding found
@@ -96,7 +96,7 @@ unfolding chosen_after chosen
 chosen_after_is s f = ap (taken_out (choice s f).winner) (cleaned_is f (choice s f).v s)
 
 -- the whole stage
-pub select_then : {c n : ℕ} {m m' m'' : List ℕ} (k time : ℕ) (d : List ℕ) (w : Scanned) (t : Scanner) {h : Holder} {r : Choice} (i : Image c n m) → k < c
+pub select_then : {c n : ℕ} {m m' m'' : List ℕ} (k time : ℕ) (d : List Key) (w : Scanned) (t : Scanner) {h : Holder} {r : Choice} (i : Image c n m) → k < c
     → ((M : Machine) → m ≡ encode M → Fits c n M → Holding h (state_of k M)) → ((M : Machine) → m ≡ encode M → Fits c n M → Scanning k time t (state_of k M))
     → Scans c n m m' d w (λ (M : Machine). scan_by t M.contexts (cpu_at M k).queue)
     → ((s : State) → Holding h s → Stage c n k m' m'' false r (λ (a : State). chosen_after s (found a.contexts w d) a) (λ (a : State). choice s (found a.contexts w d)))
@@ -117,7 +117,7 @@ select_then {c} {n} k time d w t i b ho hs a u =
       answer = λ y. z.answer y ∙ ap (choice s) q;
     })
 
-pub select_rule : {c n : ℕ} {m m' : List ℕ} (k time : ℕ) (d : List ℕ) (w : Scanned) (t : Scanner) {h : Holder} {u : Rule}
+pub select_rule : {c n : ℕ} {m m' : List ℕ} (k time : ℕ) (d : List Key) (w : Scanned) (t : Scanner) {h : Holder} {u : Rule}
     → ((M : Machine) → m ≡ encode M → Fits c n M → Holding h (state_of k M)) → ((M : Machine) → m ≡ encode M → Fits c n M → Scanning k time t (state_of k M))
     → Scans c n m m' d w (λ (M : Machine). scan_by t M.contexts (cpu_at M k).queue)
     → ((s : State) → Holding h s → (M : Machine) → m' ≡ encode M → Fits c n M → u ≡ rule_of s false (found M.contexts w d))

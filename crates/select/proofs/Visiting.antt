@@ -1,15 +1,12 @@
 -- An entry as the scan meets it, from what the code's tests said. Assumes nothing.
-use Rattle.std.specs.Prelude.{if◌then◌else◌}
+use Rattle.std.specs.Prelude.{if◌then◌else◌, Option}
 use mathlib.Core.Path.{◌≡◌, sym, ap, ◌∙◌, subst}
 use mathlib.Core.Bool.{Bool, true, false, not, ◌&&◌, ◌||◌}
 use mathlib.Core.List.{List}
-use mathlib.Core.Option.{Option}
 use Prim.Native.Nat.{ℕ, ◌<◌}
 use native.Mathlib.Omega.{arith}
 use lib.Dec.{eqb}
-use lib.ListN.{length}
-use borrow.Author.Tests.{lt-leb}
-use Rattle.columns.proofs.Tests.{by_test, and_no}
+use Rattle.columns.proofs.Tests.{and_no}
 use Rattle.context.specs.declared.Context.{Context}
 use Rattle.context.specs.Status.{is_runnable}
 use Rattle.cpu_set.specs.Set.{contains}
@@ -22,9 +19,8 @@ use Rattle.machine.specs.Machine.{Machine, context_at}
 use Rattle.machine.specs.Encode.{encode}
 use Rattle.machine.specs.Shape.{ContextFits, Fits, Image}
 use Rattle.model.specs.Scan.{Scan, Visit, pass, gone, above, is_of, ineligible_min_vtime, is_eligible, by_update, judge, visit}
-use Rattle.select_judge.specs.declared.Best.{Best}
 use Rattle.select_judge.specs.declared.Scanner.{Scanner}
-use Rattle.select_judge.specs.Values.{vtime_of, scanner_cpu}
+use Rattle.select_judge.specs.Values.{scanner_cpu}
 use Rattle.select.specs.Scanning.{visit_by, seen, VisitFits}
 use Rattle.select_judge.proofs.Judging.{other}
 
@@ -100,8 +96,8 @@ module _ (c : ℕ) where
       both_fit (VisitFits c) (late k time p h s e) tt
       (both_fit (VisitFits c) (held k time p h s e) tt (fits_judge k time p (context_at s.contexts e.context_ref) e o))
 
-pub verdict_fits : {c n : ℕ} {m : List ℕ} (i : Image c n m) (t : Scanner) (late : Best) (e : Entry) → e.context_ref < n → {v : Visit}
+pub verdict_fits : {c n : ℕ} {m : List ℕ} (i : Image c n m) (t : Scanner) (late : (Option Entry)) (e : Entry) → e.context_ref < n → {v : Visit}
     → ((M : Machine) → m ≡ encode M → Fits c n M → v ≡ visit_by t (seen M.contexts late) e) → VisitFits c v
 verdict_fits {c} i t late e h f =
     subst (VisitFits c) (sym (f i.M i.eq i.fits))
-    (fits_visit c t.cpu_id t.time (scanner_cpu t) (vtime_of t.ineligible_holder) (seen i.M.contexts late) e (i.fits.context e.context_ref h))
+    (fits_visit c t.cpu_id t.time (scanner_cpu t) t.ineligible_holder (seen i.M.contexts late) e (i.fits.context e.context_ref h))

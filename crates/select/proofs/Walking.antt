@@ -1,4 +1,6 @@
 -- The loop over the queue. Assumes nothing.
+use Rattle.std.specs.Prelude.{None, Option, Some, is_some}
+use Rattle.entries.specs.declared.Key.{Key}
 use mathlib.Core.Path.{◌≡◌, refl, sym, ap, ◌∙◌, subst}
 use mathlib.Core.Bool.{true, false}
 use mathlib.Core.List.{List, [], ◌∷◌, ◌++◌}
@@ -17,15 +19,12 @@ use Rattle.machine.specs.Machine.{Machine, cpu_at, with_contexts}
 use Rattle.machine.specs.Encode.{encode, cpu_place}
 use Rattle.machine.specs.Shape.{Fits, Image}
 use Rattle.machine.proofs.LookUps.{block_word}
-use Rattle.model.specs.State.{is_some}
 use Rattle.model.proofs.EarlyExit.{fold_still}
 use Rattle.model.specs.Scan.{Scan, Visit, visit, scan_step, scan_start, scan}
-use Rattle.select_judge.specs.declared.Best.{Best}
-use Rattle.select_judge.specs.declared.Best.TheVariants.{Nobody, Found}
 use Rattle.select_judge.specs.declared.Scanner.{Scanner}
 use Rattle.select_judge.specs.declared.Scanned.{Scanned}
-use Rattle.select_judge.specs.Values.{vtime_of, best_of, BestBelow, scanner_cpu}
-use Rattle.select.specs.Scanning.{visit_by, visited_by, step_by, scan_by, seen, keys_in, found, Scans, Room, Grown, key_words}
+use Rattle.select_judge.specs.Values.{BestBelow, scanner_cpu}
+use Rattle.select.specs.Scanning.{visit_by, visited_by, step_by, scan_by, seen, found, Scans, Room, Grown, max_keys}
 use Rattle.select.proofs.Visited.{scans, at_as, scans_as}
 use Rattle.weights.specs.Weights.{max_weight}
 use Rattle.percpu.specs.Places.{queue_count}
@@ -43,11 +42,11 @@ module _ {A B : Type 0} where
   fold_early f b l i h =
       sym (ap (λ (y : List A). fold f b y) (sym (take-append-drop i l)) ∙ fold_append f b (take i l) (drop i l) ∙ fold_still f (fold f b (take i l)) (drop i l) h)
 
-nobody_none : {b : Best} → b ≡ Nobody → is_some (best_of b) ≡ false
-nobody_none e = ap (λ (y : Best). is_some (best_of y)) e
+nobody_none : {b : (Option Entry)} → b ≡ None → is_some b ≡ false
+nobody_none e = ap (λ (y : (Option Entry)). is_some y) e
 
 -- what was made of a visit is a step, before the best is found
-pub step_is : (t : Scanner) (cs : List Context) (w : Scanned) (d : List ℕ) (e : Entry) {v : Visit} → w.eligible_best ≡ Nobody → v ≡ visit_by t (seen cs w.ineligible_best) e
+pub step_is : (t : Scanner) (cs : List Context) (w : Scanned) (d : List Key) (e : Entry) {v : Visit} → w.eligible_best ≡ None → v ≡ visit_by t (seen cs w.ineligible_best) e
     → visited_by t (found cs w d) e v ≡ step_by t (found cs w d) e
 unfolding scan_step visit found
 step_is t cs w d e b h = rw (nobody_none b, h)
@@ -58,14 +57,14 @@ best_stays t s h e = rw h
 
 -- the first i entries of CPU k's queue
 abbrev start : Scanner → Machine → Scan
-start t M = scan_start t.cpu_id t.time (scanner_cpu t) (vtime_of t.ineligible_holder) M.contexts
+start t M = scan_start t.cpu_id t.time (scanner_cpu t) t.ineligible_holder M.contexts
 
 unfoldable pub scanned_to : Scanner → ℕ → ℕ → Machine → Scan
 scanned_to t k i M = fold (step_by t) (start t M) (take i (cpu_at M k).queue)
 
-pub scanned_none : {c n : ℕ} {m d : List ℕ} (t : Scanner) (k : ℕ) → Image c n m
-    → Scans c n m m d (record { eligible_best = Nobody; ineligible_best = Nobody; weight_change = 0; contexts_to_remove = 0 }) (scanned_to t k 0)
-unfolding scanned_to found keys_in
+pub scanned_none : {c n : ℕ} {m : List ℕ} {d : List Key} (t : Scanner) (k : ℕ) → Image c n m
+    → Scans c n m m d (record { eligible_best = None; ineligible_best = None; weight_change = 0; contexts_to_remove = 0 }) (scanned_to t k 0)
+unfolding scanned_to found
 scanned_none t k i = scans i (λ M e o. record { after = e; fits = o; same = refl })
 
 -- the length of the queue stands in the image
@@ -74,12 +73,12 @@ unfolding cpu_words block_words stats_words counts
 count_is m k h M e o = block_word m k M e o 21 h (omega arith)
 
 -- and is that of before
-count_kept : {c n : ℕ} {m m' d : List ℕ} {w : Scanned} {s : Machine → Scan} (k : ℕ) → k < c → (i : Image c n m) → Scans c n m m' d w s → get_or m' (cpu_place n k + queue_count) 0 ≡ length (cpu_at i.M k).queue
+count_kept : {c n : ℕ} {m m' : List ℕ} {d : List Key} {w : Scanned} {s : Machine → Scan} (k : ℕ) → k < c → (i : Image c n m) → Scans c n m m' d w s → get_or m' (cpu_place n k + queue_count) 0 ≡ length (cpu_at i.M k).queue
 unfolding cpu_at
 count_kept {m' = m'} {s = s} k h i a = let z = a.scans i.M i.eq i.fits in count_is m' k h (with_contexts (s i.M).contexts i.M) z.after z.fits
 
 -- a turn of the loop
-module _ {c n : ℕ} {m₀ m m' d d' : List ℕ} {w w' : Scanned} (t : Scanner) (k i : ℕ) {e : Entry} where
+module _ {c n : ℕ} {m₀ m m' : List ℕ} {d d' : List Key} {w w' : Scanned} (t : Scanner) (k i : ℕ) {e : Entry} where
   pub scanned_next : ((M : Machine) → m₀ ≡ encode M → Fits c n M → i < length (cpu_at M k).queue) → Scans c n m₀ m d w (scanned_to t k i)
       → ((M : Machine) → m ≡ encode M → Fits c n M → e ≡ get_or (cpu_at M k).queue i no_entry) → Scans c n m m' d' w' (λ (M : Machine). step_by t (found M.contexts w d) e)
       → Scans c n m₀ m' d' w' (scanned_to t k (i + 1))
@@ -99,13 +98,13 @@ module _ {c n : ℕ} {m₀ m m' d d' : List ℕ} {w w' : Scanned} (t : Scanner) 
       }
 
 -- the end of the queue
-pub scanned_all : {c n : ℕ} {m₀ m d : List ℕ} {w : Scanned} (t : Scanner) (k i : ℕ) → ((M : Machine) → m₀ ≡ encode M → Fits c n M → length (cpu_at M k).queue ≤ i) → Scans c n m₀ m d w (scanned_to t k i)
+pub scanned_all : {c n : ℕ} {m₀ m : List ℕ} {d : List Key} {w : Scanned} (t : Scanner) (k i : ℕ) → ((M : Machine) → m₀ ≡ encode M → Fits c n M → length (cpu_at M k).queue ≤ i) → Scans c n m₀ m d w (scanned_to t k i)
     → Scans c n m₀ m d w (λ (M : Machine). scan_by t M.contexts (cpu_at M k).queue)
 unfolding scanned_to scan
 scanned_all t k i b a = scans_as a (λ M q o. ap (λ (l : List Entry). fold (step_by t) (start t M) l) (take_all i (cpu_at M k).queue (b M q o)))
 
 -- the early end
-pub scanned_best : {c n : ℕ} {m₀ m d : List ℕ} {w : Scanned} (t : Scanner) (k i : ℕ) → is_some (best_of w.eligible_best) ≡ true → Scans c n m₀ m d w (scanned_to t k i)
+pub scanned_best : {c n : ℕ} {m₀ m : List ℕ} {d : List Key} {w : Scanned} (t : Scanner) (k i : ℕ) → is_some w.eligible_best ≡ true → Scans c n m₀ m d w (scanned_to t k i)
     → Scans c n m₀ m d w (λ (M : Machine). scan_by t M.contexts (cpu_at M k).queue)
 unfolding scanned_to scan found
 scanned_best {w = w} t k i h a =
@@ -113,37 +112,35 @@ scanned_best {w = w} t k i h a =
     let z : is_some (scanned_to t k i M).eligible_best ≡ true = subst (λ (y : Scan). is_some y.eligible_best ≡ true) (a.scans M q o).same h
     in fold_early (step_by t) (start t M) (cpu_at M k).queue i (best_stays t (scanned_to t k i M) z))
 
-found_nobody : (b : Best) → is_some (best_of b) ≡ false → b ≡ Nobody
-found_nobody Nobody h = refl
-found_nobody (Found e) h = let z : ◌≡◌ {A = ℕ} 0 1 = cc in absurd (omega arith)
+found_nobody : (b : (Option Entry)) → is_some b ≡ false → b ≡ None
+found_nobody None h = refl
+found_nobody (Some e) h = let z : ◌≡◌ {A = ℕ} 0 1 = cc in absurd (omega arith)
 
 -- the invariant of the loop: m₀ and m are the image where it begins and now
-pub record Loop (c n k len : ℕ) (m₀ m d : List ℕ) (t : Scanner) (w : Scanned) (i : ℕ) : Type 0 where
-  pub here : i ≤ len
+pub record Loop (c n k len : ℕ) (m₀ m : List ℕ) (d : List Key) (t : Scanner) (w : Scanned) (i : ℕ) : Type 0 where
   pub few : len ≤ 64
   pub same : length m ≡ length m₀
-  pub size : length d ≡ key_words
+  pub size : length d ≡ max_keys
   pub keys : w.contexts_to_remove ≤ i
   pub sum : w.weight_change ≤ max_weight * i
-  pub nobody : w.eligible_best ≡ Nobody
+  pub nobody : w.eligible_best ≡ None
   pub late : BestBelow n w.ineligible_best
   pub scans : Scans c n m₀ m d w (scanned_to t k i)
 
-module _ {c n k len : ℕ} {m₀ m m' d d' : List ℕ} {t : Scanner} {w w' : Scanned} {i : ℕ} {e : Entry} (f : (M : Machine) → m₀ ≡ encode M → Fits c n M → len ≡ length (cpu_at M k).queue)
+module _ {c n k len : ℕ} {m₀ m m' : List ℕ} {d d' : List Key} {t : Scanner} {w w' : Scanned} {i : ℕ} {e : Entry} (f : (M : Machine) → m₀ ≡ encode M → Fits c n M → len ≡ length (cpu_at M k).queue)
     (l : Loop c n k len m₀ m d t w i) (b : i < len) where
   pub loop_scans : ((M : Machine) → m ≡ encode M → Fits c n M → e ≡ get_or (cpu_at M k).queue i no_entry) → Scans c n m m' d' w' (λ (M : Machine). step_by t (found M.contexts w d) e)
       → Scans c n m₀ m' d' w' (scanned_to t k (i + 1))
   loop_scans r u = scanned_next t k i (λ M q o. subst (λ (y : ℕ). i < y) (f M q o) b) l.scans r u
 
   pub loop_next : ((M : Machine) → m ≡ encode M → Fits c n M → e ≡ get_or (cpu_at M k).queue i no_entry) → Scans c n m m' d' w' (λ (M : Machine). step_by t (found M.contexts w d) e)
-      → Grown n w w' → length m' ≡ length m → length d' ≡ length d → is_some (best_of w'.eligible_best) ≡ false → Loop c n k len m₀ m' d' t w' (i + 1)
+      → Grown n w w' → length m' ≡ length m → length d' ≡ length d → is_some w'.eligible_best ≡ false → Loop c n k len m₀ m' d' t w' (i + 1)
   loop_next r u g p q z =
       let a : w'.contexts_to_remove ≤ w.contexts_to_remove + 1 = g.keys
       in let y : w'.weight_change ≤ w.weight_change + max_weight = g.sum
       in let j : w.contexts_to_remove ≤ i = l.keys
       in let x : w.weight_change ≤ max_weight * i = l.sum
       in record {
-        here = omega arith;
         few = l.few;
         same = p ∙ l.same;
         size = q ∙ l.size;
@@ -155,7 +152,7 @@ module _ {c n k len : ℕ} {m₀ m m' d d' : List ℕ} {t : Scanner} {w w' : Sca
       }
 
 -- what the calls of a turn need, and what the returns ask
-module _ {c n k len : ℕ} {m₀ m d : List ℕ} {t : Scanner} {w : Scanned} {i : ℕ} (l : Loop c n k len m₀ m d t w i) where
+module _ {c n k len : ℕ} {m₀ m : List ℕ} {d : List Key} {t : Scanner} {w : Scanned} {i : ℕ} (l : Loop c n k len m₀ m d t w i) where
   pub loop_count : k < c → (j : Image c n m₀) → ((M : Machine) → m₀ ≡ encode M → Fits c n M → len ≡ length (cpu_at M k).queue) → i < len → i < get_or m (cpu_place n k + queue_count) 0
   loop_count h j f b = subst (λ y. i < y) (f j.M j.eq j.fits ∙ sym (count_kept k h j l.scans)) b
 
@@ -171,7 +168,7 @@ module _ {c n k len : ℕ} {m₀ m d : List ℕ} {t : Scanner} {w : Scanned} {i 
       in let j : w.contexts_to_remove ≤ i = l.keys
       in (omega (arith, l.few), g.best, g.late)
 
-  pub loop_end : (w.contexts_to_remove ≤ 64) × (BestBelow n w.eligible_best) × (BestBelow n w.ineligible_best)
-  loop_end =
+  pub loop_end : i ≤ len → (w.contexts_to_remove ≤ 64) × (BestBelow n w.eligible_best) × (BestBelow n w.ineligible_best)
+  loop_end h =
       let j : w.contexts_to_remove ≤ i = l.keys
-      in (omega (arith, l.few, l.here), subst (BestBelow n) (sym l.nobody) tt, l.late)
+      in (omega (arith, l.few), subst (BestBelow n) (sym l.nobody) tt, l.late)

@@ -1,6 +1,5 @@
 -- What the code's values say of the scan. Assumes nothing.
-use Rattle.std.specs.Prelude.{◌≡◌, List, [], ◌∷◌, ◌++◌, ℕ, zero, suc, ◌+◌, ◌*◌, ◌<◌, ◌≤◌, length, get_or}
-use Rattle.std.proofs.Math.Option.{none}
+use Rattle.std.specs.Prelude.{◌≡◌, List, [], ℕ, ◌+◌, ◌*◌, ◌<◌, ◌≤◌, length, take, None, Option}
 use Rattle.context.specs.declared.Context.{Context}
 use Rattle.entries.specs.declared.Key.{Key}
 use Rattle.entries.specs.declared.Entry.{Entry}
@@ -8,31 +7,29 @@ use Rattle.machine.specs.Machine.{Machine, with_contexts}
 use Rattle.machine.specs.Encode.{encode}
 use Rattle.machine.specs.Shape.{ContextFits, Fits, Image}
 use Rattle.model.specs.Scan.{Scan, Visit, pass, gone, blocked, no_addr_space, ready, visit, visited, scan_step, scan}
-use Rattle.select_judge.specs.declared.Best.{Best}
-use Rattle.select_judge.specs.declared.Best.TheVariants.{Nobody}
 use Rattle.select_judge.specs.declared.Scanner.{Scanner}
 use Rattle.select_judge.specs.declared.Scanned.{Scanned}
-use Rattle.select_judge.specs.Values.{vtime_of, best_of, BestBelow, scanner_cpu}
+use Rattle.select_judge.specs.Values.{BestBelow, scanner_cpu}
 use Rattle.weights.specs.Weights.{max_weight}
 
 -- the scan by what the code goes by
 module _ (t : Scanner) where
   abbrev pub visit_by : Scan → Entry → Visit
-  visit_by s e = visit t.cpu_id t.time (scanner_cpu t) (vtime_of t.ineligible_holder) s e
+  visit_by s e = visit t.cpu_id t.time (scanner_cpu t) t.ineligible_holder s e
 
   abbrev pub visited_by : Scan → Entry → Visit → Scan
-  visited_by s e v = visited t.cpu_id t.time (scanner_cpu t) (vtime_of t.ineligible_holder) s e v
+  visited_by s e v = visited t.cpu_id t.time (scanner_cpu t) t.ineligible_holder s e v
 
   abbrev pub step_by : Scan → Entry → Scan
-  step_by s e = scan_step t.cpu_id t.time (scanner_cpu t) (vtime_of t.ineligible_holder) s e
+  step_by s e = scan_step t.cpu_id t.time (scanner_cpu t) t.ineligible_holder s e
 
   abbrev pub scan_by : List Context → List Entry → Scan
-  scan_by cs q = scan t.cpu_id t.time (scanner_cpu t) (vtime_of t.ineligible_holder) cs q
+  scan_by cs q = scan t.cpu_id t.time (scanner_cpu t) t.ineligible_holder cs q
 
 -- what a visit goes by of a scan
-abbrev pub seen : List Context → Best → Scan
+abbrev pub seen : List Context → (Option Entry) → Scan
 seen cs late =
-    record { contexts = cs; eligible_best = none; ineligible_best = best_of late; weight_change = 0; contexts_to_remove = [] }
+    record { contexts = cs; eligible_best = None; ineligible_best = late; weight_change = 0; contexts_to_remove = [] }
 
 -- a record to store is within its ranges
 abbrev pub VisitFits : ℕ → Visit → Type 0
@@ -42,37 +39,33 @@ VisitFits c (blocked q) = ContextFits c q
 VisitFits c (no_addr_space q) = ContextFits c q
 VisitFits c (ready q) = ContextFits c q
 
--- the words of a scratch for 64 keys, three words each
-abbrev pub key_words : ℕ
-key_words = 3 * 64
+-- how many keys a scratch holds
+abbrev pub max_keys : ℕ
+max_keys = 64
 
--- key j of it, and the first n of them
-abbrev pub key_at : List ℕ → ℕ → Key
-key_at d j = record { vd = get_or d (3 * j) 0; rem_slice = get_or d (3 * j + 1) 0; ctxt_id = get_or d (3 * j + 2) 0 }
-
-unfoldable pub keys_in : List ℕ → ℕ → List Key
-keys_in d zero = []
-keys_in d (suc n) = keys_in d n ++ (key_at d n ∷ [])
+-- the first n of them
+abbrev pub keys_in : List Key → ℕ → List Key
+keys_in d n = take n d
 
 -- the scan that the code's values stand for, over contexts cs
-unfoldable pub found : List Context → Scanned → List ℕ → Scan
+unfoldable pub found : List Context → Scanned → List Key → Scan
 found cs w d =
     record {
       contexts = cs;
-      eligible_best = best_of w.eligible_best;
-      ineligible_best = best_of w.ineligible_best;
+      eligible_best = w.eligible_best;
+      ineligible_best = w.ineligible_best;
       weight_change = w.weight_change;
       contexts_to_remove = keys_in d w.contexts_to_remove;
     }
 
 -- of one machine M that m stood for: m' stands for M with the contexts of the scan s, and what was found is what s has found
-pub record ScansAt (c n : ℕ) (m' d : List ℕ) (w : Scanned) (s : Scan) (M : Machine) : Type 0 where
+pub record ScansAt (c n : ℕ) (m' : List ℕ) (d : List Key) (w : Scanned) (s : Scan) (M : Machine) : Type 0 where
   pub after : m' ≡ encode (with_contexts s.contexts M)
   pub fits : Fits c n (with_contexts s.contexts M)
   pub same : found s.contexts w d ≡ s
 
 -- m became m', the scratch d, and w was returned
-pub record Scans (c n : ℕ) (m m' d : List ℕ) (w : Scanned) (s : Machine → Scan) : Type 0 where
+pub record Scans (c n : ℕ) (m m' : List ℕ) (d : List Key) (w : Scanned) (s : Machine → Scan) : Type 0 where
   pub image : Image c n m'
   pub scans : (M : Machine) → m ≡ encode M → Fits c n M → ScansAt c n m' d w (s M) M
 
@@ -87,12 +80,12 @@ given_up w x =
     }
 
 -- what one entry needs: room for a key, and a sum that cannot wrap
-pub record Room (n : ℕ) (w : Scanned) (d : List ℕ) : Type 0 where
-  pub nobody : w.eligible_best ≡ Nobody
+pub record Room (n : ℕ) (w : Scanned) (d : List Key) : Type 0 where
+  pub nobody : w.eligible_best ≡ None
   pub late : BestBelow n w.ineligible_best
   pub keys : w.contexts_to_remove < 64
   pub sum : w.weight_change ≤ (64 * max_weight)
-  pub size : length d ≡ key_words
+  pub size : length d ≡ max_keys
 
 -- what it may add
 pub record Grown (n : ℕ) (w r : Scanned) : Type 0 where

@@ -10,7 +10,7 @@ ghost use Rattle.model.specs.Rule.{rule_of};
 ghost use Rattle.select_judge.specs.Values.{choice_of, BestBelow, WinnerBelow};
 ghost use Rattle.select_judge.specs.Holding.{Holding, Chosen};
 
-use select_judge::{Best, Holder, Scanned, Selected};
+use select_judge::{Holder, Scanned, Selected};
 
 // What the choice needs of the scan: the record of the eligible entry, where there is one.
 pub fn choose(m: &[u64], c: usize, n: usize, h: Holder, w: Scanned) -> Selected
@@ -23,8 +23,8 @@ pub fn choose(m: &[u64], c: usize, n: usize, h: Holder, w: Scanned) -> Selected
     let best = w.eligible_best;
     let late = w.ineligible_best;
     match best {
-        Best::Nobody => select_judge::without_entry(h, late),
-        Best::Found(e) => {
+        None => select_judge::without_entry(h, late),
+        Some(e) => {
             let x = numbers::index(e.context_ref);
             let q = machine::load(m, c, n, x);
             select_judge::against(h, late, e, q)

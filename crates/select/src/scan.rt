@@ -5,16 +5,15 @@ ghost use Rattle.machine.specs.Encode.{encode};
 ghost use Rattle.machine.specs.Shape.{ContextFits, EntryFits, Fits, Image};
 ghost use Rattle.model.specs.Scan.{blocked};
 ghost use Rattle.select_judge.specs.Values.{BestBelow, visit_of};
-ghost use Rattle.select.specs.Scanning.{visit_by, visited_by, step_by, scan_by, seen, VisitFits, keys_in, found, Scans, given_up, Room, Grown, key_words};
+ghost use Rattle.select.specs.Scanning.{visit_by, visited_by, step_by, scan_by, seen, VisitFits, keys_in, found, Scans, given_up, Room, Grown, max_keys};
 ghost use Rattle.weights.specs.Weights.{max_weight};
 
 use context::Context;
 use entries::{Entry, Key};
-use machine::Lookup;
-use select_judge::{Best, Scanned, Scanner, Visit};
+use select_judge::{Scanned, Scanner, Visit};
 
 // An entry as the scan meets it.
-fn verdict(m: &[u64], c: usize, n: usize, t: Scanner, late: Best, e: Entry) -> Visit
+fn verdict(m: &[u64], c: usize, n: usize, t: Scanner, late: Option<Entry>, e: Entry) -> Visit
     requires image { Image c n m.now }
     requires cpu_id_bound { (t.cpu_id < 64) × (e.context_ref < n) }
     ensures { (M : Machine) → m.now ≡ encode M → Fits c n M → visit_of result ≡ visit_by t (seen M.contexts late) e }
@@ -23,7 +22,7 @@ fn verdict(m: &[u64], c: usize, n: usize, t: Scanner, late: Best, e: Entry) -> V
         return Visit::Pass;
     }
     let l = machine::look_up(m, c, n, e.context_ref);
-    let Lookup::Live(x) = l else {
+    let Some(x) = l else {
         return Visit::Gone;
     };
     if select_judge::is_of(late, e.context_ref) {
@@ -34,30 +33,24 @@ fn verdict(m: &[u64], c: usize, n: usize, t: Scanner, late: Best, e: Entry) -> V
 }
 
 // A key put with those to remove, and its weight with what leaves the total.
-fn give_up(d: &mut [u64], w: Scanned, key: Key, weight: u64) -> Scanned
-    requires contexts_to_remove_bound { (w.contexts_to_remove < 64) × (w.weight_change ≤ (64 * max_weight)) × (length d.old ≡ key_words) }
+fn give_up(d: &mut [Key], w: Scanned, key: Key, weight: u64) -> Scanned
+    requires contexts_to_remove_bound { (w.contexts_to_remove < 64) × (w.weight_change ≤ (64 * max_weight)) × (length d.old ≡ max_keys) }
     requires weight_le_max_weight { weight ≤ max_weight }
     ensures { (result ≡ given_up w weight) × (keys_in d.new (w.contexts_to_remove + 1) ≡ keys_in d.old w.contexts_to_remove ++ (key ∷ [])) }
 {
     let n = w.contexts_to_remove;
-    let at = 3 * n;
-    d[at] = key.vd;
-    d[at + 1] = key.rem_slice;
-    d[at + 2] = key.ctxt_id;
-    let best = w.eligible_best;
-    let late = w.ineligible_best;
+    d[n] = key;
     Scanned {
-        eligible_best: best,
-        ineligible_best: late,
         weight_change: w.weight_change + weight,
         contexts_to_remove: n + 1,
+        ..w
     }
 }
 
 // A blocked context: its record is stored, and its weight leaves if it was active.
 fn give_up_blocked(
     m: &mut [u64],
-    d: &mut [u64],
+    d: &mut [Key],
     c: usize,
     n: usize,
     t: Scanner,
@@ -83,7 +76,7 @@ fn give_up_blocked(
 // What the scan makes of a visit.
 fn visited(
     m: &mut [u64],
-    d: &mut [u64],
+    d: &mut [Key],
     c: usize,
     n: usize,
     t: Scanner,
@@ -124,7 +117,7 @@ fn visited(
 // One entry of the queue.
 fn scan_step(
     m: &mut [u64],
-    d: &mut [u64],
+    d: &mut [Key],
     c: usize,
     n: usize,
     t: Scanner,
@@ -143,30 +136,28 @@ fn scan_step(
     visited(m, d, c, n, t, w, e, v)
 }
 
-// The scan of CPU k's queue; the keys to remove are left in d, three words a key.
-pub fn scan_queue(m: &mut [u64], d: &mut [u64], c: usize, n: usize, k: usize, t: Scanner) -> Scanned
+// The scan of CPU k's queue; the keys to remove are left in d.
+pub fn scan_queue(m: &mut [u64], d: &mut [Key], c: usize, n: usize, k: usize, t: Scanner) -> Scanned
     requires image { Image c n m.old }
-    requires k_lt_c { (k < c) × (t.cpu_id < 64) × (length d.old ≡ key_words) }
+    requires k_lt_c { (k < c) × (t.cpu_id < 64) × (length d.old ≡ max_keys) }
     ensures scans { Scans c n m.old m.new d.new result (λ (M : Machine). scan_by t M.contexts (cpu_at M k).queue) }
     ensures contexts_to_remove_bound { (result.contexts_to_remove ≤ 64) × (BestBelow n result.eligible_best) × (BestBelow n result.ineligible_best) }
 {
     let len = stages::queue_len(m, c, n, k);
-    let nobody = Best::Nobody;
+    let nobody = None;
     let mut w = Scanned {
         eligible_best: nobody,
         ineligible_best: nobody,
         weight_change: 0,
         contexts_to_remove: 0,
     };
-    let mut i = 0;
-    while i < len {
+    for i in 0..len {
         let e = stages::entry(m, c, n, k, i);
         w = scan_step(m, d, c, n, t, w, e);
         let best = w.eligible_best;
         if select_judge::is_found(best) {
             return w;
         }
-        i += 1;
     }
     w
 }

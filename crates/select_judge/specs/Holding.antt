@@ -7,7 +7,6 @@ use Rattle.select_judge.specs.declared.Scanner.{Scanner}
 use Rattle.context.specs.declared.Context.{Context}
 use Rattle.model.specs.Scan.{Scan}
 use Rattle.select_judge.specs.declared.Scanned.{Scanned}
-use Rattle.select_judge.specs.Values.{vtime_of, best_of}
 
 pub record Holding (h : Holder) (s : State) : Type 0 where
   pub runnable : h.runnable ≡ prev_runnable s
@@ -25,10 +24,10 @@ pub record Scanning (k time : ℕ) (t : Scanner) (s : State) : Type 0 where
   pub sched : t.sched_ctxt ≡ s.cpu.block.sched_ctxt
   pub current : t.current_ctxt ≡ s.cpu.block.current_ctxt
   pub v : t.v ≡ s.cpu.block.v
-  pub ineligible : vtime_of t.ineligible_holder ≡ ineligible_holder s
+  pub ineligible : t.ineligible_holder ≡ ineligible_holder s
 
 -- what the code found of the scan f, over contexts cs
 pub record Chosen (cs : List Context) (w : Scanned) (f : Scan) : Type 0 where
   pub contexts : cs ≡ f.contexts
-  pub best : best_of w.eligible_best ≡ f.eligible_best
-  pub late : best_of w.ineligible_best ≡ f.ineligible_best
+  pub best : w.eligible_best ≡ f.eligible_best
+  pub late : w.ineligible_best ≡ f.ineligible_best

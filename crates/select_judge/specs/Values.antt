@@ -1,6 +1,5 @@
 -- What the code's values stand for in the definitions. Assumes nothing.
-use Rattle.std.specs.Prelude.{false, ℕ, ◌<◌, if◌then◌else◌}
-use Rattle.std.proofs.Math.Option.{Option, none, some}
+use Rattle.std.specs.Prelude.{false, ℕ, ◌<◌, if◌then◌else◌, None, Option, Some, option_to_list}
 use Rattle.context.specs.declared.Context.{Context}
 use Rattle.context.specs.With.{with_rem_slice, with_is_active}
 use Rattle.entries.specs.declared.Entry.{Entry}
@@ -10,30 +9,12 @@ use Rattle.machine.specs.Machine.{no_cpu}
 use Rattle.model.specs.Scan.{below, ineligible_min_vtime, is_eligible, pass, gone, blocked, no_addr_space, ready}
 use Rattle.model.specs.Scan as scan
 use Rattle.model.specs.Choice.{Choice}
-use Rattle.picked.specs.declared.Picked.{Picked}
-use Rattle.picked.specs.declared.Picked.TheVariants.{Somebody}
-use Rattle.picked.specs.declared.Picked.TheVariants as picked_variants
-use Rattle.picked.specs.Names.{picked_of, names_of}
-use Rattle.select_judge.specs.declared.MinVtime.{MinVtime}
-use Rattle.select_judge.specs.declared.MinVtime.TheVariants.{At}
-use Rattle.select_judge.specs.declared.MinVtime.TheVariants as min_vtime
-use Rattle.select_judge.specs.declared.Best.{Best}
-use Rattle.select_judge.specs.declared.Best.TheVariants.{Found}
-use Rattle.select_judge.specs.declared.Best.TheVariants as best
 use Rattle.select_judge.specs.declared.Visit.{Visit}
 use Rattle.select_judge.specs.declared.Visit.TheVariants.{Pass, Gone, Blocked, NoAddrSpace, Ready}
 use Rattle.select_judge.specs.declared.Scanner.{Scanner}
 use Rattle.select_judge.specs.declared.Scanned.{Scanned}
 use Rattle.select_judge.specs.declared.Selected.{Selected}
 use Rattle.context.specs.Key.{without_key}
-
-abbrev pub vtime_of : MinVtime → Option ℕ
-vtime_of min_vtime.Nobody = none
-vtime_of (At x) = some x
-
-abbrev pub best_of : Best → Option Entry
-best_of best.Nobody = none
-best_of (Found e) = some e
 
 abbrev pub visit_of : Visit → scan.Visit
 visit_of Pass = pass
@@ -43,16 +24,16 @@ visit_of (NoAddrSpace c) = no_addr_space c
 visit_of (Ready c) = ready c
 
 abbrev pub choice_of : Selected → Choice
-choice_of r = record { winner = picked_of r.winner; v = r.v; locked = names_of r.locked }
+choice_of r = record { winner = r.winner; v = r.v; locked = option_to_list r.locked }
 
 -- names below n
-abbrev pub BestBelow : ℕ → Best → Type 0
-BestBelow n best.Nobody = Unit {0}
-BestBelow n (Found e) = e.context_ref < n
+abbrev pub BestBelow : ℕ → (Option Entry) → Type 0
+BestBelow n None = Unit {0}
+BestBelow n (Some e) = e.context_ref < n
 
-abbrev pub WinnerBelow : ℕ → Picked → Type 0
-WinnerBelow n picked_variants.Nobody = Unit {0}
-WinnerBelow n (Somebody x) = x < n
+abbrev pub WinnerBelow : ℕ → Option ℕ → Type 0
+WinnerBelow n None = Unit {0}
+WinnerBelow n (Some x) = x < n
 
 -- a CPU with the words of its block that the scan goes by
 abbrev pub cpu_with : (idle sched current v : ℕ) → Cpu
@@ -69,10 +50,10 @@ deactivated c = without_key (with_is_active false (with_rem_slice 0 c))
 unfoldable pub picked : Scanner → Scanned → Entry → Scanned
 picked t w e =
     record {
-      eligible_best = if is_eligible (scanner_cpu t) e then Found e else w.eligible_best;
+      eligible_best = if is_eligible (scanner_cpu t) e then Some e else w.eligible_best;
       ineligible_best =
           if is_eligible (scanner_cpu t) e then w.ineligible_best else
-          if below (ineligible_min_vtime (best_of w.ineligible_best) (vtime_of t.ineligible_holder)) e.vtime then Found e else w.ineligible_best;
+          if below (ineligible_min_vtime w.ineligible_best t.ineligible_holder) e.vtime then Some e else w.ineligible_best;
       weight_change = w.weight_change;
       contexts_to_remove = w.contexts_to_remove;
     }

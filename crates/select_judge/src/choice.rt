@@ -1,29 +1,26 @@
 // The choice, by value.
-ghost use Rattle.std.specs.Prelude.{◌≡◌, false, ◌&&◌, ◌||◌, ℕ, ◌<◌, ltb, leb, eqb, if◌then◌else◌};
-ghost use Rattle.std.proofs.Math.Option.{none, some};
+ghost use Rattle.std.specs.Prelude.{◌≡◌, false, ◌&&◌, ◌||◌, ℕ, ◌<◌, ltb, leb, eqb, if◌then◌else◌, None, Some, option_to_list};
 ghost use Rattle.answer.specs.declared.Rule.TheVariants.{HolderDeadline, HolderSlice, HolderVtime, HolderLateDeadline};
 ghost use Rattle.machine.specs.Machine.{context_at};
 ghost use Rattle.model.specs.State.{State};
 ghost use Rattle.model.specs.Scan.{Scan};
 ghost use Rattle.model.specs.Choice.{named, against, nobody, without_entry};
 ghost use Rattle.model.specs.Rule.{rule_against, rule_nobody, rule_by};
-ghost use Rattle.picked.specs.Names.{names_of};
-ghost use Rattle.select_judge.specs.Values.{best_of, choice_of, BestBelow, WinnerBelow};
+ghost use Rattle.select_judge.specs.Values.{choice_of, BestBelow, WinnerBelow};
 ghost use Rattle.select_judge.specs.Holding.{Holding};
 
-use crate::{Best, Holder, Selected};
+use crate::{Holder, Selected};
 use answer::Rule;
 use context::Context;
 use entries::Entry;
-use picked::Picked;
 
 // The context of an entry that keeps its lock.
-fn locked(late: Best) -> Picked
-    ensures { names_of result ≡ named (best_of late) }
+fn locked(late: Option<Entry>) -> Option<usize>
+    ensures { option_to_list result ≡ named late }
 {
     match late {
-        Best::Nobody => Picked::Nobody,
-        Best::Found(e) => Picked::Somebody(numbers::index(e.context_ref)),
+        None => None,
+        Some(e) => Some(numbers::index(e.context_ref)),
     }
 }
 
@@ -48,8 +45,8 @@ fn first_rule(h: Holder, q: Context) -> Rule
 }
 
 // An eligible entry e was found, whose record is q.
-pub fn against(h: Holder, late: Best, e: Entry, q: Context) -> Selected
-    ensures result_value { (s : State) (f : Scan) → Holding h s → q ≡ context_at f.contexts e.context_ref → best_of late ≡ f.ineligible_best → choice_of result ≡ against s f e }
+pub fn against(h: Holder, late: Option<Entry>, e: Entry, q: Context) -> Selected
+    ensures result_value { (s : State) (f : Scan) → Holding h s → q ≡ context_at f.contexts e.context_ref → late ≡ f.ineligible_best → choice_of result ≡ against s f e }
     ensures by_index { (n : ℕ) → e.context_ref < n → WinnerBelow n result.winner }
     ensures rule_value { (s : State) (f : Scan) → Holding h s → q ≡ context_at f.contexts e.context_ref → result.rule ≡ rule_against s f e }
 {
@@ -57,14 +54,14 @@ pub fn against(h: Holder, late: Best, e: Entry, q: Context) -> Selected
     let kept = locked(late);
     if numbers::both(h.eligible, before) {
         return Selected {
-            winner: Picked::Nobody,
+            winner: None,
             v: h.v,
             locked: kept,
             rule: first_rule(h, q),
         };
     }
     Selected {
-        winner: Picked::Somebody(numbers::index(e.context_ref)),
+        winner: Some(numbers::index(e.context_ref)),
         v: h.v,
         locked: kept,
         rule: Rule::FirstEligible,
@@ -93,65 +90,65 @@ fn late_rule(h: Holder, e: Entry) -> Rule
 
 // Nobody is eligible, and the queue gives nobody.
 fn alone(h: Holder) -> Selected
-    ensures result_value { (s : State) → Holding h s → choice_of result ≡ nobody s none }
+    ensures result_value { (s : State) → Holding h s → choice_of result ≡ nobody s None }
     ensures by_index { (n : ℕ) → WinnerBelow n result.winner }
-    ensures rule_value { (s : State) → Holding h s → result.rule ≡ rule_nobody s false none }
+    ensures rule_value { (s : State) → Holding h s → result.rule ≡ rule_nobody s false None }
 {
     if h.runnable {
         return Selected {
-            winner: Picked::Nobody,
+            winner: None,
             v: h.vtime,
-            locked: Picked::Nobody,
+            locked: None,
             rule: Rule::HolderVtime,
         };
     }
     Selected {
-        winner: Picked::Nobody,
+        winner: None,
         v: h.v,
-        locked: Picked::Nobody,
+        locked: None,
         rule: Rule::Idle,
     }
 }
 
 // Nobody is eligible: V becomes the vtime of the entry of least vtime.
 fn least(h: Holder, e: Entry) -> Selected
-    ensures result_value { (s : State) → Holding h s → choice_of result ≡ nobody s (some e) }
+    ensures result_value { (s : State) → Holding h s → choice_of result ≡ nobody s (Some e) }
     ensures by_index { (n : ℕ) → e.context_ref < n → WinnerBelow n result.winner }
-    ensures rule_value { (s : State) → Holding h s → result.rule ≡ rule_nobody s false (some e) }
+    ensures rule_value { (s : State) → Holding h s → result.rule ≡ rule_nobody s false (Some e) }
 {
     let x = numbers::index(e.context_ref);
     if goes_on(h, e) {
         return Selected {
-            winner: Picked::Nobody,
+            winner: None,
             v: e.vtime,
-            locked: Picked::Somebody(x),
+            locked: Some(x),
             rule: late_rule(h, e),
         };
     }
     Selected {
-        winner: Picked::Somebody(x),
+        winner: Some(x),
         v: e.vtime,
-        locked: Picked::Nobody,
+        locked: None,
         rule: Rule::EntryVtime,
     }
 }
 
 // No eligible entry was found.
-pub fn without_entry(h: Holder, late: Best) -> Selected
-    ensures result_value { (s : State) (f : Scan) → Holding h s → best_of late ≡ f.ineligible_best → choice_of result ≡ without_entry s f }
+pub fn without_entry(h: Holder, late: Option<Entry>) -> Selected
+    ensures result_value { (s : State) (f : Scan) → Holding h s → late ≡ f.ineligible_best → choice_of result ≡ without_entry s f }
     ensures by_index { (n : ℕ) → BestBelow n late → WinnerBelow n result.winner }
-    ensures rule_value { (s : State) (f : Scan) → Holding h s → best_of late ≡ f.ineligible_best → result.rule ≡ rule_by s false f none }
+    ensures rule_value { (s : State) (f : Scan) → Holding h s → late ≡ f.ineligible_best → result.rule ≡ rule_by s false f None }
 {
     if h.eligible {
         return Selected {
-            winner: Picked::Nobody,
+            winner: None,
             v: h.v,
             locked: locked(late),
             rule: Rule::HolderAlone,
         };
     }
     match late {
-        Best::Nobody => alone(h),
-        Best::Found(e) => least(h, e),
+        None => alone(h),
+        Some(e) => least(h, e),
     }
 }

@@ -1,57 +1,56 @@
 // An entry judged, by value.
-ghost use Rattle.std.specs.Prelude.{◌≡◌, false, ◌&&◌, not, ◌<◌, ◌≤◌, if◌then◌else◌};
-ghost use Rattle.model.specs.State.{is_some};
+ghost use Rattle.std.specs.Prelude.{◌≡◌, false, ◌&&◌, not, ◌<◌, ◌≤◌, if◌then◌else◌, is_some};
 ghost use Rattle.model.specs.Scan.{above, below, is_of, ineligible_min_vtime, is_eligible, judge};
-ghost use Rattle.select_judge.specs.Values.{vtime_of, best_of, visit_of, scanner_cpu, deactivated, picked};
+ghost use Rattle.select_judge.specs.Values.{visit_of, scanner_cpu, deactivated, picked};
 ghost use Rattle.context.specs.Key.{without_key};
 
-use crate::{Best, MinVtime, Scanned, Scanner, Visit};
+use crate::{Scanned, Scanner, Visit};
 use context::Context;
 use entries::Entry;
 use runnable::UpdateResult;
 
-fn above(l: MinVtime, n: u64) -> bool
-    ensures { result ≡ above (vtime_of l) n }
+fn above(l: Option<u64>, n: u64) -> bool
+    ensures { result ≡ above l n }
 {
     match l {
-        MinVtime::Nobody => false,
-        MinVtime::At(m) => m < n,
+        None => false,
+        Some(m) => m < n,
     }
 }
 
-fn below(l: MinVtime, n: u64) -> bool
-    ensures { result ≡ below (vtime_of l) n }
+fn below(l: Option<u64>, n: u64) -> bool
+    ensures { result ≡ below l n }
 {
     match l {
-        MinVtime::Nobody => true,
-        MinVtime::At(m) => n < m,
+        None => true,
+        Some(m) => n < m,
     }
 }
 
-pub fn is_of(p: Best, x: u64) -> bool
-    ensures { result ≡ is_of (best_of p) x }
+pub fn is_of(p: Option<Entry>, x: u64) -> bool
+    ensures { result ≡ is_of p x }
 {
     match p {
-        Best::Nobody => false,
-        Best::Found(e) => e.context_ref == x,
+        None => false,
+        Some(e) => e.context_ref == x,
     }
 }
 
-pub fn is_found(p: Best) -> bool
-    ensures { result ≡ is_some (best_of p) }
+pub fn is_found(p: Option<Entry>) -> bool
+    ensures { result ≡ is_some p }
 {
     match p {
-        Best::Nobody => false,
-        Best::Found(_) => true,
+        None => false,
+        Some(_) => true,
     }
 }
 
-fn ineligible_min_vtime(p: Best, h: MinVtime) -> MinVtime
-    ensures { vtime_of result ≡ ineligible_min_vtime (best_of p) (vtime_of h) }
+fn ineligible_min_vtime(p: Option<Entry>, h: Option<u64>) -> Option<u64>
+    ensures { result ≡ ineligible_min_vtime p h }
 {
     match p {
-        Best::Nobody => h,
-        Best::Found(e) => MinVtime::At(e.vtime),
+        None => h,
+        Some(e) => Some(e.vtime),
     }
 }
 
@@ -65,8 +64,8 @@ fn deactivated(mut c: Context) -> Context
 }
 
 // An entry that is passed over for a late vtime.
-pub fn too_late(t: Scanner, late: Best, e: Entry) -> bool
-    ensures { result ≡ (above (ineligible_min_vtime (best_of late) (vtime_of t.ineligible_holder)) e.vtime && not (is_eligible (scanner_cpu t) e)) }
+pub fn too_late(t: Scanner, late: Option<Entry>, e: Entry) -> bool
+    ensures { result ≡ (above (ineligible_min_vtime late t.ineligible_holder) e.vtime && not (is_eligible (scanner_cpu t) e)) }
 {
     let holder = t.ineligible_holder;
     let least = ineligible_min_vtime(late, holder);
@@ -123,7 +122,7 @@ pub fn pick(t: Scanner, w: Scanned, e: Entry) -> Scanned
     let late = w.ineligible_best;
     if e.vtime <= t.v {
         return Scanned {
-            eligible_best: Best::Found(e),
+            eligible_best: Some(e),
             ineligible_best: late,
             weight_change: w.weight_change,
             contexts_to_remove: w.contexts_to_remove,
@@ -134,7 +133,7 @@ pub fn pick(t: Scanner, w: Scanned, e: Entry) -> Scanned
     if below(least, e.vtime) {
         return Scanned {
             eligible_best: best,
-            ineligible_best: Best::Found(e),
+            ineligible_best: Some(e),
             weight_change: w.weight_change,
             contexts_to_remove: w.contexts_to_remove,
         };

@@ -10,22 +10,7 @@ pub use choice::{against, without_entry};
 use context::Context;
 use entries::Entry;
 pub use judge::{active_weight, is_found, is_of, judged, pick, too_late};
-use picked::Picked;
 pub use prev::{holder_of, ineligible_holder};
-
-// A least vtime, if there is one.
-#[derive(Clone, Copy)]
-pub enum MinVtime {
-    Nobody,
-    At(u64),
-}
-
-// The best entry so far, if there is one.
-#[derive(Clone, Copy)]
-pub enum Best {
-    Nobody,
-    Found(Entry),
-}
 
 // What an entry is to the scan; the record that is stored, if it changes.
 #[derive(Clone, Copy)]
@@ -46,7 +31,7 @@ pub struct Scanner {
     pub sched_ctxt: u64,
     pub current_ctxt: u64,
     pub v: u64,
-    pub ineligible_holder: MinVtime,
+    pub ineligible_holder: Option<u64>,
 }
 
 // The context in charge before the decision, as the choice sees it.
@@ -64,8 +49,8 @@ pub struct Holder {
 // What the scan has found; the keys to remove are in a scratch slice, three words a key, and counted here.
 #[derive(Clone, Copy)]
 pub struct Scanned {
-    pub eligible_best: Best,
-    pub ineligible_best: Best,
+    pub eligible_best: Option<Entry>,
+    pub ineligible_best: Option<Entry>,
     pub weight_change: u64,
     pub contexts_to_remove: usize,
 }
@@ -74,8 +59,8 @@ pub struct Scanned {
 // where nobody waits.
 #[derive(Clone, Copy)]
 pub struct Selected {
-    pub winner: Picked,
+    pub winner: Option<usize>,
     pub v: u64,
-    pub locked: Picked,
+    pub locked: Option<usize>,
     pub rule: Rule,
 }

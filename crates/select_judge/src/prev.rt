@@ -2,10 +2,9 @@
 ghost use Rattle.std.specs.Prelude.{◌≡◌};
 ghost use Rattle.model.specs.State.{State, holder};
 ghost use Rattle.model.specs.Choice.{ineligible_holder};
-ghost use Rattle.select_judge.specs.Values.{vtime_of};
 ghost use Rattle.select_judge.specs.Holding.{Holding};
 
-use crate::{Holder, MinVtime};
+use crate::Holder;
 use context::Context;
 use percpu::PercpuBlock;
 
@@ -30,11 +29,11 @@ pub fn holder_of(b: PercpuBlock, q: Context) -> Holder
 }
 
 // The vtime of a runnable holder that is not eligible.
-pub fn ineligible_holder(h: Holder) -> MinVtime
-    ensures { (s : State) → Holding h s → vtime_of result ≡ ineligible_holder s }
+pub fn ineligible_holder(h: Holder) -> Option<u64>
+    ensures { (s : State) → Holding h s → result ≡ ineligible_holder s }
 {
     if numbers::both(h.runnable, !h.eligible) {
-        return MinVtime::At(h.vtime);
+        return Some(h.vtime);
     }
-    MinVtime::Nobody
+    None
 }

@@ -4,10 +4,19 @@
 mod row;
 
 ghost use Rattle.std.specs.Prelude.{◌≡◌, ◌<◌, ◌≤◌, length};
-ghost use Rattle.board.specs.Board.{Board, row_size, padded, offered};
-ghost use Rattle.slots.specs.Slots.{put_numbers, put_lengths, put_rows, put_cue};
+ghost use Rattle.board.specs.Board.{Board, row_size, padded};
+ghost use Rattle.slots.specs.Slots.{put_numbers, put_lengths, put_rows, cue_of, put_cue};
 
 use board::places;
+
+// A cue as it is offered: when it starts, who is to be woken, and the bytes of its two rows.
+#[derive(Clone, Copy)]
+pub struct Offer<'a> {
+    pub start: u64,
+    pub writer: u64,
+    pub first: &'a [u8],
+    pub second: &'a [u8],
+}
 
 fn put_numbers(b: &mut [u8], k: usize, i: usize, start: u64, writer: u64)
     requires board { Board k b.old }
@@ -38,20 +47,12 @@ fn put_rows(b: &mut [u8], k: usize, i: usize, first: &[u8], second: &[u8])
     row::put_row(b, places::row_place(k, i, 1), second);
 }
 
-pub fn put_cue(
-    b: &mut [u8],
-    k: usize,
-    i: usize,
-    start: u64,
-    writer: u64,
-    first: &[u8],
-    second: &[u8],
-)
+pub fn put_cue(b: &mut [u8], k: usize, i: usize, q: Offer)
     requires board { Board k b.old }
-    requires i_lt_k { (i < k) × (length first.now ≤ row_size) × (length second.now ≤ row_size) }
-    ensures { b.new ≡ put_cue k b.old i (offered start writer first.now second.now) }
+    requires i_lt_k { (i < k) × (length q.first.now ≤ row_size) × (length q.second.now ≤ row_size) }
+    ensures { b.new ≡ put_cue k b.old i (cue_of q.entry) }
 {
-    put_numbers(b, k, i, start, writer);
-    put_lengths(b, k, i, first.len(), second.len());
-    put_rows(b, k, i, first, second);
+    put_numbers(b, k, i, q.start, q.writer);
+    put_lengths(b, k, i, q.first.len(), q.second.len());
+    put_rows(b, k, i, q.first, q.second);
 }

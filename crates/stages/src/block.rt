@@ -1,5 +1,5 @@
 // The same on one CPU's block.
-ghost use Rattle.std.specs.Prelude.{◌≡◌, Bool, true, false, List, [], ◌∷◌, ◌++◌, ℕ, ◌<◌, ◌≤◌, leb, length, get_or};
+ghost use Rattle.std.specs.Prelude.{◌≡◌, Bool, true, false, List, [], ◌∷◌, ◌++◌, ℕ, ◌<◌, ◌≤◌, leb, length, get_or, is_err};
 ghost use Rattle.entries.specs.Order.{entry_before};
 ghost use Rattle.entries.specs.Queue.{queue_insert, queue_remove};
 ghost use Rattle.entries.specs.Sorted.{Sorted};
@@ -12,6 +12,7 @@ ghost use Rattle.percpu.specs.Lists.{cpu_push_local};
 
 use entries::{Entry, Key};
 use percpu::{PercpuBlock, places};
+use table::NoRoom;
 
 pub fn load(b: &[u64]) -> PercpuBlock
     requires { length b.now ≡ block_size }
@@ -35,15 +36,13 @@ pub fn store_remainder(b: &mut [u64], x: u64)
 }
 
 // The queue's length is published.
-pub fn insert_entry(b: &mut [u64], e: Entry) -> bool
+pub fn insert_entry(b: &mut [u64], e: Entry) -> Result<(), NoRoom>
     requires { (length b.old ≡ block_size) × (get_or b.old queue_count 0 ≤ 64) }
-    ensures { (p : Cpu) → b.old ≡ cpu_words p → length p.queue ≤ 64 → Sorted entry_before p.queue → (result ≡ no_room e p) × (result ≡ false → b.new ≡ cpu_words (cpu_queue_len (length (queue_insert e p.queue)) (cpu_queue (queue_insert e p.queue) p))) }
+    ensures { (p : Cpu) → b.old ≡ cpu_words p → length p.queue ≤ 64 → Sorted entry_before p.queue → (is_err result ≡ no_room e p) × (is_err result ≡ false → b.new ≡ cpu_words (cpu_queue_len (length (queue_insert e p.queue)) (cpu_queue (queue_insert e p.queue) p))) }
 {
-    if run_queue::insert(b, e) {
-        return true;
-    }
+    run_queue::insert(b, e)?;
     b[places::QUEUE_LEN] = b[places::QUEUE_COUNT];
-    false
+    Ok(())
 }
 
 pub fn remove_key(b: &mut [u64], k: Key)
@@ -54,13 +53,13 @@ pub fn remove_key(b: &mut [u64], k: Key)
     b[places::QUEUE_LEN] = b[places::QUEUE_COUNT];
 }
 
-pub fn push_local(b: &mut [u64], x: u64) -> bool
+pub fn push_local(b: &mut [u64], x: u64) -> Result<(), NoRoom>
     requires { length b.old ≡ block_size }
-    ensures { (p : Cpu) → b.old ≡ cpu_words p → (result ≡ leb 64 (length p.local_wakeup_list)) × (result ≡ false → b.new ≡ cpu_words (cpu_push_local x p)) }
+    ensures { (p : Cpu) → b.old ≡ cpu_words p → (is_err result ≡ leb 64 (length p.local_wakeup_list)) × (is_err result ≡ false → b.new ≡ cpu_words (cpu_push_local x p)) }
 {
     if 64 <= b[places::LOCAL_COUNT] {
-        return true;
+        return Err(NoRoom);
     }
     wakeup_lists::push_local(b, x);
-    false
+    Ok(())
 }

@@ -4,7 +4,7 @@
 
 mod block;
 
-ghost use Rattle.std.specs.Prelude.{◌≡◌, Bool, true, false, ℕ, ◌+◌, ◌*◌, ◌<◌, ◌≤◌, length, get_or};
+ghost use Rattle.std.specs.Prelude.{◌≡◌, Bool, true, false, ℕ, ◌+◌, ◌*◌, ◌<◌, ◌≤◌, length, get_or, is_err};
 ghost use Rattle.percpu.specs.Cpu.{Cpu};
 ghost use Rattle.percpu.specs.With.{cpu_block, cpu_remainder};
 ghost use Rattle.percpu.specs.Layout.{no_entry};
@@ -20,6 +20,7 @@ ghost use Rattle.percpu.specs.Places.{queue_count};
 use context::Context;
 use entries::{Entry, Key, Timer};
 use percpu::{PercpuBlock, places};
+pub use table::NoRoom;
 
 pub fn load_block(m: &[u64], c: usize, n: usize, k: usize) -> PercpuBlock
     requires image { Image c n m.now }
@@ -71,12 +72,11 @@ pub fn store_context(m: &mut [u64], c: usize, n: usize, k: usize, x: usize, q: C
     machine::store(m, c, n, x, q);
 }
 
-// True if there is no room.
-pub fn insert_entry(m: &mut [u64], c: usize, n: usize, k: usize, e: Entry) -> bool
+pub fn insert_entry(m: &mut [u64], c: usize, n: usize, k: usize, e: Entry) -> Result<(), NoRoom>
     requires image { Image c n m.old }
     requires k_lt_c { k < c }
     requires entry_fits { EntryFits n e }
-    ensures { Staged c n k m.old m.new result (λ (s : State). insert_entry e s) }
+    ensures { Staged c n k m.old m.new (is_err result) (λ (s : State). insert_entry e s) }
 {
     let at = machine::cpu_place(n, k);
     let end = at + places::BLOCK_SIZE;
@@ -93,33 +93,36 @@ pub fn remove_key(m: &mut [u64], c: usize, n: usize, k: usize, key: Key)
     block::remove_key(&mut m[at..end], key);
 }
 
-// True if there is no room.
-pub fn insert_timer(m: &mut [u64], c: usize, n: usize, k: usize, t: Timer) -> bool
+pub fn insert_timer(m: &mut [u64], c: usize, n: usize, k: usize, t: Timer) -> Result<(), NoRoom>
     requires image { Image c n m.old }
     requires k_lt_c { (k < c) × (t.context_ref < n) }
-    ensures { Staged c n k m.old m.new result (λ (s : State). insert_timer t s) }
+    ensures { Staged c n k m.old m.new (is_err result) (λ (s : State). insert_timer t s) }
 {
     let at = machine::cpu_place(n, k);
     let end = at + places::BLOCK_SIZE;
     timers::insert(&mut m[at..end], t)
 }
 
-// True if there is no room.
-pub fn insert_newest_timer(m: &mut [u64], c: usize, n: usize, k: usize, t: Timer) -> bool
+pub fn insert_newest_timer(
+    m: &mut [u64],
+    c: usize,
+    n: usize,
+    k: usize,
+    t: Timer,
+) -> Result<(), NoRoom>
     requires image { Image c n m.old }
     requires k_lt_c { (k < c) × (t.context_ref < n) }
-    ensures { Staged c n k m.old m.new result (λ (s : State). insert_newest_timer t s) }
+    ensures { Staged c n k m.old m.new (is_err result) (λ (s : State). insert_newest_timer t s) }
 {
     let at = machine::cpu_place(n, k);
     let end = at + places::BLOCK_SIZE;
     timers::insert_newest(&mut m[at..end], t)
 }
 
-// True if there is no room.
-pub fn push_local(m: &mut [u64], c: usize, n: usize, k: usize, x: usize) -> bool
+pub fn push_local(m: &mut [u64], c: usize, n: usize, k: usize, x: usize) -> Result<(), NoRoom>
     requires image { Image c n m.old }
     requires k_lt_c { (k < c) × (x < n) }
-    ensures { Staged c n k m.old m.new result (λ (s : State). push_local x s) }
+    ensures { Staged c n k m.old m.new (is_err result) (λ (s : State). push_local x s) }
 {
     let at = machine::cpu_place(n, k);
     let end = at + places::BLOCK_SIZE;

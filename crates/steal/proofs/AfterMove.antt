@@ -1,4 +1,6 @@
 -- One entry moved. Assumes nothing.
+use Rattle.columns.proofs.Tests.{never}
+use Rattle.std.specs.Prelude.{Option, Some}
 use mathlib.Core.Path.{◌≡◌, refl, sym, ap, ◌∙◌, subst}
 use mathlib.Core.Bool.{Bool, true, false}
 use mathlib.Core.List.{List}
@@ -18,11 +20,8 @@ use Rattle.model.specs.State.{State, state_of, on_cpu, put_context, insert_entry
 use Rattle.model.specs.Steal.{Moving, moved, first_wins, give_up, move_entry}
 use Rattle.stages.specs.Stage.{Stage, Staged}
 use Rattle.stages.proofs.Compose.{stage_as, stage_then}
-use Rattle.picked.specs.declared.Picked.{Picked}
-use Rattle.picked.specs.declared.Picked.TheVariants.{Somebody}
 use Rattle.steal_judge.specs.declared.Candidates.{Candidates}
 use Rattle.steal_judge.specs.declared.Candidates.TheVariants.{Nothing, Single, Pair}
-use Rattle.picked.specs.Names.{picked_of}
 use Rattle.steal_judge.specs.Names.{entries_of}
 use Rattle.steal.specs.Moves.{moving_of, Moves, taken_in, winner_in}
 use Rattle.steal.proofs.Victims.{victim_then}
@@ -41,20 +40,28 @@ module _ {c n k : ℕ} {m m1 : List ℕ} (e : Entry) (q : Context) where
       → Staged c n k m m2 full (λ (s : State). insert_entry (entry_of e.context_ref e.weight q) (put_context e.context_ref (with_new_key q) s))
   queued h a b x y z = stage_as (stage_then h a b) (λ M i o. (λ j. insert_entry (z j) (put_context (x j) (y j) (state_of k M)), λ t u. refl))
 
-  module _ (runs : Bool) (w : Picked) where
-    pub first_in : {x : ℕ} {r : Bool} → Staged c n k m m1 false (λ (s : State). put_context x q s) → x ≡ e.context_ref → r ≡ first_wins runs (picked_of w) → r ≡ true
-        → Stage c n k m m1 false (Somebody x) (λ (s : State). taken_in runs w e q s) (λ (s : State). winner_in runs w e)
+  module _ (runs : Bool) (w : Option ℕ) where
+    pub first_in : {x : ℕ} {r : Bool} → Staged c n k m m1 false (λ (s : State). put_context x q s) → x ≡ e.context_ref → r ≡ first_wins runs w → r ≡ true
+        → Stage c n k m m1 false (Some x) (λ (s : State). taken_in runs w e q s) (λ (s : State). winner_in runs w e)
     unfolding taken_in
     first_in a x t u =
-        let z : first_wins runs (picked_of w) ≡ true = sym t ∙ u in
-        stage_as a (λ M i o. (rw z (ap (λ (y : ℕ). put_context y q (state_of k M)) x), λ l y. rw z (ap Somebody x)))
+        let z : first_wins runs w ≡ true = sym t ∙ u in
+        stage_as a (λ M i o. (rw z (ap (λ (y : ℕ). put_context y q (state_of k M)) x), λ l y. rw z (ap Some x)))
 
     pub later_in : {r full : Bool} → Staged c n k m m1 full (λ (s : State). insert_entry (entry_of e.context_ref e.weight q) (put_context e.context_ref (with_new_key q) s))
-        → r ≡ first_wins runs (picked_of w) → r ≡ false → Stage c n k m m1 full w (λ (s : State). taken_in runs w e q s) (λ (s : State). winner_in runs w e)
+        → r ≡ first_wins runs w → r ≡ false → Stage c n k m m1 full w (λ (s : State). taken_in runs w e q s) (λ (s : State). winner_in runs w e)
     unfolding taken_in
     later_in a t u =
-        let z : first_wins runs (picked_of w) ≡ false = sym t ∙ u in
+        let z : first_wins runs w ≡ false = sym t ∙ u in
         stage_as a (λ M i o. (rw z, λ l y. rw z))
+
+    -- no room, whoever is said to have won
+    pub later_full : {r : Bool} {v : Option ℕ} → Staged c n k m m1 true (λ (s : State). insert_entry (entry_of e.context_ref e.weight q) (put_context e.context_ref (with_new_key q) s))
+        → r ≡ first_wins runs w → r ≡ false → Stage c n k m m1 true v (λ (s : State). taken_in runs w e q s) (λ (s : State). winner_in runs w e)
+    unfolding taken_in
+    later_full a t u =
+        let z : first_wins runs w ≡ false = sym t ∙ u in
+        stage_as a (λ M i o. (rw z, λ l y. never l))
 
 -- the record as it was read, moved
 pub stolen_fits : {c n : ℕ} {m : List ℕ} {r : Context} (here there weight : ℕ) (q : Context) (x : ℕ) (i : Image c n m) → x < n → q ≡ context_at i.M.contexts x → r ≡ moved here there weight q → ContextFits c r
@@ -67,24 +74,24 @@ pub stolen_as : {r : Context} (b b' : PercpuBlock) (weight : ℕ) (q : Context) 
 stolen_as b b' weight q M k t x e i j l = e ∙ (λ y. moved (i y).v (j y).v weight (l y))
 
 -- the move of one entry
-module _ (runs : Bool) (w : Picked) (e : Entry) (k t : ℕ) (M : Machine) (q : Context) where
+module _ (runs : Bool) (w : Option ℕ) (e : Entry) (k t : ℕ) (M : Machine) (q : Context) where
   abbrev heavier : State → State
   heavier s = on_cpu (λ (p : Cpu). cpu_total_weight (p.block.total_weight + e.weight) p) s
 
   module _ (z : q ≡ moved (cpu_at M k).block.v (cpu_at M t).block.v e.weight (context_at M.contexts e.context_ref)) where
     pub moved_state : (move_entry runs (moving_of k t w M) e).state ≡ taken_in runs w e q (heavier (state_of k M))
     unfolding move_entry taken_in
-    moved_state = by_test (first_wins runs (picked_of w)) (λ f. rw (f, z)) (λ f. rw (f, z))
+    moved_state = by_test (first_wins runs w) (λ f. rw (f, z)) (λ f. rw (f, z))
 
   pub moved_victim : (move_entry runs (moving_of k t w M) e).victim ≡ give_up e (cpu_at M t)
   unfolding move_entry
-  moved_victim = by_test (first_wins runs (picked_of w)) (λ f. rw f) (λ f. rw f)
+  moved_victim = by_test (first_wins runs w) (λ f. rw f) (λ f. rw f)
 
-  pub moved_winner : {r : Picked} → r ≡ winner_in runs w e → picked_of r ≡ (move_entry runs (moving_of k t w M) e).winner
+  pub moved_winner : {r : Option ℕ} → r ≡ winner_in runs w e → r ≡ (move_entry runs (moving_of k t w M) e).winner
   unfolding move_entry
-  moved_winner i = by_test (first_wins runs (picked_of w)) (λ f. ap picked_of i ∙ rw f) (λ f. ap picked_of i ∙ rw f)
+  moved_winner i = by_test (first_wins runs w) (λ f. i ∙ rw f) (λ f. i ∙ rw f)
 
-pub entry_moved : {c n k t : ℕ} {m m1 m2 m3 : List ℕ} {full : Bool} {r w : Picked} (runs : Bool) (e : Entry) (x : ℕ) (q : Context) → k < c → t ≢ k → x ≡ e.context_ref
+pub entry_moved : {c n k t : ℕ} {m m1 m2 m3 : List ℕ} {full : Bool} {r w : Option ℕ} (runs : Bool) (e : Entry) (x : ℕ) (q : Context) → k < c → t ≢ k → x ≡ e.context_ref
     → ((M : Machine) → m ≡ encode M → Fits c n M → q ≡ moved (cpu_at M k).block.v (cpu_at M t).block.v e.weight (context_at M.contexts x))
     → Staged c n t m m1 false (λ (s : State). on_cpu (λ (p : Cpu). give_up e p) s)
     → Staged c n k m1 m2 false (λ (s : State). on_cpu (λ (p : Cpu). cpu_total_weight (p.block.total_weight + e.weight) p) s)
@@ -103,7 +110,7 @@ unfolding move_entry
 move_stays_full runs e v h = by_test (first_wins runs v.winner) (λ f. rw (f, h)) (λ f. rw (f, h))
 
 -- the entries, by their number
-module _ {c n k t : ℕ} {m m' : List ℕ} {full : Bool} {w w' : Picked} (runs : Bool) (got : Candidates) where
+module _ {c n k t : ℕ} {m m' : List ℕ} {full : Bool} {w w' : Option ℕ} (runs : Bool) (got : Candidates) where
   pub moved_nothing : got ≡ Nothing → Moves c n k t m m' full w w' (λ (v : Moving). v) → Moves c n k t m m' full w w' (λ (v : Moving). fold (move_entry runs) v (entries_of got))
   moved_nothing z h = subst (λ (g : Candidates). Moves c n k t m m' full w w' (λ (v : Moving). fold (move_entry runs) v (entries_of g))) (sym z) h
 

@@ -1,8 +1,8 @@
 -- How far the stealing can make values grow: virtual times at most b become at most 2 b + 2^30. Assumes nothing.
+use Rattle.std.specs.Prelude.{Option}
 use mathlib.Core.Path.{◌≡◌, refl, sym, subst}
 use mathlib.Core.Bool.{Bool, false}
 use mathlib.Core.List.{List, [], ◌∷◌}
-use mathlib.Core.Option.{Option}
 use Prim.Native.Nat.{ℕ, zero, suc, ◌+◌, ◌-◌, ◌*◌, ◌%◌, ◌<◌, ◌≤◌}
 use native.Mathlib.Omega.{arith}
 use lib.ListN.{length, get_or}
@@ -19,7 +19,6 @@ use Rattle.model.specs.Steal.{Stealing, Moving, move_entry, can_steal_from, want
 use Rattle.model.proofs.Lists.{all_map}
 use Rattle.stages.specs.Stage.{ContextBelow, CpuBelow, Below, Ranged}
 use Rattle.stages.proofs.Fitting.{all_of}
-use Rattle.picked.specs.declared.Picked.{Picked}
 use Rattle.steal.specs.Moves.{machine_of, Steals}
 use Rattle.steal.proofs.Round.{round_is, done_still}
 use Rattle.steal.proofs.Apart.{Apart, candidates_taken}
@@ -115,7 +114,7 @@ module _ {c n t : ℕ} (b k : ℕ) (runs : Bool) (locked : List ℕ) (w : Option
       }
 
 -- the image after
-pub steal_ranged : {c n t b k : ℕ} {m m' : List ℕ} {full : Bool} {w' : Picked} (runs : Bool) (locked : List ℕ) (w : Option ℕ) → k < c → full ≡ false
+pub steal_ranged : {c n t b k : ℕ} {m m' : List ℕ} {full : Bool} {w' : Option ℕ} (runs : Bool) (locked : List ℕ) (w : Option ℕ) → k < c → full ≡ false
     → Steals c n k m m' full w' (λ (M : Machine). steal k runs locked M.cpus w (state_of k M)) → Ranged c n t b m → Ranged c n t (2 * b + slice_bound) m'
 steal_ranged {b = b} {k = k} runs locked w h z s r =
     let p = s.steals r.M r.eq r.fits in

@@ -1,5 +1,5 @@
 -- The sums that a move makes: none overflows, of the first entry and of the second. Assumes nothing.
-use Rattle.std.specs.Prelude.{if◌then◌else◌}
+use Rattle.std.specs.Prelude.{if◌then◌else◌, Option}
 use mathlib.Core.Path.{◌≡◌, refl, sym, subst}
 use mathlib.Core.Bool.{Bool, false}
 use mathlib.Core.List.{List}
@@ -20,7 +20,6 @@ use Rattle.machine.proofs.Steps.{get_d_set}
 use Rattle.model.specs.State.{State, on_cpu, at}
 use Rattle.model.specs.Steal.{Moving, moved, first_wins, move_entry}
 use Rattle.stages.specs.Stage.{Staged, Ranged}
-use Rattle.picked.specs.declared.Picked.{Picked}
 use Rattle.steal.specs.Moves.{moving_of, put_moving, MovesAt, Moves, Movable}
 use Rattle.steal.proofs.Blocks.{weight_of}
 use Rattle.steal.proofs.Victims.{state_kept}
@@ -77,7 +76,7 @@ module _ (runs : Bool) (v : Moving) (e : Entry) where
   its_vtime : (if first_wins runs v.winner then its_record else with_new_key its_record).vtime ≡ v.state.cpu.block.v + (at v.state e.context_ref).vtime - v.victim.block.v
   its_vtime = by_test (first_wins runs v.winner) (λ f. rw f) (λ f. rw f)
 
-pub movable_second : {c n k t : ℕ} {m m1 : List ℕ} {full : Bool} {w w1 : Picked} (runs : Bool) (e : Entry) → k < c → t < c → Ranged c n t_timed b_charged m → EntryFits n e → full ≡ false
+pub movable_second : {c n k t : ℕ} {m m1 : List ℕ} {full : Bool} {w w1 : Option ℕ} (runs : Bool) (e : Entry) → k < c → t < c → Ranged c n t_timed b_charged m → EntryFits n e → full ≡ false
     → Moves c n k t m m1 full w w1 (λ (v : Moving). move_entry runs v e) → Movable c n k m1
 unfolding cpu_at
 movable_second {c = c} {n = n} {k = k} {t = t} {m1 = m1} {full = full} {w = w} {w1 = w1} runs e h g a f z s =

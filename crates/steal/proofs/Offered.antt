@@ -1,5 +1,5 @@
 -- The search's inner loop, over the entries that one CPU offers. Assumes nothing.
-use Rattle.std.specs.Prelude.{if◌then◌else◌}
+use Rattle.std.specs.Prelude.{if◌then◌else◌, Option}
 use mathlib.Core.Path.{◌≡◌, refl, sym, ap, ◌∙◌, subst}
 use mathlib.Core.Bool.{Bool, true, false}
 use mathlib.Core.List.{List, [], ◌∷◌, ◌++◌}
@@ -21,10 +21,8 @@ use Rattle.model.specs.State.{state_of}
 use Rattle.model.specs.Steal.{can_steal_from, want, candidates, take_candidate}
 use Rattle.model.proofs.EarlyExit.{enough_stays}
 use Rattle.stages.specs.Read.{EntryRead}
-use Rattle.picked.specs.declared.Picked.{Picked}
 use Rattle.steal_judge.specs.declared.Locked.{Locked}
 use Rattle.steal_judge.specs.declared.Candidates.{Candidates}
-use Rattle.picked.specs.Names.{picked_of}
 use Rattle.steal_judge.specs.Names.{locked_of, entries_of}
 use Rattle.steal.specs.Search.{offers}
 
@@ -38,16 +36,14 @@ module _ {A B : Type 0} where
   fold_take f b l i d h = rw (take-suc l i d h, fold_append f b (take i l) (get_or l i d ∷ []))
 
 -- the invariant, at entry j of CPU t
-pub record Inner (c n k len want : ℕ) (m : List ℕ) (w : Picked) (locked : Locked) (got : Candidates) (t j : ℕ) : Type 0 where
-  pub here : j ≤ len
+pub record Inner (c n k len want : ℕ) (m : List ℕ) (w : Option ℕ) (locked : Locked) (got : Candidates) (t j : ℕ) : Type 0 where
   pub few : length (entries_of got) < want
   pub entries : All (EntryFits n) (entries_of got)
-  pub is : (M : Machine) → m ≡ encode M → Fits c n M → entries_of got ≡ fold (take_candidate k (locked_of locked) M.contexts (picked_of w) want) [] (take j (cpu_at M t).queue)
+  pub is : (M : Machine) → m ≡ encode M → Fits c n M → entries_of got ≡ fold (take_candidate k (locked_of locked) M.contexts w want) [] (take j (cpu_at M t).queue)
 
-pub inner_first : {c n k len want : ℕ} {m : List ℕ} {w : Picked} {locked : Locked} {got : Candidates} {t : ℕ} → entries_of got ≡ [] → 1 ≤ want → Inner c n k len want m w locked got t 0
+pub inner_first : {c n k len want : ℕ} {m : List ℕ} {w : Option ℕ} {locked : Locked} {got : Candidates} {t : ℕ} → entries_of got ≡ [] → 1 ≤ want → Inner c n k len want m w locked got t 0
 inner_first {n = n} {want = want} e h =
     record {
-      here = omega arith;
       few = subst (λ (l : List Entry). length l < want) (sym e) (omega arith);
       entries = subst (All (EntryFits n)) (sym e) tt;
       is = λ M z o. e;
@@ -57,53 +53,53 @@ some_offered : (len : ℕ) (b : Bool) (x : ℕ) → len ≡ (if b then x else 0)
 some_offered len true x e h = (refl, e)
 some_offered len false x e h = absurd (omega arith)
 
-module _ {c n k len want' : ℕ} {m : List ℕ} {w : Picked} {locked : Locked} {got : Candidates} {t j : ℕ} (got' : Candidates)
+module _ {c n k len want' : ℕ} {m : List ℕ} {w : Option ℕ} {locked : Locked} {got : Candidates} {t j : ℕ} (got' : Candidates)
     (a : Inner c n k len want' m w locked got t j) (b : j < len)
     (off : (M : Machine) → m ≡ encode M → Fits c n M → len ≡ (if can_steal_from (state_of k M) (cpu_at M t) then length (cpu_at M t).queue else 0)) where
   -- one entry more
   inner_step : {e : Entry} → EntryRead c n t j m e
-      → ((M : Machine) → m ≡ encode M → Fits c n M → entries_of got' ≡ take_candidate k (locked_of locked) M.contexts (picked_of w) want' (entries_of got) e)
-      → (M : Machine) → m ≡ encode M → Fits c n M → entries_of got' ≡ fold (take_candidate k (locked_of locked) M.contexts (picked_of w) want') [] (take (j + 1) (cpu_at M t).queue)
+      → ((M : Machine) → m ≡ encode M → Fits c n M → entries_of got' ≡ take_candidate k (locked_of locked) M.contexts w want' (entries_of got) e)
+      → (M : Machine) → m ≡ encode M → Fits c n M → entries_of got' ≡ fold (take_candidate k (locked_of locked) M.contexts w want') [] (take (j + 1) (cpu_at M t).queue)
   inner_step {e} r s M z o =
       let d = some_offered len (can_steal_from (state_of k M) (cpu_at M t)) (length (cpu_at M t).queue) (off M z o) (omega arith) in
       let q : j < length (cpu_at M t).queue = subst (λ (x : ℕ). j < x) d.1 b in
       s M z o
-      ∙ ap (λ (g : List Entry). take_candidate k (locked_of locked) M.contexts (picked_of w) want' g e) (a.is M z o)
-      ∙ ap (take_candidate k (locked_of locked) M.contexts (picked_of w) want' (fold (take_candidate k (locked_of locked) M.contexts (picked_of w) want') [] (take j (cpu_at M t).queue))) (r.is M z o)
-      ∙ sym (rw (add-one j) (fold_take (take_candidate k (locked_of locked) M.contexts (picked_of w) want') [] (cpu_at M t).queue j no_entry q))
+      ∙ ap (λ (g : List Entry). take_candidate k (locked_of locked) M.contexts w want' g e) (a.is M z o)
+      ∙ ap (take_candidate k (locked_of locked) M.contexts w want' (fold (take_candidate k (locked_of locked) M.contexts w want') [] (take j (cpu_at M t).queue))) (r.is M z o)
+      ∙ sym (rw (add-one j) (fold_take (take_candidate k (locked_of locked) M.contexts w want') [] (cpu_at M t).queue j no_entry q))
 
   pub inner_next : {e : Entry} → EntryRead c n t j m e → All (EntryFits n) (entries_of got')
-      → ((M : Machine) → m ≡ encode M → Fits c n M → entries_of got' ≡ take_candidate k (locked_of locked) M.contexts (picked_of w) want' (entries_of got) e)
+      → ((M : Machine) → m ≡ encode M → Fits c n M → entries_of got' ≡ take_candidate k (locked_of locked) M.contexts w want' (entries_of got) e)
       → length (entries_of got') < want' → Inner c n k len want' m w locked got' t (j + 1)
-  inner_next r f s l = record { here = omega arith; few = l; entries = f; is = inner_step r s }
+  inner_next r f s l = record { few = l; entries = f; is = inner_step r s }
 
   -- enough are found
   pub inner_enough : {e : Entry} → EntryRead c n t j m e
-      → ((M : Machine) → m ≡ encode M → Fits c n M → entries_of got' ≡ take_candidate k (locked_of locked) M.contexts (picked_of w) want' (entries_of got) e)
+      → ((M : Machine) → m ≡ encode M → Fits c n M → entries_of got' ≡ take_candidate k (locked_of locked) M.contexts w want' (entries_of got) e)
       → ((M : Machine) → m ≡ encode M → Fits c n M → want' ≡ want (state_of k M) (cpu_at M t)) → want' ≤ length (entries_of got')
-      → (M : Machine) → m ≡ encode M → Fits c n M → entries_of got' ≡ offers k (locked_of locked) (picked_of w) (state_of k M) (cpu_at M t)
+      → (M : Machine) → m ≡ encode M → Fits c n M → entries_of got' ≡ offers k (locked_of locked) w (state_of k M) (cpu_at M t)
   unfolding offers candidates
   inner_enough r s v l M z o =
       let d = some_offered len (can_steal_from (state_of k M) (cpu_at M t)) (length (cpu_at M t).queue) (off M z o) (omega arith) in
-      let f : List Entry → Entry → List Entry = take_candidate k (locked_of locked) M.contexts (picked_of w) want' in
+      let f : List Entry → Entry → List Entry = take_candidate k (locked_of locked) M.contexts w want' in
       let y : entries_of got' ≡ fold f [] (take (j + 1) (cpu_at M t).queue) = inner_step r s M z o in
       let g : ltb (length (entries_of got')) want' ≡ false = le-ltb (length (entries_of got')) want' l in
       let u : fold f (entries_of got') (drop (j + 1) (cpu_at M t).queue) ≡ entries_of got' =
-      enough_stays k (locked_of locked) M.contexts (picked_of w) want' (entries_of got') (drop (j + 1) (cpu_at M t).queue) g in
+      enough_stays k (locked_of locked) M.contexts w want' (entries_of got') (drop (j + 1) (cpu_at M t).queue) g in
       let x : fold f [] (cpu_at M t).queue ≡ entries_of got' =
       ap (fold f []) (sym (take-append-drop (j + 1) (cpu_at M t).queue)) ∙ fold_append f [] (take (j + 1) (cpu_at M t).queue) (drop (j + 1) (cpu_at M t).queue)
       ∙ ap (λ (i : List Entry). fold f i (drop (j + 1) (cpu_at M t).queue)) (sym y) ∙ u in
       rw (d.0, ← v M z o) (sym x)
 
 -- all entries were looked at
-pub inner_all : {c n k len want' : ℕ} {m : List ℕ} {w : Picked} {locked : Locked} {got : Candidates} {t j : ℕ} → Inner c n k len want' m w locked got t j → len ≤ j
+pub inner_all : {c n k len want' : ℕ} {m : List ℕ} {w : Option ℕ} {locked : Locked} {got : Candidates} {t j : ℕ} → Inner c n k len want' m w locked got t j → j ≤ len → len ≤ j
     → ((M : Machine) → m ≡ encode M → Fits c n M → len ≡ (if can_steal_from (state_of k M) (cpu_at M t) then length (cpu_at M t).queue else 0))
     → ((M : Machine) → m ≡ encode M → Fits c n M → want' ≡ want (state_of k M) (cpu_at M t))
-    → (M : Machine) → m ≡ encode M → Fits c n M → entries_of got ≡ offers k (locked_of locked) (picked_of w) (state_of k M) (cpu_at M t)
+    → (M : Machine) → m ≡ encode M → Fits c n M → entries_of got ≡ offers k (locked_of locked) w (state_of k M) (cpu_at M t)
 unfolding offers candidates
-inner_all {k = k} {len = len} {want' = want'} {w = w} {locked = locked} {t = t} {j = j} a b off v M z o =
+inner_all {k = k} {len = len} {want' = want'} {w = w} {locked = locked} {t = t} {j = j} a g b off v M z o =
     by_test (can_steal_from (state_of k M) (cpu_at M t))
     (λ y. let l : len ≡ length (cpu_at M t).queue = rw y at (off M z o) in
-    rw (y, ← v M z o) (a.is M z o ∙ ap (fold (take_candidate k (locked_of locked) M.contexts (picked_of w) want') []) (take_all j (cpu_at M t).queue (omega (arith, l)))))
-    (λ y. let l : len ≡ 0 = rw y at (off M z o) in let g : j ≡ 0 = omega (arith, a.here) in
-    rw y (a.is M z o ∙ rw g))
+    rw (y, ← v M z o) (a.is M z o ∙ ap (fold (take_candidate k (locked_of locked) M.contexts w want') []) (take_all j (cpu_at M t).queue (omega (arith, l)))))
+    (λ y. let l : len ≡ 0 = rw y at (off M z o) in let e : j ≡ 0 = omega arith in
+    rw y (a.is M z o ∙ rw e))

@@ -1,4 +1,5 @@
 -- The search's outer loop, round the CPUs. Assumes nothing.
+use Rattle.std.specs.Prelude.{Option}
 use mathlib.Core.Path.{◌≡◌, refl, sym, ap, ◌∙◌, subst}
 use mathlib.Core.Bool.{Bool, true}
 use mathlib.Core.List.{List, [], ◌∷◌}
@@ -19,10 +20,8 @@ use Rattle.machine.specs.Shape.{EntryFits, Fits}
 use Rattle.model.specs.State.{state_of}
 use Rattle.model.specs.Steal.{Stealing, can_steal_from, targets, steal_entries, steal_from}
 use Rattle.model.proofs.EarlyExit.{fold_still}
-use Rattle.picked.specs.declared.Picked.{Picked}
 use Rattle.steal_judge.specs.declared.Locked.{Locked}
 use Rattle.steal_judge.specs.declared.Candidates.{Candidates}
-use Rattle.picked.specs.Names.{picked_of}
 use Rattle.steal_judge.specs.Names.{locked_of, entries_of}
 use Rattle.steal.specs.Search.{offers, Begins, Passed, Searched}
 
@@ -51,14 +50,14 @@ round_is k c i h l =
     let d : k + (i + 1) - c < c = omega arith in
     let b : (k + (i + 1)) % c ≡ k + (i + 1) - c = mod-eq-sub-mod a ∙ mod-eq_of_lt d in (omega arith, λ z. omega arith))
 
-module _ {c k : ℕ} {M : Machine} {w : Picked} (locked : List ℕ) (runs : Bool) (l : Stealing) (b : Begins c k M w l) (t : ℕ) (o : t ≢ k) where
-  from_is : steal_from k runs locked l t ≡ steal_entries runs l t (cpu_at M t) (offers k locked (picked_of w) (state_of k M) (cpu_at M t))
+module _ {c k : ℕ} {M : Machine} {w : Option ℕ} (locked : List ℕ) (runs : Bool) (l : Stealing) (b : Begins c k M w l) (t : ℕ) (o : t ≢ k) where
+  from_is : steal_from k runs locked l t ≡ steal_entries runs l t (cpu_at M t) (offers k locked w (state_of k M) (cpu_at M t))
   unfolding steal_from offers steal_entries
   from_is =
       rw (b.done, b.others t o, b.state, b.winner)
       (by_test (can_steal_from (state_of k M) (cpu_at M t)) (λ z. rw z) (λ z. rw z))
 
-  from_nothing : offers k locked (picked_of w) (state_of k M) (cpu_at M t) ≡ [] → steal_from k runs locked l t ≡ l
+  from_nothing : offers k locked w (state_of k M) (cpu_at M t) ≡ [] → steal_from k runs locked l t ≡ l
   unfolding steal_entries
   from_nothing e = from_is ∙ rw e
 
@@ -71,9 +70,9 @@ pub done_still : (k : ℕ) (runs : Bool) (locked : List ℕ) (l : Stealing) → 
 unfolding steal_from
 done_still k runs locked l e t = rw e
 
-module _ {c n k : ℕ} {m : List ℕ} {w : Picked} {locked : Locked} {got : Candidates} {t i : ℕ} (h : k < c) (p : Passed c n k i m w locked) where
+module _ {c n k : ℕ} {m : List ℕ} {w : Option ℕ} {locked : Locked} {got : Candidates} {t i : ℕ} (h : k < c) (p : Passed c n k i m w locked) where
   -- a victim was found
-  pub found : i < c - 1 → t ≡ (k + (i + 1)) % c → ((M : Machine) → m ≡ encode M → Fits c n M → entries_of got ≡ offers k (locked_of locked) (picked_of w) (state_of k M) (cpu_at M t))
+  pub found : i < c - 1 → t ≡ (k + (i + 1)) % c → ((M : Machine) → m ≡ encode M → Fits c n M → entries_of got ≡ offers k (locked_of locked) w (state_of k M) (cpu_at M t))
       → (entries_of got ≡ [] → ⊥) → All (EntryFits n) (entries_of got) → Searched c n k m w locked (record { cpu = t; got = got })
   unfolding targets
   found l z o y a =
@@ -110,9 +109,9 @@ module _ {c n k : ℕ} {m : List ℕ} {w : Picked} {locked : Locked} {got : Cand
           (fold_none (steal_from k runs (locked_of locked)) s s (c - 1) (λ (j : ℕ). (k + (j + 1)) % c)
           (λ j r. from_nothing (locked_of locked) runs s b _ (round_is k c j h r).1 (p.none M z u j (omega arith))))
 
-module _ {c n k : ℕ} {m : List ℕ} {w : Picked} {locked : Locked} {i : ℕ} (p : Passed c n k i m w locked) where
+module _ {c n k : ℕ} {m : List ℕ} {w : Option ℕ} {locked : Locked} {i : ℕ} (p : Passed c n k i m w locked) where
   -- one CPU more gives up nothing
-  pub passed_next : ((M : Machine) → m ≡ encode M → Fits c n M → [] ≡ offers k (locked_of locked) (picked_of w) (state_of k M) (cpu_at M ((k + (i + 1)) % c))) → Passed c n k (i + 1) m w locked
+  pub passed_next : ((M : Machine) → m ≡ encode M → Fits c n M → [] ≡ offers k (locked_of locked) w (state_of k M) (cpu_at M ((k + (i + 1)) % c))) → Passed c n k (i + 1) m w locked
   passed_next o =
       record {
         none = λ M e u j l.
@@ -120,12 +119,11 @@ module _ {c n k : ℕ} {m : List ℕ} {w : Picked} {locked : Locked} {i : ℕ} (
             (λ q. let g : i ≤ j = ltb-false j i q in let r : i ≡ j = omega arith in rw (← r) (sym (o M e u)));
       }
 
-pub passed_none : {c n k : ℕ} {m : List ℕ} {w : Picked} {locked : Locked} → Passed c n k 0 m w locked
+pub passed_none : {c n k : ℕ} {m : List ℕ} {w : Option ℕ} {locked : Locked} → Passed c n k 0 m w locked
 passed_none = record { none = λ M e u j l. absurd (omega arith) }
 
 -- the invariant
-pub record Outer (c n k : ℕ) (m : List ℕ) (w : Picked) (locked : Locked) (got : Candidates) (t i : ℕ) : Type 0 where
-  pub here : i ≤ c - 1
+pub record Outer (c n k : ℕ) (m : List ℕ) (w : Option ℕ) (locked : Locked) (got : Candidates) (t i : ℕ) : Type 0 where
   pub none : entries_of got ≡ []
   pub cpu : t < c
   pub passed : Passed c n k i m w locked

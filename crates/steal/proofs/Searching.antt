@@ -1,9 +1,8 @@
 -- What the search reads and judges. Assumes nothing.
-use Rattle.std.specs.Prelude.{if◌then◌else◌}
+use Rattle.std.specs.Prelude.{if◌then◌else◌, None, Option, Some}
 use mathlib.Core.Path.{◌≡◌, refl, sym, ap, ◌∙◌, subst}
 use mathlib.Core.Bool.{Bool, true, false, not, ◌&&◌}
 use mathlib.Core.List.{List, [], ◌∷◌, ◌++◌}
-use mathlib.Core.Option.{Option}
 use Prim.Native.Nat.{ℕ, ◌+◌, ◌-◌, ◌/◌, ◌<◌, min, max}
 use native.Mathlib.Omega.{arith}
 use lib.Dec.{eqb}
@@ -16,8 +15,6 @@ use Rattle.cpu_set.specs.Set.{contains}
 use Rattle.entries.specs.declared.Entry.{Entry}
 use Rattle.percpu.specs.declared.PercpuBlock.{PercpuBlock}
 use Rattle.percpu.specs.Cpu.{Cpu}
-use Rattle.machine.specs.declared.CpuLookup.{CpuLookup}
-use Rattle.machine.specs.declared.CpuLookup.TheVariants.{Present, Absent}
 use Rattle.machine.specs.Machine.{Machine, context_at, cpu_at}
 use Rattle.machine.specs.Encode.{encode}
 use Rattle.machine.specs.Shape.{EntryFits, Fits, Image}
@@ -40,18 +37,18 @@ module _ (s : State) (b : PercpuBlock) (len : ℕ) (e : b ≡ s.cpu.block) (l : 
       in rw z (omega (arith, l))
 
 -- the victim, which the code looked up by the word u of its number t; l is the answer
-module _ {c n : ℕ} {m : List ℕ} (i : Image c n m) {u t : ℕ} (z : u ≡ t) (h : t < c) {l : CpuLookup} (f : (M : Machine) → m ≡ encode M → Fits c n M → l ≡ get_percpu_block M u) where
+module _ {c n : ℕ} {m : List ℕ} (i : Image c n m) {u t : ℕ} (z : u ≡ t) (h : t < c) {l : Option ℕ} (f : (M : Machine) → m ≡ encode M → Fits c n M → l ≡ get_percpu_block M u) where
   asked : (M : Machine) → m ≡ encode M → Fits c n M → l ≡ get_percpu_block M t
   asked M e o = f M e o ∙ ap (get_percpu_block M) z
 
-  pub victim_absent : l ≡ Absent → (k : ℕ) (M : Machine) → m ≡ encode M → Fits c n M → false ≡ can_steal_from (state_of k M) (cpu_at M t)
+  pub victim_absent : l ≡ None → (k : ℕ) (M : Machine) → m ≡ encode M → Fits c n M → false ≡ can_steal_from (state_of k M) (cpu_at M t)
   unfolding can_steal_from
   victim_absent a k M e o = rw (absent_at i t h asked a M e o)
 
-  pub victim_below : {v : ℕ} → l ≡ Present v → v < c
+  pub victim_below : {v : ℕ} → l ≡ Some v → v < c
   victim_below a = rw (present_is i t h asked a) h
 
-  pub victim_judged : {v : ℕ} → l ≡ Present v → (k : ℕ) (M : Machine) → m ≡ encode M → Fits c n M → (b : PercpuBlock) {p len load : ℕ} {r : Bool}
+  pub victim_judged : {v : ℕ} → l ≡ Some v → (k : ℕ) (M : Machine) → m ≡ encode M → Fits c n M → (b : PercpuBlock) {p len load : ℕ} {r : Bool}
       → b ≡ (cpu_at M v).block → p ≡ b.queue_len → len ≡ length (cpu_at M v).queue → load ≡ my_load (state_of k M)
       → r ≡ has_enough b.stealable p b.queue_locked len load → r ≡ can_steal_from (state_of k M) (cpu_at M t)
   unfolding has_enough can_steal_from

@@ -1,4 +1,5 @@
 -- The stealing as a whole. Assumes nothing.
+use Rattle.std.specs.Prelude.{Option, is_some}
 use mathlib.Core.Path.{◌≡◌, refl, sym, ap, ◌∙◌, subst}
 use mathlib.Core.Bool.{Bool, true, false}
 use mathlib.Core.List.{List, [], ◌∷◌}
@@ -20,21 +21,18 @@ use Rattle.model.specs.State.{State, state_of, on_cpu}
 use Rattle.model.specs.Steal.{Stealing, Moving, count_steal, should_steal, move_entry, after_moving, steal_entries, steal}
 use Rattle.stages.specs.Stage.{Staged, Ranged, CpuBelow, put_state}
 use Rattle.stages.proofs.Compose.{state_put}
-use Rattle.picked.specs.declared.Picked.{Picked}
 use Rattle.steal_judge.specs.declared.Locked.{Locked}
-use Rattle.picked.specs.Names.{picked_of, is_some}
 use Rattle.steal_judge.specs.Names.{locked_of, entries_of}
 use Rattle.steal_judge.specs.Judged.{interval}
-use Rattle.steal_judge.proofs.Judging.{some_of}
 use Rattle.steal.specs.declared.search.Victim.{Victim}
 use Rattle.steal.specs.Search.{Begins, Searched}
 use Rattle.steal.specs.Moves.{moving_of, put_moving, Moves, finished, machine_of, StealsAt, Steals}
 use Rattle.steal.proofs.Below.{below_counted}
 use Rattle.steal.proofs.Victims.{set_other}
 
-pub due_is : (s : State) (w : Picked) (b : PercpuBlock) {some r : Bool} → b ≡ s.cpu.block → some ≡ is_some w
-    → r ≡ eqb (b.steal_counter % interval (eqb b.sched_ctxt b.idle_ctxt) some) 0 → r ≡ should_steal s (picked_of w)
-due_is s w b e z h = h ∙ rw (z, e, some_of w)
+pub due_is : (s : State) (w : Option ℕ) (b : PercpuBlock) {some r : Bool} → b ≡ s.cpu.block → some ≡ is_some w
+    → r ≡ eqb (b.steal_counter % interval (eqb b.sched_ctxt b.idle_ctxt) some) 0 → r ≡ should_steal s w
+due_is s w b e z h = h ∙ rw (z, e)
 
 -- the counter is stored: k's state, and the machine then
 module _ {c n k : ℕ} {m m1 : List ℕ} (h : k < c) (a : Staged c n k m m1 false (λ (s : State). on_cpu (λ (p : Cpu). count_steal p) s)) where
@@ -52,9 +50,9 @@ module _ {c n k : ℕ} {m m1 : List ℕ} (h : k < c) (a : Staged c n k m m1 fals
         };
       }
 
-  module _ (w : Picked) where
+  module _ (w : Option ℕ) where
     abbrev start : Machine → Stealing
-    start M = record { state = on_cpu count_steal (state_of k M); cpus = M.cpus; winner = picked_of w; done = false }
+    start M = record { state = on_cpu count_steal (state_of k M); cpus = M.cpus; winner = w; done = false }
 
     abbrev counted : Machine → Machine
     counted M = put_state k (on_cpu count_steal (state_of k M)) M
@@ -77,22 +75,22 @@ module _ {c n k : ℕ} {m m1 : List ℕ} (h : k < c) (a : Staged c n k m m1 fals
 
     module _ (runs : Bool) (locked : Locked) where
       abbrev all : Machine → Stealing
-      all M = steal k runs (locked_of locked) M.cpus (picked_of w) (state_of k M)
+      all M = steal k runs (locked_of locked) M.cpus w (state_of k M)
 
       -- stealing is not due
-      pub not_due : {r : Bool} → ((M : Machine) → m ≡ encode M → Fits c n M → r ≡ should_steal (state_of k M) (picked_of w)) → r ≡ false → Steals c n k m m1 false w all
+      pub not_due : {r : Bool} → ((M : Machine) → m ≡ encode M → Fits c n M → r ≡ should_steal (state_of k M) w) → r ≡ false → Steals c n k m m1 false w all
       unfolding steal
       not_due d z =
           record {
             image = a.image;
-            steals = λ M e o. let y : should_steal (state_of k M) (picked_of w) ≡ false = sym (d M e o) ∙ z in subst (StealsAt c n k m1 false w) (rw y) (at_start M e o);
+            steals = λ M e o. let y : should_steal (state_of k M) w ≡ false = sym (d M e o) ∙ z in subst (StealsAt c n k m1 false w) (rw y) (at_start M e o);
           }
 
-      module _ {r : Bool} (d : (M : Machine) → m ≡ encode M → Fits c n M → r ≡ should_steal (state_of k M) (picked_of w)) (z : r ≡ true) (v : Victim) (s : Searched c n k m1 w locked v) where
+      module _ {r : Bool} (d : (M : Machine) → m ≡ encode M → Fits c n M → r ≡ should_steal (state_of k M) w) (z : r ≡ true) (v : Victim) (s : Searched c n k m1 w locked v) where
         all_is : (M : Machine) → m ≡ encode M → Fits c n M → all M ≡ steal_entries runs (start M) v.cpu (cpu_at (counted M) v.cpu) (entries_of v.got)
         unfolding steal
         all_is M e o =
-            let y : should_steal (state_of k M) (picked_of w) ≡ true = sym (d M e o) ∙ z in
+            let y : should_steal (state_of k M) w ≡ true = sym (d M e o) ∙ z in
             let p = a.stage M e o in
             rw (y, o.cpus) (s.is (counted M) (p.after refl) (p.fits refl) runs (start M) (begins M o))
 
@@ -116,7 +114,7 @@ module _ {c n k : ℕ} {m m1 : List ℕ} (h : k < c) (a : Staged c n k m m1 fals
             (ap (λ (l : List Cpu). set l k (finished u).state.cpu) (set_other M.cpus k v.cpu (count_steal (cpu_at M k)) (finished u).victim o)
             ∙ set-set (set M.cpus v.cpu (finished u).victim) k (count_steal (cpu_at M k)) (finished u).state.cpu)
 
-        pub robbed : {m2 : List ℕ} {full : Bool} {w' : Picked} → (entries_of v.got ≡ [] → ⊥)
+        pub robbed : {m2 : List ℕ} {full : Bool} {w' : Option ℕ} → (entries_of v.got ≡ [] → ⊥)
             → Moves c n k v.cpu m1 m2 full w w' (λ (u : Moving). finished (fold (move_entry runs) u (entries_of v.got))) → Steals c n k m m2 full w' all
         robbed {m2} {full} {w'} q g =
             record {
@@ -127,7 +125,7 @@ module _ {c n k : ℕ} {m m1 : List ℕ} (h : k < c) (a : Staged c n k m m1 fals
                   let u : Moving = fold (move_entry runs) (moving_of k v.cpu w (counted M)) (entries_of v.got) in
                   let y : all M ≡ after_moving v.cpu M.cpus u =
                   all_is M e o ∙ entries_as (start M) v.cpu (cpu_at (counted M) v.cpu) (entries_of v.got) q
-                  ∙ ap (λ (x : State). after_moving v.cpu M.cpus (fold (move_entry runs) (record { state = x; victim = cpu_at (counted M) v.cpu; winner = picked_of w }) (entries_of v.got))) (sym (start_state M o)) in
+                  ∙ ap (λ (x : State). after_moving v.cpu M.cpus (fold (move_entry runs) (record { state = x; victim = cpu_at (counted M) v.cpu; winner = w }) (entries_of v.got))) (sym (start_state M o)) in
                   let x : put_moving k v.cpu (finished u) (counted M) ≡ machine_of k (after_moving v.cpu M.cpus u) = machine_as M u (s.other q) in
                   subst (StealsAt c n k m2 full w') (sym y)
                   (record {

@@ -1,4 +1,5 @@
 -- Two CPUs of the machine: the victim t changes, then this one, k. Assumes nothing.
+use Rattle.std.specs.Prelude.{Option}
 use mathlib.Core.Path.{◌≡◌, refl, sym, ap, ◌∙◌, subst}
 use mathlib.Core.Bool.{Bool, true, false}
 use mathlib.Core.List.{List, [], ◌∷◌}
@@ -15,8 +16,6 @@ use Rattle.machine.specs.Shape.{Fits, Image}
 use Rattle.model.specs.State.{State, state_of, on_cpu}
 use Rattle.model.specs.Steal.{Moving}
 use Rattle.stages.specs.Stage.{Stage, Staged, put_state}
-use Rattle.picked.specs.declared.Picked.{Picked}
-use Rattle.picked.specs.Names.{picked_of}
 use Rattle.steal.specs.Moves.{moving_of, put_moving, Moves}
 
 pub set_other : {A : Type 0} (l : List A) (i j : ℕ) (a b : A) → j ≢ i → set (set l i a) j b ≡ set (set l j b) i a
@@ -32,9 +31,9 @@ unfolding cpu_at
 state_kept k t M p d = λ i. record { contexts = M.contexts; cpu = get_or-set_other M.cpus t k p no_cpu d i; no_room = false }
 
 -- t is changed by G, then k is changed by a stage: v is what that comes to
-pub victim_then : {R : Type 0} {c n k t : ℕ} {m m1 m2 : List ℕ} {full : Bool} {r : R} {f : State → State} {g : State → R} {w w' : Picked} (G : Cpu → Cpu) (F : Moving → Moving) → t ≢ k
+pub victim_then : {R : Type 0} {c n k t : ℕ} {m m1 m2 : List ℕ} {full : Bool} {r : R} {f : State → State} {g : State → R} {w w' : Option ℕ} (G : Cpu → Cpu) (F : Moving → Moving) → t ≢ k
     → Staged c n t m m1 false (λ (s : State). on_cpu G s) → Stage c n k m1 m2 full r f g
-    → ((M : Machine) → m ≡ encode M → Fits c n M → ((F (moving_of k t w M)).state ≡ f (state_of k M)) × ((F (moving_of k t w M)).victim ≡ G (cpu_at M t)) × (r ≡ g (state_of k M) → picked_of w' ≡ (F (moving_of k t w M)).winner))
+    → ((M : Machine) → m ≡ encode M → Fits c n M → ((F (moving_of k t w M)).state ≡ f (state_of k M)) × ((F (moving_of k t w M)).victim ≡ G (cpu_at M t)) × (r ≡ g (state_of k M) → w' ≡ (F (moving_of k t w M)).winner))
     → Moves c n k t m m2 full w w' F
 victim_then {c = c} {n = n} {k = k} {t = t} {m2 = m2} {full = full} {f = f} {g = g} {w = w} {w' = w'} G F d u s h =
     record {
@@ -56,7 +55,7 @@ victim_then {c = c} {n = n} {k = k} {t = t} {m2 = m2} {full = full} {f = f} {g =
     }
 
 -- what was put back
-pub moving_put : (k t : ℕ) (w : Picked) (v : Moving) (M : Machine) → k < length M.cpus → t < length M.cpus → t ≢ k → v.state.no_room ≡ false → picked_of w ≡ v.winner
+pub moving_put : (k t : ℕ) (w : Option ℕ) (v : Moving) (M : Machine) → k < length M.cpus → t < length M.cpus → t ≢ k → v.state.no_room ≡ false → w ≡ v.winner
     → moving_of k t w (put_moving k t v M) ≡ v
 unfolding cpu_at
 moving_put k t w v M h g d e z = λ i.
@@ -77,7 +76,7 @@ put_twice k t v v' M d =
     (set_other (set M.cpus t v.victim) k t v.state.cpu v'.victim d ∙ ap (λ (l : List Cpu). set l k v.state.cpu) (set-set M.cpus t v.victim v'.victim))
     ∙ set-set (set M.cpus t v'.victim) k v.state.cpu v'.state.cpu)
 
-module _ {c n k t : ℕ} {m m1 m2 : List ℕ} {w w1 w2 : Picked} {f : Moving → Moving} (f' : Moving → Moving) where
+module _ {c n k t : ℕ} {m m1 m2 : List ℕ} {w w1 w2 : Option ℕ} {f : Moving → Moving} (f' : Moving → Moving) where
   -- moves that had room, then others
   pub moves_then : {full : Bool} → k < c → t < c → t ≢ k → {full1 : Bool} → full1 ≡ false → Moves c n k t m m1 full1 w w1 f → Moves c n k t m1 m2 full w1 w2 f' → Moves c n k t m m2 full w w2 (λ (v : Moving). f' (f v))
   moves_then h g d z a b =
@@ -118,7 +117,7 @@ module _ {c n k t : ℕ} {m m1 m2 : List ℕ} {w w1 w2 : Picked} {f : Moving →
       }
 
 -- nothing moved
-pub moves_none : {c n k t : ℕ} {m : List ℕ} {w : Picked} → Image c n m → Moves c n k t m m false w w (λ (v : Moving). v)
+pub moves_none : {c n k t : ℕ} {m : List ℕ} {w : Option ℕ} → Image c n m → Moves c n k t m m false w w (λ (v : Moving). v)
 unfolding cpu_at
 moves_none {c} {n} {k} {t} {m} {w} i =
     record {

@@ -1,6 +1,5 @@
 -- The search for a victim: what the code finds, in the definition's words. Assumes nothing.
-use Rattle.std.specs.Prelude.{◌≡◌, Bool, false, List, [], ◌≢◌, ℕ, ◌+◌, ◌%◌, ◌<◌, get_or, if◌then◌else◌}
-use Rattle.std.proofs.Math.Option.{Option}
+use Rattle.std.specs.Prelude.{◌≡◌, Bool, false, List, [], ◌≢◌, ℕ, ◌+◌, ◌%◌, ◌<◌, get_or, if◌then◌else◌, Option}
 use Rattle.columns.specs.Common.{fold, All}
 use Rattle.entries.specs.declared.Entry.{Entry}
 use Rattle.percpu.specs.Cpu.{Cpu}
@@ -9,9 +8,7 @@ use Rattle.machine.specs.Encode.{encode}
 use Rattle.machine.specs.Shape.{EntryFits, Fits}
 use Rattle.model.specs.State.{State, state_of}
 use Rattle.model.specs.Steal.{Stealing, can_steal_from, want, candidates, targets, steal_entries, steal_from}
-use Rattle.picked.specs.declared.Picked.{Picked}
 use Rattle.steal_judge.specs.declared.Locked.{Locked}
-use Rattle.picked.specs.Names.{picked_of}
 use Rattle.steal_judge.specs.Names.{locked_of, entries_of}
 use Rattle.steal.specs.declared.search.Victim.{Victim}
 
@@ -20,18 +17,18 @@ unfoldable pub offers : (k : ℕ) (locked : List ℕ) → Option ℕ → State �
 offers k locked w s v = if can_steal_from s v then candidates k locked s.contexts w (want s v) v.queue else []
 
 -- where the search begins: the state of CPU k of M, and M's other CPUs
-pub record Begins (c k : ℕ) (M : Machine) (w : Picked) (l : Stealing) : Type 0 where
+pub record Begins (c k : ℕ) (M : Machine) (w : Option ℕ) (l : Stealing) : Type 0 where
   pub state : l.state ≡ state_of k M
   pub others : (t : ℕ) → t ≢ k → get_or l.cpus t no_cpu ≡ cpu_at M t
-  pub winner : l.winner ≡ picked_of w
+  pub winner : l.winner ≡ w
   pub done : l.done ≡ false
 
 -- the first i CPUs of the round give up nothing
-pub record Passed (c n k i : ℕ) (m : List ℕ) (w : Picked) (locked : Locked) : Type 0 where
-  pub none : (M : Machine) → m ≡ encode M → Fits c n M → (j : ℕ) → j < i → offers k (locked_of locked) (picked_of w) (state_of k M) (cpu_at M ((k + (j + 1)) % c)) ≡ []
+pub record Passed (c n k i : ℕ) (m : List ℕ) (w : Option ℕ) (locked : Locked) : Type 0 where
+  pub none : (M : Machine) → m ≡ encode M → Fits c n M → (j : ℕ) → j < i → offers k (locked_of locked) w (state_of k M) (cpu_at M ((k + (j + 1)) % c)) ≡ []
 
 -- the whole round is as stealing from CPU r.cpu what was found there; nothing where nothing was found
-pub record Searched (c n k : ℕ) (m : List ℕ) (w : Picked) (locked : Locked) (r : Victim) : Type 0 where
+pub record Searched (c n k : ℕ) (m : List ℕ) (w : Option ℕ) (locked : Locked) (r : Victim) : Type 0 where
   pub is : (M : Machine) → m ≡ encode M → Fits c n M → (runs : Bool) (l : Stealing) → Begins c k M w l
       → fold (steal_from k runs (locked_of locked)) l (targets k c) ≡ steal_entries runs l r.cpu (cpu_at M r.cpu) (entries_of r.got)
   pub cpu : r.cpu < c

@@ -20,7 +20,7 @@ pub fn give_up(b: &mut [u64], e: Entry)
 {
     let key = e.key;
     run_queue::remove(b, key);
-    b[places::TOTAL_WEIGHT] = numbers::saturating_sub(b[places::TOTAL_WEIGHT], e.weight);
+    b[places::TOTAL_WEIGHT] = b[places::TOTAL_WEIGHT].saturating_sub(e.weight);
 }
 
 pub fn add_weight(b: &mut [u64], weight: u64)

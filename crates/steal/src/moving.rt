@@ -1,5 +1,5 @@
-// Entries moved from the victim's queue to this CPU.
-ghost use Rattle.std.specs.Prelude.{◌≡◌, ◌≢◌, ◌<◌, ◌≤◌};
+// Entries moved from the victim's queue to this CPU. A move says who has won then.
+ghost use Rattle.std.specs.Prelude.{◌≡◌, ◌≢◌, ◌<◌, ◌≤◌, is_err};
 ghost use Rattle.columns.specs.Common.{fold, All};
 ghost use Rattle.machine.specs.Machine.{Machine, cpu_at, context_at};
 ghost use Rattle.machine.specs.Encode.{encode};
@@ -7,9 +7,8 @@ ghost use Rattle.machine.specs.Shape.{ContextFits, EntryFits, Image, Fits};
 ghost use Rattle.model.specs.State.{State, insert_entry, put_context};
 ghost use Rattle.model.specs.Steal.{Moving, moved, first_wins, move_entry};
 ghost use Rattle.stages.specs.Stage.{Stage, Staged, Ranged};
-ghost use Rattle.picked.specs.Names.{picked_of};
 ghost use Rattle.steal_judge.specs.Names.{entries_of};
-ghost use Rattle.steal.specs.Moves.{Moves, Movable, taken_in, winner_in, finished};
+ghost use Rattle.steal.specs.Moves.{Moves, Movable, taken_in, winner_in, winner_of, finished};
 ghost use Rattle.weights.specs.Weights.{min_weight};
 ghost use Rattle.stages.specs.Bounds.{t_timed, b_charged};
 ghost use Rattle.context.specs.Key.{with_new_key, entry_of};
@@ -17,15 +16,8 @@ ghost use Rattle.context.specs.Key.{with_new_key, entry_of};
 use crate::cpu;
 use context::Context;
 use entries::Entry;
-use picked::Picked;
+use stages::NoRoom;
 use steal_judge::Candidates;
-
-// who won, and whether an insertion found no room
-#[derive(Clone, Copy)]
-pub struct Moved {
-    pub winner: Picked,
-    pub full: bool,
-}
 
 // The record of context x as it will stand on this CPU.
 fn stolen(m: &[u64], c: usize, n: usize, k: usize, t: usize, x: usize, weight: u64) -> Context
@@ -40,12 +32,12 @@ fn stolen(m: &[u64], c: usize, n: usize, k: usize, t: usize, x: usize, weight: u
     steal_judge::stolen::moved(q, here.v, there.v, weight)
 }
 
-fn first_wins(runs: bool, w: Picked) -> bool
-    ensures { result ≡ first_wins runs (picked_of w) }
+fn first_wins(runs: bool, w: Option<usize>) -> bool
+    ensures { result ≡ first_wins runs w }
 {
     match w {
-        Picked::Nobody => !runs,
-        Picked::Somebody(_) => false,
+        None => !runs,
+        Some(_) => false,
     }
 }
 
@@ -56,35 +48,37 @@ fn take_in(
     n: usize,
     k: usize,
     runs: bool,
-    w: Picked,
+    w: Option<usize>,
     e: Entry,
     q: Context,
-) -> Moved
+) -> Result<Option<usize>, NoRoom>
     requires image { Image c n m.old }
     requires k_lt_c { (k < c) × (EntryFits n e) }
     requires context_fits { ContextFits c q }
-    ensures { Stage c n k m.old m.new result.full result.winner (λ (s : State). taken_in runs w e q s) (λ (s : State). winner_in runs w e) }
+    ensures { Stage c n k m.old m.new (is_err result) (winner_of result) (λ (s : State). taken_in runs w e q s) (λ (s : State). winner_in runs w e) }
 {
     let x = numbers::index(e.context_ref);
     if first_wins(runs, w) {
         stages::store_context(m, c, n, k, x, q);
-        return Moved {
-            winner: Picked::Somebody(x),
-            full: false,
-        };
+        return Ok(Some(x));
     }
-    let full = queue_in(m, c, n, k, x, e, q);
-    Moved {
-        winner: w,
-        full: full,
-    }
+    queue_in(m, c, n, k, x, e, q)?;
+    Ok(w)
 }
 
-fn queue_in(m: &mut [u64], c: usize, n: usize, k: usize, x: usize, e: Entry, q: Context) -> bool
+fn queue_in(
+    m: &mut [u64],
+    c: usize,
+    n: usize,
+    k: usize,
+    x: usize,
+    e: Entry,
+    q: Context,
+) -> Result<(), NoRoom>
     requires image { Image c n m.old }
     requires k_lt_c { (k < c) × (EntryFits n e) × (x ≡ e.context_ref) }
     requires context_fits { ContextFits c q }
-    ensures { Staged c n k m.old m.new result (λ (s : State). insert_entry (entry_of e.context_ref e.weight q) (put_context e.context_ref (with_new_key q) s)) }
+    ensures { Staged c n k m.old m.new (is_err result) (λ (s : State). insert_entry (entry_of e.context_ref e.weight q) (put_context e.context_ref (with_new_key q) s)) }
 {
     let keyed = q.with_new_key();
     stages::store_context(m, c, n, k, x, keyed);
@@ -99,13 +93,13 @@ fn move_entry(
     k: usize,
     t: usize,
     runs: bool,
-    w: Picked,
+    w: Option<usize>,
     e: Entry,
-) -> Moved
+) -> Result<Option<usize>, NoRoom>
     requires image { Image c n m.old }
     requires k_lt_c { (k < c) × (t < c) × (t ≢ k) × (EntryFits n e) }
     requires movable { Movable c n k m.old }
-    ensures { Moves c n k t m.old m.new result.full w result.winner (λ (v : Moving). move_entry runs v e) }
+    ensures { Moves c n k t m.old m.new (is_err result) w (winner_of result) (λ (v : Moving). move_entry runs v e) }
 {
     let x = numbers::index(e.context_ref);
     let q = stolen(m, c, n, k, t, x, e.weight);
@@ -121,20 +115,16 @@ fn move_two(
     k: usize,
     t: usize,
     runs: bool,
-    w: Picked,
+    w: Option<usize>,
     a: Entry,
     b: Entry,
-) -> Moved
+) -> Result<Option<usize>, NoRoom>
     requires image { Image c n m.old }
     requires k_lt_c { (k < c) × (t < c) × (t ≢ k) × (EntryFits n a) × (EntryFits n b) }
     requires ranged { Ranged c n t_timed b_charged m.old }
-    ensures { Moves c n k t m.old m.new result.full w result.winner (λ (v : Moving). move_entry runs (move_entry runs v a) b) }
+    ensures { Moves c n k t m.old m.new (is_err result) w (winner_of result) (λ (v : Moving). move_entry runs (move_entry runs v a) b) }
 {
-    let one = move_entry(m, c, n, k, t, runs, w, a);
-    if one.full {
-        return one;
-    }
-    let first = one.winner;
+    let first = move_entry(m, c, n, k, t, runs, w, a)?;
     move_entry(m, c, n, k, t, runs, first, b)
 }
 
@@ -145,27 +135,18 @@ fn move_entries(
     k: usize,
     t: usize,
     runs: bool,
-    w: Picked,
+    w: Option<usize>,
     got: Candidates,
-) -> Moved
+) -> Result<Option<usize>, NoRoom>
     requires image { Image c n m.old }
     requires k_lt_c { (k < c) × (t < c) × (t ≢ k) × (All (EntryFits n) (entries_of got)) }
     requires ranged { Ranged c n t_timed b_charged m.old }
-    ensures { Moves c n k t m.old m.new result.full w result.winner (λ (v : Moving). fold (move_entry runs) v (entries_of got)) }
+    ensures { Moves c n k t m.old m.new (is_err result) w (winner_of result) (λ (v : Moving). fold (move_entry runs) v (entries_of got)) }
 {
     match got {
-        Candidates::Nothing => {
-            return Moved {
-                winner: w,
-                full: false,
-            };
-        }
-        Candidates::Single(a) => {
-            return move_entry(m, c, n, k, t, runs, w, a);
-        }
-        Candidates::Pair(a, b) => {
-            return move_two(m, c, n, k, t, runs, w, a, b);
-        }
+        Candidates::Nothing => Ok(w),
+        Candidates::Single(a) => move_entry(m, c, n, k, t, runs, w, a),
+        Candidates::Pair(a, b) => move_two(m, c, n, k, t, runs, w, a, b),
     }
 }
 
@@ -177,19 +158,16 @@ pub fn rob(
     k: usize,
     t: usize,
     runs: bool,
-    w: Picked,
+    w: Option<usize>,
     got: Candidates,
-) -> Moved
+) -> Result<Option<usize>, NoRoom>
     requires image { Image c n m.old }
     requires k_lt_c { (k < c) × (t < c) × (t ≢ k) × (All (EntryFits n) (entries_of got)) }
     requires ranged { Ranged c n t_timed b_charged m.old }
-    ensures { Moves c n k t m.old m.new result.full w result.winner (λ (v : Moving). finished (fold (move_entry runs) v (entries_of got))) }
+    ensures { Moves c n k t m.old m.new (is_err result) w (winner_of result) (λ (v : Moving). finished (fold (move_entry runs) v (entries_of got))) }
 {
-    let all = move_entries(m, c, n, k, t, runs, w, got);
-    if all.full {
-        return all;
-    }
+    let winner = move_entries(m, c, n, k, t, runs, w, got)?;
     cpu::publish_victim(m, c, n, t);
     cpu::publish(m, c, n, k);
-    all
+    Ok(winner)
 }

@@ -7,13 +7,10 @@ ghost use Rattle.machine.specs.Encode.{encode, cpu_place};
 ghost use Rattle.machine.specs.Shape.{EntryFits, Image, Fits};
 ghost use Rattle.model.specs.State.{state_of};
 ghost use Rattle.model.specs.Steal.{my_load, can_steal_from, want, can_be_stolen, take_candidate};
-ghost use Rattle.picked.specs.Names.{picked_of};
 ghost use Rattle.steal_judge.specs.Names.{locked_of, entries_of};
 ghost use Rattle.steal.specs.Search.{Searched};
 
 use entries::Entry;
-use machine::{CpuLookup, Lookup};
-use picked::Picked;
 use steal_judge::{Candidates, Locked};
 
 // a CPU and the entries that are stolen from it
@@ -42,7 +39,7 @@ fn can_steal_from(m: &[u64], c: usize, n: usize, k: usize, t: usize) -> bool
     ensures { (M : Machine) → m.now ≡ encode M → Fits c n M → result ≡ can_steal_from (state_of k M) (cpu_at M t) }
 {
     let p = machine::get_percpu_block(m, c, n, numbers::word(t));
-    let CpuLookup::Present(v) = p else {
+    let Some(v) = p else {
         return false;
     };
     let b = stages::load_block(m, c, n, v);
@@ -79,17 +76,17 @@ fn can_be_stolen(
     c: usize,
     n: usize,
     k: usize,
-    w: Picked,
+    w: Option<usize>,
     locked: Locked,
     got: Candidates,
     e: Entry,
 ) -> bool
     requires image { Image c n m.now }
     requires k_lt_c { (k < c) × (e.context_ref < n) }
-    ensures { (M : Machine) → m.now ≡ encode M → Fits c n M → result ≡ can_be_stolen k (locked_of locked) M.contexts (picked_of w) (entries_of got) e }
+    ensures { (M : Machine) → m.now ≡ encode M → Fits c n M → result ≡ can_be_stolen k (locked_of locked) M.contexts w (entries_of got) e }
 {
     let l = machine::look_up(m, c, n, e.context_ref);
-    let Lookup::Live(x) = l else {
+    let Some(x) = l else {
         return false;
     };
     let q = machine::load(m, c, n, x);
@@ -102,7 +99,7 @@ fn take_candidate(
     c: usize,
     n: usize,
     k: usize,
-    w: Picked,
+    w: Option<usize>,
     locked: Locked,
     want: usize,
     got: Candidates,
@@ -112,7 +109,7 @@ fn take_candidate(
     requires k_lt_c { (k < c) × (EntryFits n e) }
     requires want_bound { (want ≤ 2) × (length (entries_of got) < want) × (All (EntryFits n) (entries_of got)) }
     ensures all { All (EntryFits n) (entries_of result) }
-    ensures result_value { (M : Machine) → m.now ≡ encode M → Fits c n M → entries_of result ≡ take_candidate k (locked_of locked) M.contexts (picked_of w) want (entries_of got) e }
+    ensures result_value { (M : Machine) → m.now ≡ encode M → Fits c n M → entries_of result ≡ take_candidate k (locked_of locked) M.contexts w want (entries_of got) e }
 {
     if can_be_stolen(m, c, n, k, w, locked, got, e) {
         return got.with(e);
@@ -121,7 +118,7 @@ fn take_candidate(
 }
 
 // Round from the next CPU; the first that gives up anything is the victim, and what it gives up is found once enough is.
-pub fn search(m: &[u64], c: usize, n: usize, k: usize, w: Picked, locked: Locked) -> Victim
+pub fn search(m: &[u64], c: usize, n: usize, k: usize, w: Option<usize>, locked: Locked) -> Victim
     requires image { Image c n m.now }
     requires k_lt_c { k < c }
     ensures { Searched c n k m.now w locked result }
@@ -129,24 +126,20 @@ pub fn search(m: &[u64], c: usize, n: usize, k: usize, w: Picked, locked: Locked
     let others = c - 1;
     let mut got = Candidates::Nothing;
     let mut t = k;
-    let mut i = 0;
-    'search: while i < others {
+    'search: for i in 0..others {
         t = (k + (i + 1)) % c;
         let len = offered(m, c, n, k, t);
         let want = wanted(m, c, n, k, t);
-        let mut j = 0;
-        while j < len {
+        for j in 0..len {
             let e = stages::entry(m, c, n, t, j);
             got = take_candidate(m, c, n, k, w, locked, want, got, e);
             if want <= got.len() {
                 break 'search;
             }
-            j += 1;
         }
         if 0 < got.len() {
             break;
         }
-        i += 1;
     }
     Victim { cpu: t, got: got }
 }

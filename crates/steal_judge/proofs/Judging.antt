@@ -1,19 +1,15 @@
 -- The tests by value, one lemma for each return. Assumes nothing.
+use Rattle.std.specs.Prelude.{None, Option, Some, option_to_list}
 use Rattle.std.proofs.Common.{◌≡◌, ℕ, ◌+◌, ◌<◌, ◌≤◌, Bool, true, false, not, ◌||◌, eqb, leb, ◌≢◌, List, [], ◌∷◌, ◌++◌, length, sym, refl, ap, ◌∙◌, arith, eq-eqb, ne_eqb, le-leb}
-use mathlib.Core.Option.{Option}
 use borrow.Author.Tests.{lt-leb}
 use Rattle.context.specs.declared.Context.{Context}
 use Rattle.context.specs.Status.{is_runnable}
 use Rattle.cpu_set.specs.Set as set
 use Rattle.entries.specs.declared.Entry.{Entry}
-use Rattle.model.specs.State as M
 use Rattle.model.specs.Steal.{member, wins, contexts_of}
-use Rattle.picked.specs.declared.Picked.{Picked}
-use Rattle.picked.specs.declared.Picked.TheVariants.{Nobody, Somebody}
 use Rattle.steal_judge.specs.declared.Locked.{Locked}
 use Rattle.steal_judge.specs.declared.Candidates.{Candidates}
 use Rattle.steal_judge.specs.declared.Candidates.TheVariants.{Nothing, Single, Pair}
-use Rattle.picked.specs.Names.{picked_of, names_of, is_some, contains}
 use Rattle.steal_judge.specs.Names.{locked_of, entries_of}
 use Rattle.steal_judge.specs.Judged.{stolen_record, is_free, may_move, has_enough}
 
@@ -21,24 +17,15 @@ or_none : (a : Bool) → a ≡ (a || false)
 or_none true = refl
 or_none false = refl
 
--- who was picked
-pub some_of : (w : Picked) → is_some w ≡ M.is_some (picked_of w)
-some_of Nobody = refl
-some_of (Somebody x) = refl
-
-pub wins_of : (w : Picked) (x : ℕ) → contains w x ≡ wins (picked_of w) x
-wins_of Nobody x = refl
-wins_of (Somebody y) x = refl
-
 -- the contexts that are locked
 pub locked_holder : (l : Locked) (x : ℕ) → x ≡ l.sched_ctxt → true ≡ member x (locked_of l)
 locked_holder l x e = rw (eq-eqb x l.sched_ctxt e)
 
-names_member : (w : Picked) (x : ℕ) → contains w x ≡ member x (names_of w)
-names_member Nobody x = refl
-names_member (Somebody y) x = or_none (eqb x y)
+names_member : (w : Option ℕ) (x : ℕ) → wins w x ≡ member x (option_to_list w)
+names_member None x = refl
+names_member (Some y) x = or_none (eqb x y)
 
-pub locked_best : (l : Locked) (x : ℕ) {r : Bool} → x ≢ l.sched_ctxt → r ≡ contains l.best x → r ≡ member x (locked_of l)
+pub locked_best : (l : Locked) (x : ℕ) {r : Bool} → x ≢ l.sched_ctxt → r ≡ wins l.best x → r ≡ member x (locked_of l)
 locked_best l x n e = rw (ne_eqb x l.sched_ctxt n) (e ∙ names_member l.best x)
 
 module _ {got : Candidates} (x : ℕ) where

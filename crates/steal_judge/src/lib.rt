@@ -11,7 +11,6 @@ ghost use Rattle.steal_judge.specs.Names.{locked_of, entries_of};
 ghost use Rattle.steal_judge.specs.Judged.{interval};
 
 use entries::Entry;
-use picked::Picked;
 
 const STEAL_INTERVAL: u64 = 16;
 
@@ -22,10 +21,10 @@ const IDLE_STEAL_INTERVAL: u64 = 2;
 #[derive(Clone, Copy)]
 pub struct Locked {
     pub sched_ctxt: usize,
-    pub best: Picked,
+    pub best: Option<usize>,
 }
 
-// the entries found so far, at most two
+// the entries found so far, at most two; as an array they would need a length beside them
 #[derive(Clone, Copy)]
 pub enum Candidates {
     Nothing,
@@ -37,11 +36,7 @@ impl Locked {
     pub fn contains(self, x: usize) -> bool
         ensures { result ≡ member x (locked_of self) }
     {
-        if x == self.sched_ctxt {
-            return true;
-        }
-        let best = self.best;
-        best.contains(x)
+        x == self.sched_ctxt || self.best == Some(x)
     }
 }
 

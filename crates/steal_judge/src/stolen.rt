@@ -1,7 +1,6 @@
 // A context of the victim's queue judged, and its record once it is stolen.
 ghost use Rattle.std.specs.Prelude.{◌≡◌, ◌+◌, ◌-◌, ◌<◌, ◌≤◌};
 ghost use Rattle.model.specs.Steal.{moved};
-ghost use Rattle.picked.specs.Names.{picked_of};
 ghost use Rattle.steal_judge.specs.Names.{locked_of, entries_of};
 ghost use Rattle.steal_judge.specs.Judged.{stolen_record, is_free, may_move};
 ghost use Rattle.numbers.specs.Limits.{max_word};
@@ -9,19 +8,12 @@ ghost use Rattle.weights.specs.Weights.{full_slice, min_weight};
 
 use crate::{Candidates, Locked};
 use context::Context;
-use picked::Picked;
 
-fn is_free(w: Picked, locked: Locked, got: Candidates, x: usize) -> bool
-    ensures { result ≡ is_free (locked_of locked) (picked_of w) (entries_of got) x }
+#[tactic(auto, unfolding(crate::specs::Judged::is_free))]
+fn is_free(w: Option<usize>, locked: Locked, got: Candidates, x: usize) -> bool
+    ensures { result ≡ is_free (locked_of locked) w (entries_of got) x }
 {
-    if locked.contains(x) {
-        return false;
-    }
-    if w.contains(x) {
-        return false;
-    }
-    let name = numbers::word(x);
-    !got.contains(name)
+    !(locked.contains(x) || w == Some(x) || got.contains(numbers::word(x)))
 }
 
 fn may_move(q: Context, cpu: u64) -> bool
@@ -48,13 +40,13 @@ fn may_move(q: Context, cpu: u64) -> bool
 pub fn can_be_stolen(
     q: Context,
     cpu: u64,
-    w: Picked,
+    w: Option<usize>,
     locked: Locked,
     got: Candidates,
     x: usize,
 ) -> bool
     requires { cpu < 64 }
-    ensures { result ≡ stolen_record cpu (locked_of locked) (picked_of w) (entries_of got) x q }
+    ensures { result ≡ stolen_record cpu (locked_of locked) w (entries_of got) x q }
 {
     let free = q.lock == 0;
     if !free {
@@ -71,7 +63,7 @@ pub fn moved(mut q: Context, here: u64, there: u64, weight: u64) -> Context
     requires { (here + q.vtime ≤ (max_word - full_slice)) × (min_weight ≤ weight) × (q.rem_slice ≤ full_slice) }
     ensures { result ≡ moved here there weight q }
 {
-    let vtime = numbers::saturating_sub(here + q.vtime, there);
+    let vtime = (here + q.vtime).saturating_sub(there);
     q.vtime = vtime;
     q.vd = vtime + q.rem_slice / weight;
     q.without_key()

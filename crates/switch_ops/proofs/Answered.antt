@@ -1,4 +1,5 @@
 -- What is answered, from what following the source gave. Assumes nothing.
+use Rattle.std.specs.Prelude.{None, Option, Some}
 use mathlib.Core.Path.{◌≡◌, sym, ap, ◌∙◌, subst}
 use mathlib.Core.Bool.{Bool, true, false, not, ◌&&◌}
 use Prim.Native.Nat.{ℕ, ◌<◌, ◌≤◌}
@@ -7,10 +8,6 @@ use mathlib.Core.List.{List}
 use lib.Dec.{ltb, eqb}
 use borrow.Author.Tests.{ne_eqb, ltb-false}
 use Rattle.columns.proofs.Tests.{by_test, past}
-use Rattle.machine.specs.declared.Lookup.{Lookup}
-use Rattle.machine.specs.declared.Lookup.TheVariants.{Live, Gone}
-use Rattle.machine.specs.declared.CpuLookup.{CpuLookup}
-use Rattle.machine.specs.declared.CpuLookup.TheVariants.{Present, Absent}
 use Rattle.machine.specs.Machine.{Machine, context_at, cpu_at}
 use Rattle.machine.specs.Encode.{encode, decode}
 use Rattle.machine.specs.Shape.{Fits}
@@ -100,8 +97,8 @@ module _ (m : List ℕ) (M : Machine) (time : ℕ) (call : Call) where
   accepted_on k r e n h = rw (sym e ∙ n) h
 
   -- p: what looking up the CPU gave
-  module _ (cpu : ℕ) (p : CpuLookup) (hp : p ≡ get_percpu_block M cpu) where
-    pub absent : {a : Answer} → p ≡ Absent → a ≡ record { refusal = 5; result = 0; interrupt = 0; rule = 0 } → Replies m a (decide m M cpu time call) (outcome call cpu time M).machine
+  module _ (cpu : ℕ) (p : Option ℕ) (hp : p ≡ get_percpu_block M cpu) where
+    pub absent : {a : Answer} → p ≡ None → a ≡ record { refusal = 5; result = 0; interrupt = 0; rule = 0 } → Replies m a (decide m M cpu time call) (outcome call cpu time M).machine
     unfolding decide_by
     absent e h =
         record {
@@ -109,7 +106,7 @@ module _ (m : List ℕ) (M : Machine) (time : ℕ) (call : Call) where
           leaves = λ z. let w : ◌≡◌ {A = ℕ} 5 0 = cc in absurd (omega arith);
         }
 
-    pub present_on : {a : Answer} {m' : List ℕ} (k : ℕ) → p ≡ Present k → Replies m' a (decide_on m M k time call) (outcome call k time M).machine
+    pub present_on : {a : Answer} {m' : List ℕ} (k : ℕ) → p ≡ Some k → Replies m' a (decide_on m M k time call) (outcome call k time M).machine
         → Replies m' a (decide m M cpu time call) (outcome call cpu time M).machine
     unfolding decide_by
     present_on {a} {m'} k e f =
@@ -117,8 +114,8 @@ module _ (m : List ℕ) (M : Machine) (time : ℕ) (call : Call) where
         in rw (← hp, e) (subst (λ (j : ℕ). Replies m' a (decide_on m M k time call) (outcome call j time M).machine) i f)
 
 -- operation 3; l: what looking up the context gave
-module _ (m : List ℕ) (M : Machine) (cpu time context : ℕ) (l : Lookup) (hl : l ≡ look_up M context) where
-  pub gone : {a : Answer} → l ≡ Gone → a ≡ record { refusal = 5; result = 0; interrupt = 0; rule = 0 }
+module _ (m : List ℕ) (M : Machine) (cpu time context : ℕ) (l : Option ℕ) (hl : l ≡ look_up M context) where
+  pub gone : {a : Answer} → l ≡ None → a ≡ record { refusal = 5; result = 0; interrupt = 0; rule = 0 }
       → Replies m a (direct_switch m M cpu time context) (outcome (by_direct_switch context) cpu time M).machine
   unfolding direct_switch_by
   gone e h =
@@ -127,7 +124,7 @@ module _ (m : List ℕ) (M : Machine) (cpu time context : ℕ) (l : Lookup) (hl 
         leaves = λ z. let w : ◌≡◌ {A = ℕ} 5 0 = cc in absurd (omega arith);
       }
 
-  pub alive : {a : Answer} {m' : List ℕ} (x : ℕ) → l ≡ Live x → Replies m' a (decide m M cpu time (by_direct_switch x)) (outcome (by_direct_switch x) cpu time M).machine
+  pub alive : {a : Answer} {m' : List ℕ} (x : ℕ) → l ≡ Some x → Replies m' a (decide m M cpu time (by_direct_switch x)) (outcome (by_direct_switch x) cpu time M).machine
       → Replies m' a (direct_switch m M cpu time context) (outcome (by_direct_switch context) cpu time M).machine
   unfolding direct_switch_by
   alive {a} {m'} x e f =

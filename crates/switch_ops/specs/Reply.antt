@@ -1,9 +1,6 @@
 -- Operations 1 to 3: what a call answers of the machine M of an image m, and the image it leaves. Assumes nothing.
-use Rattle.std.specs.Prelude.{◌≡◌, ℕ, ◌<◌, List, eqb, if◌then◌else◌}
-use Rattle.machine.specs.declared.Lookup.{Lookup}
-use Rattle.machine.specs.declared.Lookup.TheVariants.{Live, Gone}
-use Rattle.machine.specs.declared.CpuLookup.{CpuLookup}
-use Rattle.machine.specs.declared.CpuLookup.TheVariants.{Present, Absent}
+use Rattle.std.specs.Prelude.{◌≡◌, ℕ, ◌<◌, List, eqb, if◌then◌else◌, None, Option, Some, Result, Ok, Err}
+use Rattle.table.specs.declared.NoRoom.{NoRoom}
 use Rattle.machine.specs.Machine.{Machine}
 use Rattle.machine.specs.Encode.{decode}
 use Rattle.machine.specs.LookUp.{look_up, get_percpu_block}
@@ -11,7 +8,7 @@ use Rattle.model.specs.Accepted.{Call, by_tick, by_switch, by_direct_switch, out
 use Rattle.admission.specs.Refusals.{decision_refusal, direct_refusal}
 use Rattle.answer.specs.declared.Answer.{Answer}
 use Rattle.context_ops.specs.Reply.{Reply, reply, refuse, replied}
-use Rattle.schedule.specs.Decides.{Told, told}
+use Rattle.schedule.specs.Decides.{Told, told, undecided}
 use Rattle.switch_ops.specs.declared.Followed.{Followed}
 use Rattle.switch_ops.specs.declared.Decision.{Decision}
 use Rattle.switch_ops.specs.declared.Decision.TheVariants.{Tick, Switch, DirectSwitchTo}
@@ -22,9 +19,13 @@ call_of Tick = by_tick
 call_of Switch = by_switch
 call_of (DirectSwitchTo x) = by_direct_switch x
 
--- what the code passes on of a call
-abbrev pub followed_told : Followed → Told
-followed_told f = told f.result f.rule
+-- what the code passes on of a call; where there was no room nothing is said of it
+abbrev pub told_by : Followed → Told
+told_by f = told f.result f.rule
+
+abbrev pub followed_told : Result Followed NoRoom → Told
+followed_told (Ok f) = told_by f
+followed_told (Err e) = undecided 0
 
 -- refusals 6 to 8 of a call on CPU k, which is present; 0 for none
 abbrev pub refusal : Call → Machine → (k time : ℕ) → ℕ
@@ -38,18 +39,18 @@ decide_on m M k time call =
     if eqb (refusal call M k time) 0 then replied m (outcome call k time M) else refuse (refusal call M k time) m
 
 -- refusal 5 comes before them
-unfoldable pub decide_by : List ℕ → Machine → (time : ℕ) → Call → CpuLookup → Reply
-decide_by m M time call Absent = refuse 5 m
-decide_by m M time call (Present k) = decide_on m M k time call
+unfoldable pub decide_by : List ℕ → Machine → (time : ℕ) → Call → Option ℕ → Reply
+decide_by m M time call None = refuse 5 m
+decide_by m M time call (Some k) = decide_on m M k time call
 
 -- operations 1 and 2
 abbrev pub decide : List ℕ → Machine → (cpu time : ℕ) → Call → Reply
 decide m M cpu time call = decide_by m M time call (get_percpu_block M cpu)
 
 -- operation 3
-unfoldable pub direct_switch_by : List ℕ → Machine → (cpu time : ℕ) → Lookup → Reply
-direct_switch_by m M cpu time Gone = refuse 5 m
-direct_switch_by m M cpu time (Live x) = decide m M cpu time (by_direct_switch x)
+unfoldable pub direct_switch_by : List ℕ → Machine → (cpu time : ℕ) → Option ℕ → Reply
+direct_switch_by m M cpu time None = refuse 5 m
+direct_switch_by m M cpu time (Some x) = decide m M cpu time (by_direct_switch x)
 
 abbrev pub direct_switch : List ℕ → Machine → (cpu time context : ℕ) → Reply
 direct_switch m M cpu time context = direct_switch_by m M cpu time (look_up M context)

@@ -2,7 +2,7 @@
 // In every function m is the image of a machine of c CPUs and n contexts.
 #![tactic(auto)]
 
-ghost use Rattle.std.specs.Prelude.{◌≡◌, ℕ, ◌+◌, ◌<◌, ◌≤◌, ltb, length};
+ghost use Rattle.std.specs.Prelude.{◌≡◌, ℕ, ◌+◌, ◌<◌, ◌≤◌, ltb, length, is_err, Ok};
 ghost use Rattle.machine.specs.Machine.{Machine, cpu_at};
 ghost use Rattle.machine.specs.Encode.{encode};
 ghost use Rattle.machine.specs.Shape.{Image, Fits};
@@ -11,14 +11,16 @@ ghost use Rattle.model.specs.Turn.{elapsed};
 ghost use Rattle.model.specs.Accepted.{by_tick, by_switch, by_direct_switch, outcome};
 ghost use Rattle.schedule.specs.Decides.{Decides};
 ghost use Rattle.context_ops.specs.Reply.{replied};
-ghost use Rattle.switch_ops.specs.Reply.{call_of, followed_told, refusal, decide_on, decide, direct_switch, Replies, Attempts, TargetBelow};
+ghost use Rattle.switch_ops.specs.Reply.{call_of, told_by, followed_told, refusal, decide_on, decide, direct_switch, Replies, Attempts, TargetBelow};
 ghost use Rattle.numbers.specs.Limits.{max_number, max_elapsed};
-ghost use Rattle.schedule.specs.Ticked.{decided_told, ticked_full, ticked_told};
+ghost use Rattle.schedule.specs.Ticked.{decided_told, ticked_told};
+ghost use Rattle.refusal.specs.Number.{refusal_of};
 
 use answer::Answer;
-use machine::{CpuLookup, Lookup};
 use percpu::places;
-use schedule::{Decided, Ticked};
+use refusal::{Refusal, refused};
+use schedule::Decided;
+use stages::NoRoom;
 
 #[derive(Clone, Copy)]
 pub enum Decision {
@@ -38,52 +40,53 @@ fn accepted(res: u64, rule: u64) -> Answer
     }
 }
 
-// whether an insertion found no room, and the numbers of the result and of the rule
+// the numbers of the result and of the rule
 #[derive(Clone, Copy)]
 struct Followed {
-    full: bool,
     result: u64,
     rule: u64,
 }
 
 fn of_switch(d: Decided) -> Followed
-    ensures { (result.full ≡ d.full) × (followed_told result ≡ decided_told d) }
+    ensures { told_by result ≡ decided_told d }
 {
-    let result = d.result;
     Followed {
-        full: d.full,
-        result: answer::result_number(result),
+        result: u64::from(d.result),
         rule: d.rule,
     }
 }
 
-fn of_tick(t: Ticked) -> Followed
-    ensures { (result.full ≡ ticked_full t) × (followed_told result ≡ ticked_told t) }
+fn of_tick(t: Option<Decided>) -> Followed
+    ensures { told_by result ≡ ticked_told (Ok t) }
 {
     match t {
-        Ticked::NotDue => Followed {
-            full: false,
-            result: 0,
-            rule: 0,
-        },
-        Ticked::Due(d) => of_switch(d),
+        None => Followed { result: 0, rule: 0 },
+        Some(d) => of_switch(d),
     }
 }
 
 // Follows the source. Where an insertion finds no room the image is left half-way.
-fn follow(m: &mut [u64], c: usize, n: usize, k: usize, time: u64, d: Decision) -> Followed
+fn follow(
+    m: &mut [u64],
+    c: usize,
+    n: usize,
+    k: usize,
+    time: u64,
+    d: Decision,
+) -> Result<Followed, NoRoom>
     requires image { Image c n m.old }
     requires k_lt_c { (k < c) × (time ≤ max_number) }
     requires target_below { TargetBelow n d }
     requires ranged { Ranged c n max_number max_number m.old }
     requires k_bound { (M : Machine) → m.old ≡ encode M → Fits c n M → elapsed time (cpu_at M k) ≤ max_elapsed }
-    ensures { Decides c n m.old m.new result.full (followed_told result) (λ (M : Machine). outcome (call_of d) k time M) }
+    ensures { Decides c n m.old m.new (is_err result) (followed_told result) (λ (M : Machine). outcome (call_of d) k time M) }
 {
     match d {
-        Decision::Tick => of_tick(schedule::tick(m, c, n, k, time)),
-        Decision::Switch => of_switch(schedule::switch(m, c, n, k, time)),
+        Decision::Tick => Ok(of_tick(schedule::tick(m, c, n, k, time)?)),
+        Decision::Switch => Ok(of_switch(schedule::switch(m, c, n, k, time)?)),
         Decision::DirectSwitchTo(x) => {
-            of_switch(schedule::direct_switch_to(m, c, n, k, time, x))
+            let made = schedule::direct_switch_to(m, c, n, k, time, x)?;
+            Ok(of_switch(made))
         }
     }
 }
@@ -97,11 +100,10 @@ pub fn attempt(m: &mut [u64], c: usize, n: usize, k: usize, time: u64, d: Decisi
     requires k_bound { (M : Machine) → m.old ≡ encode M → Fits c n M → elapsed time (cpu_at M k) ≤ max_elapsed }
     ensures { (M : Machine) → m.old ≡ encode M → Fits c n M → Attempts m.new result (replied m.old (outcome (call_of d) k time M)) (outcome (call_of d) k time M).machine }
 {
-    let r = follow(m, c, n, k, time, d);
-    if r.full {
-        return answer::refused(9);
+    match follow(m, c, n, k, time, d) {
+        Ok(r) => accepted(r.result, r.rule),
+        Err(_) => refused(Refusal::NoRoom),
     }
-    accepted(r.result, r.rule)
 }
 
 // The words are kept until it is known that there was room, and put back if not.
@@ -135,16 +137,16 @@ fn has_room(m: &[u64], c: usize, n: usize, k: usize) -> bool
 }
 
 // Refusals 6 to 8.
-fn refusal(m: &[u64], c: usize, n: usize, k: usize, time: u64, d: Decision) -> u64
+fn check(m: &[u64], c: usize, n: usize, k: usize, time: u64, d: Decision) -> Result<(), Refusal>
     requires image { Image c n m.now }
     requires k_lt_c { k < c }
     requires target_below { TargetBelow n d }
-    ensures { (M : Machine) → m.now ≡ encode M → Fits c n M → result ≡ refusal (call_of d) M k time }
+    ensures { (M : Machine) → m.now ≡ encode M → Fits c n M → refusal_of result ≡ refusal (call_of d) M k time }
 {
     match d {
-        Decision::Tick => admission::decision_refusal(m, c, n, k, time),
-        Decision::Switch => admission::decision_refusal(m, c, n, k, time),
-        Decision::DirectSwitchTo(x) => admission::direct_refusal(m, c, n, k, time, x),
+        Decision::Tick => admission::check_decision(m, c, n, k, time),
+        Decision::Switch => admission::check_decision(m, c, n, k, time),
+        Decision::DirectSwitchTo(x) => admission::check_direct(m, c, n, k, time, x),
     }
 }
 
@@ -156,9 +158,8 @@ fn decide_on(m: &mut [u64], c: usize, n: usize, k: usize, time: u64, d: Decision
     requires ranged { Ranged c n max_number max_number m.old }
     ensures { (M : Machine) → m.old ≡ encode M → Fits c n M → Replies m.new result (decide_on m.old M k time (call_of d)) (outcome (call_of d) k time M).machine }
 {
-    let number = refusal(m, c, n, k, time, d);
-    if number != 0 {
-        return answer::refused(number);
+    if let Err(refusal) = check(m, c, n, k, time, d) {
+        return refused(refusal);
     }
     if has_room(m, c, n, k) {
         return attempt(m, c, n, k, time, d);
@@ -175,8 +176,8 @@ fn decide(m: &mut [u64], c: usize, n: usize, cpu: u64, time: u64, d: Decision) -
 {
     let p = machine::get_percpu_block(m, c, n, cpu);
     match p {
-        CpuLookup::Present(k) => decide_on(m, c, n, k, time, d),
-        CpuLookup::Absent => answer::refused(5),
+        Some(k) => decide_on(m, c, n, k, time, d),
+        None => refused(Refusal::Name),
     }
 }
 
@@ -215,8 +216,8 @@ pub fn direct_switch_to(
     ensures { (M : Machine) → m.old ≡ encode M → Fits c n M → Replies m.new result (direct_switch m.old M cpu time context) (outcome (by_direct_switch context) cpu time M).machine }
 {
     let l = machine::look_up(m, c, n, context);
-    let Lookup::Live(x) = l else {
-        return answer::refused(5);
+    let Some(x) = l else {
+        return refused(Refusal::Name);
     };
     decide(m, c, n, cpu, time, Decision::DirectSwitchTo(x))
 }

@@ -1,8 +1,7 @@
 -- A direct switch in the code's words. Assumes nothing.
-use Rattle.std.specs.Prelude.{if◌then◌else◌}
+use Rattle.std.specs.Prelude.{if◌then◌else◌, None, Option, Some, is_some}
 use mathlib.Core.Path.{◌≡◌, refl, sym, ap, ◌∙◌, subst}
 use mathlib.Core.Bool.{Bool, true, false, not, ◌&&◌}
-use mathlib.Core.Option.{Option, none, some}
 use Prim.Native.Nat.{ℕ, ◌+◌, ◌-◌, ◌<◌, ◌≤◌}
 use native.Mathlib.Omega.{arith}
 use mathlib.Core.List.{List}
@@ -19,7 +18,7 @@ use Rattle.percpu.specs.declared.PercpuBlock.{PercpuBlock}
 use Rattle.machine.specs.Machine.{Machine, context_at, cpu_at}
 use Rattle.machine.specs.Encode.{encode}
 use Rattle.machine.specs.Shape.{ContextFits, Fits, Image}
-use Rattle.model.specs.State.{State, at, state_of, put_context, is_some}
+use Rattle.model.specs.State.{State, at, state_of, put_context}
 use Rattle.model.specs.SwitchTo.{switch_to, direct_switch_by, try_direct_switch_back}
 use Rattle.model.proofs.Cases.{pick}
 use Rattle.stages.specs.Stage.{Stage, Staged, ContextBelow, Ranged}

@@ -41,9 +41,9 @@ module _ (b : PercpuBlock) (q : Context) where
     pub left_fits : {c : ℕ} {q' : Context} → q' ≡ left_by time b q → ContextFits c q → ContextFits c q'
     left_fits e o = rw e (record { cpu_id = o.cpu_id; prio = o.prio; rem_slice = o.rem_slice })
 
-  pub current_as : (x w : ℕ) (a : CpuState) (t : CpuStats) (r : PercpuBlock) → a ≡ if q.userspace then User else Kernel → t ≡ stats_state a b.stats → r ≡ block_stats t b → w ≡ x
-      → block_being_sigkilled q.being_sigkilled (block_inside_syscall q.inside_syscall (block_current_ctxt w r)) ≡ current_by x q b
-  current_as x w a t r ha ht hr hw = rw (hr, ht, ha, hw)
+  pub current_as : (x w : ℕ) (a : CpuState) (t : CpuStats) → a ≡ if q.userspace then User else Kernel → t ≡ stats_state a b.stats → w ≡ x
+      → block_being_sigkilled q.being_sigkilled (block_inside_syscall q.inside_syscall (block_current_ctxt w (block_stats t b))) ≡ current_by x q b
+  current_as x w a t ha ht hw = rw (ht, ha, hw)
 
   pub current_fits : {n : ℕ} {b' : PercpuBlock} (x : ℕ) → b' ≡ current_by x q b → x < n → BlockFits n b → BlockFits n b'
   current_fits x e l o = rw e (record { current = l; sched = o.sched; idle = o.idle })

@@ -1,23 +1,17 @@
-// A switch without a decision: to a context that a call names, or back to the one in charge.
-ghost use Rattle.std.specs.Prelude.{◌≡◌, Bool, true, false, ℕ, ◌<◌, ◌≤◌};
+// A switch without a decision: to a context that a call names, or back to the one in charge. Each says whether it was made.
+ghost use Rattle.std.specs.Prelude.{◌≡◌, Bool, true, false, ℕ, ◌<◌, ◌≤◌, is_some, is_err};
 ghost use Rattle.runnable.specs.Runnable.{update_runnable};
 ghost use Rattle.machine.specs.Shape.{ContextFits, Image};
-ghost use Rattle.model.specs.State.{State, at, put_context, is_some};
+ghost use Rattle.model.specs.State.{State, at, put_context};
 ghost use Rattle.model.specs.SwitchTo.{switch_to, direct_switch_by, try_direct_switch_back};
 ghost use Rattle.stages.specs.Stage.{Stage, ContextBelow, Ranged};
-ghost use Rattle.switch_to.specs.Direct.{is_full, is_switched, or_same};
+ghost use Rattle.switch_to.specs.Direct.{is_switched, or_same};
 ghost use Rattle.numbers.specs.Limits.{max_number};
 ghost use Rattle.stages.specs.Bounds.{t_handed, b_advanced};
 
 use context::Context;
 use runnable::UpdateResult;
-
-#[derive(Clone, Copy)]
-pub enum DirectSwitch {
-    NotSwitched,
-    Switched,
-    NoRoom,
-}
+use stages::NoRoom;
 
 fn direct_switch(
     m: &mut [u64],
@@ -27,19 +21,17 @@ fn direct_switch(
     time: u64,
     x: usize,
     q: Context,
-) -> DirectSwitch
+) -> Result<bool, NoRoom>
     requires image { Image c n m.old }
     requires k_lt_c { (k < c) × (x < n) × (time ≤ max_number) }
     requires context_fits { ContextFits c q }
     requires context_below { ContextBelow t_handed b_advanced q }
     requires ranged { Ranged c n t_handed b_advanced m.old }
-    ensures { Stage c n k m.old m.new (is_full result) (is_switched result) (λ (s : State). switch_to k time x (put_context x q s)) (λ (s : State). true) }
+    ensures { Stage c n k m.old m.new (is_err result) (is_switched result) (λ (s : State). switch_to k time x (put_context x q s)) (λ (s : State). true) }
 {
     stages::store_context(m, c, n, k, x, q);
-    if crate::switch_to(m, c, n, k, time, x) {
-        return DirectSwitch::NoRoom;
-    }
-    DirectSwitch::Switched
+    crate::switch_to(m, c, n, k, time, x)?;
+    Ok(true)
 }
 
 // `own`: x is in charge.
@@ -51,19 +43,19 @@ pub fn direct_switch_by(
     time: u64,
     x: usize,
     own: bool,
-) -> DirectSwitch
+) -> Result<bool, NoRoom>
     requires image { Image c n m.old }
     requires k_lt_c { (k < c) × (x < n) × (time ≤ max_number) }
     requires ranged { Ranged c n t_handed b_advanced m.old }
-    ensures { Stage c n k m.old m.new (is_full result) (is_switched result) (λ (s : State). or_same s (direct_switch_by k time x s (update_runnable k time own false (at s x)))) (λ (s : State). is_some (direct_switch_by k time x s (update_runnable k time own false (at s x)))) }
+    ensures { Stage c n k m.old m.new (is_err result) (is_switched result) (λ (s : State). or_same s (direct_switch_by k time x s (update_runnable k time own false (at s x)))) (λ (s : State). is_some (direct_switch_by k time x s (update_runnable k time own false (at s x)))) }
 {
     let q = machine::load(m, c, n, x);
     let cpu = numbers::word(k);
     let u = runnable::update_runnable(q, cpu, time, own, false);
     match u {
         UpdateResult::CanSwitch(r) => direct_switch(m, c, n, k, time, x, r),
-        UpdateResult::Skip => DirectSwitch::NotSwitched,
-        UpdateResult::Blocked => DirectSwitch::NotSwitched,
+        UpdateResult::Skip => Ok(false),
+        UpdateResult::Blocked => Ok(false),
     }
 }
 
@@ -73,15 +65,15 @@ pub fn try_direct_switch_back(
     n: usize,
     k: usize,
     time: u64,
-) -> DirectSwitch
+) -> Result<bool, NoRoom>
     requires image { Image c n m.old }
     requires k_lt_c { (k < c) × (time ≤ max_number) }
     requires ranged { Ranged c n t_handed b_advanced m.old }
-    ensures { Stage c n k m.old m.new (is_full result) (is_switched result) (λ (s : State). or_same s (try_direct_switch_back k time s)) (λ (s : State). is_some (try_direct_switch_back k time s)) }
+    ensures { Stage c n k m.old m.new (is_err result) (is_switched result) (λ (s : State). or_same s (try_direct_switch_back k time s)) (λ (s : State). is_some (try_direct_switch_back k time s)) }
 {
     let b = stages::load_block(m, c, n, k);
     if b.current_ctxt == b.sched_ctxt {
-        return DirectSwitch::NotSwitched;
+        return Ok(false);
     }
     let x = numbers::index(b.sched_ctxt);
     direct_switch_by(m, c, n, k, time, x, true)

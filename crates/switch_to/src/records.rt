@@ -8,7 +8,6 @@ ghost use Rattle.stages.specs.Bounds.{t_handed};
 
 use context::Context;
 use cpu_stats::CpuState;
-use cpu_stats::lent::Change;
 use percpu::PercpuBlock;
 
 // Runnable, left, without the slice and without a key: no list has it.
@@ -34,7 +33,7 @@ pub fn leave(mut q: Context, b: PercpuBlock, time: u64) -> Context
     if b.current_ctxt == b.idle_ctxt {
         return q;
     }
-    let elapsed = numbers::saturating_sub(time, q.switch_time);
+    let elapsed = time.saturating_sub(q.switch_time);
     q.active_cpu_time = q.active_cpu_time + elapsed;
     q
 }
@@ -58,16 +57,12 @@ fn state_in(userspace: bool) -> CpuState
     CpuState::Kernel
 }
 
-pub fn become_current(b: PercpuBlock, x: usize, q: Context) -> PercpuBlock
+pub fn become_current(mut b: PercpuBlock, x: usize, q: Context) -> PercpuBlock
     ensures { result ≡ current_by x q b }
 {
-    let state = state_in(q.userspace);
-    let s = b.stats;
-    let change = Change::State(state);
-    let stats = cpu_stats::lent::update(s, change);
-    let mut r = b.with_stats(stats);
-    r.current_ctxt = numbers::word(x);
-    r.inside_syscall = q.inside_syscall;
-    r.being_sigkilled = q.being_sigkilled;
-    r
+    b.stats.set_state(state_in(q.userspace));
+    b.current_ctxt = numbers::word(x);
+    b.inside_syscall = q.inside_syscall;
+    b.being_sigkilled = q.being_sigkilled;
+    b
 }

@@ -1,5 +1,5 @@
 -- The timers as a table of their CPU's block. Assumes nothing.
-use mathlib.Core.Path.{subst, ◌≡◌, refl, ap, ◌∙◌}
+use mathlib.Core.Path.{subst, ◌≡◌, refl, sym, ap, ◌∙◌}
 use mathlib.Core.Bool.{Bool, ◌&&◌, not}
 use mathlib.Core.List.{List, [], ◌∷◌}
 use Prim.Native.Nat.{ℕ, ◌+◌, ◌-◌, ◌<◌, ◌≤◌}
@@ -7,9 +7,11 @@ use native.Mathlib.Omega.{arith}
 use native.Mathlib.Nat.{zero-add}
 use lib.ListN.{length, get_or, set, take, drop}
 use lib.Dec.{eqb, ltb}
-use borrow.Author.Tests.{eqb-true, le-ltb, le-leb, leb-true}
+use borrow.Author.Tests.{eqb-true, le-ltb, le-leb, lt-leb, leb-true}
 use Rattle.columns.specs.Common.{keep}
+use Rattle.columns.specs.Blocks.{part, length_part}
 use Rattle.columns.specs.Columns.{remove_at}
+use Rattle.columns.proofs.Tabulate.{part_get}
 use Rattle.entries.specs.declared.Key.{Key}
 use Rattle.entries.specs.declared.Timer.{Timer}
 use Rattle.entries.specs.Order.{before, sooner, is_due}
@@ -25,7 +27,7 @@ use Rattle.table.specs.Keys.{key_at, is_before, has_key_at}
 use Rattle.columns.proofs.Tests.{by_test}
 use Rattle.table.specs.First.{Falls, first_not, lead}
 use Rattle.table.proofs.Tables.{fields}
-use Rattle.table.proofs.Search.{first_is}
+use Rattle.table.proofs.Search.{first_is, first_at}
 use Rattle.table.proofs.Rising.{lead_keeps}
 use Rattle.table.specs.Rows.{each_column, word_removed}
 use Rattle.table.proofs.InBlock.{Table, Lies, entry_fields, zeros, count_is, block_remove}
@@ -58,6 +60,17 @@ timer_lies =
       counts_old = λ c l. refl;
       counts_new = λ c q. refl;
     }
+
+-- the first wake that is past due
+module _ (b : List ℕ) (time n r : ℕ) (w : List ℕ) (e : w ≡ part b timer_wake_column n) (l : timer_wake_column + n ≤ length b) where
+  pub first_due : r ≤ length w → ((i : ℕ) → i < r → get_or w i 0 ≤ time + 1) → (r < length w → time + 1 < get_or w r 0) → r ≡ first_not (λ (j : ℕ). is_due time (timer_at b j)) 0 n
+  unfolding timer_at
+  first_due h before at =
+      let k : length w ≡ n = rw e (length_part b timer_wake_column n l)
+      in let wake : (j : ℕ) → j < n → get_or w j 0 ≡ get_or b (timer_wake_column + j) 0 = λ j g. rw e (part_get b timer_wake_column n j g)
+      in sym (first_at _ n r (omega arith)
+      (λ j g. le-leb _ _ (rw (wake j (omega arith)) at (before j g)))
+      (λ g. lt-leb _ _ (rw (wake r g) at (at (omega arith)))))
 
 -- what the walk from the front finds
 pub due_is : (time : ℕ) (b : List ℕ) (r : ℕ) → r ≡ first_not (λ (j : ℕ). is_due time (timer_at b j)) 0 (get_or b 22 0) → (c : Cpu) → b ≡ cpu_words c → length c.timers ≤ 64 → r ≡ lead (is_due time) c.timers

@@ -1,7 +1,7 @@
 // The timers in a CPU's block: two columns, sorted by wake and context (a `BTreeSet` in context/mod.rs).
 #![tactic(auto)]
 
-ghost use Rattle.std.specs.Prelude.{◌≡◌, ℕ, ◌+◌, ◌-◌, ◌<◌, ◌≤◌, length, get_or};
+ghost use Rattle.std.specs.Prelude.{◌≡◌, ℕ, ◌+◌, ◌-◌, ◌<◌, ◌≤◌, length, get_or, slice_index, is_err};
 ghost use Rattle.columns.specs.Columns.{remove_at};
 ghost use Rattle.entries.specs.Order.{sooner, is_due};
 ghost use Rattle.entries.specs.Sorted.{Sorted};
@@ -15,6 +15,7 @@ ghost use Rattle.percpu.specs.Places.{timers_count, block_size};
 
 use entries::{Key, Timer};
 use percpu::places::{TIMER_CONTEXT_REF, TIMER_WAKE, TIMERS_COUNT};
+use table::{NoRoom, TIMER_KEYS};
 
 pub fn timer(b: &[u64], i: usize) -> Timer
     requires { (length b.now ≡ block_size) × (i < 64) }
@@ -37,17 +38,29 @@ fn key(t: Timer) -> Key
     }
 }
 
-// An equal pair adds nothing. True if there is no room; then nothing is changed.
-pub fn insert(b: &mut [u64], t: Timer) -> bool
+// An equal pair adds nothing.
+pub fn insert(b: &mut [u64], t: Timer) -> Result<(), NoRoom>
     requires { (length b.old ≡ block_size) × (get_or b.old timers_count 0 ≤ 64) }
-    ensures { (c : Cpu) → b.old ≡ cpu_words c → length c.timers ≤ 64 → Sorted sooner c.timers → (result ≡ no_room t c) × (b.new ≡ cpu_words (timer_put t c)) }
+    ensures { (c : Cpu) → b.old ≡ cpu_words c → length c.timers ≤ 64 → Sorted sooner c.timers → (is_err result ≡ no_room t c) × (b.new ≡ cpu_words (timer_put t c)) }
 {
     let n = b[TIMERS_COUNT] as usize;
     let k = key(t);
-    let p = table::find(b, TIMER_WAKE, TIMER_WAKE, TIMER_CONTEXT_REF, n, k);
-    let held = table::holds(b, TIMER_WAKE, TIMER_WAKE, TIMER_CONTEXT_REF, n, p, k);
+    let p = TIMER_KEYS.find(b, n, k);
+    let held = TIMER_KEYS.holds(b, n, p, k);
     let values = [t.wake, t.context_ref];
     table::put(b, TIMER_WAKE, TIMERS_COUNT, &values, n, p, held)
+}
+
+// How many words at the front are no more than last.
+fn first_above(wakes: &[u64], last: u64) -> usize
+    ensures within { result ≤ length wakes.now }
+    ensures before { (i : ℕ) → i < result → slice_index wakes.now i ≤ last }
+    ensures at { result < length wakes.now → last < slice_index wakes.now result }
+{
+    wakes
+        .iter()
+        .position(|wake| last < *wake)
+        .unwrap_or(wakes.len())
 }
 
 // How many timers at the front are due.
@@ -57,16 +70,7 @@ pub fn due(b: &[u64], time: u64) -> usize
 {
     let n = b[TIMERS_COUNT] as usize;
     let last = time + 1;
-    let mut i = 0;
-    while i < n {
-        let x = timer(b, i);
-        if x.wake <= last {
-            i += 1;
-        } else {
-            return i;
-        }
-    }
-    i
+    first_above(&b[TIMER_WAKE..TIMER_WAKE + n], last)
 }
 
 // Timer i taken out; the words that it frees are 0.
@@ -85,9 +89,8 @@ fn remove_superseded(b: &mut [u64], t: Timer)
     requires { (length b.old ≡ block_size) × (get_or b.old timers_count 0 ≤ 64) }
     ensures { (get_or b.new timers_count 0 ≤ 64) × ((c : Cpu) → b.old ≡ cpu_words c → length c.timers ≤ 64 → b.new ≡ cpu_words (newest t c)) }
 {
-    let mut i = b[TIMERS_COUNT] as usize;
-    while i > 0 {
-        i -= 1;
+    let n = b[TIMERS_COUNT] as usize;
+    for i in (0..n).rev() {
         let u = timer(b, i);
         if t.supersedes(u) {
             remove(b, i);
@@ -95,11 +98,10 @@ fn remove_superseded(b: &mut [u64], t: Timer)
     }
 }
 
-// The newest timer of its context stands: the others leave first. True if there is no room, which no image that passed
-// its check comes to: one timer to a context are 64 at most (model_leaves/proofs/TimerRoom).
-pub fn insert_newest(b: &mut [u64], t: Timer) -> bool
+// The newest timer of its context stands: the others leave first. No image that passed its check comes to no room here: one timer to a context are 64 at most (model_leaves/proofs/TimerRoom).
+pub fn insert_newest(b: &mut [u64], t: Timer) -> Result<(), NoRoom>
     requires { (length b.old ≡ block_size) × (get_or b.old timers_count 0 ≤ 64) }
-    ensures { (c : Cpu) → b.old ≡ cpu_words c → length c.timers ≤ 64 → Sorted sooner c.timers → (result ≡ no_room t (newest t c)) × (b.new ≡ cpu_words (timer_put t (newest t c))) }
+    ensures { (c : Cpu) → b.old ≡ cpu_words c → length c.timers ≤ 64 → Sorted sooner c.timers → (is_err result ≡ no_room t (newest t c)) × (b.new ≡ cpu_words (timer_put t (newest t c))) }
 {
     remove_superseded(b, t);
     insert(b, t)

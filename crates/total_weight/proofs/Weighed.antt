@@ -1,4 +1,5 @@
 -- What the code reads and adds is the weight of the CPU. Assumes nothing.
+use Rattle.std.specs.Prelude.{None, Option, Some}
 use mathlib.Core.Path.{◌≡◌, refl, subst, sym, ap, ◌∙◌}
 use mathlib.Core.Bool.{true, false}
 use mathlib.Core.List.{List}
@@ -12,8 +13,6 @@ use Rattle.percpu.specs.Words.{block_words}
 use Rattle.percpu.specs.Layout.{cpu_words}
 use Rattle.percpu.specs.Places.{block_size, queue_count, sched_ctxt_place}
 use Rattle.answer.specs.declared.Answer.{Answer}
-use Rattle.machine.specs.declared.CpuLookup.{CpuLookup}
-use Rattle.machine.specs.declared.CpuLookup.TheVariants.{Present, Absent}
 use Rattle.machine.specs.LookUp.{get_percpu_block}
 use Rattle.machine.specs.Machine.{Machine, context_at, cpu_at}
 use Rattle.machine.specs.Encode.{encode, cpu_place}
@@ -66,11 +65,11 @@ prio_below i x q h f = let p : (context_at i.M.contexts x).prio ≤ 39 = (i.fits
     omega (arith, p, e)
 
 -- the answer, by the look-up of the CPU
-module _ (M : Machine) (cpu : ℕ) (p : CpuLookup) (f : p ≡ get_percpu_block M cpu) where
-  pub absent_answer : (a : Answer) → p ≡ Absent → a ≡ record { refusal = 5; result = 0; interrupt = 0; rule = 0 } → a ≡ total_weight_answer M (get_percpu_block M cpu)
+module _ (M : Machine) (cpu : ℕ) (p : Option ℕ) (f : p ≡ get_percpu_block M cpu) where
+  pub absent_answer : (a : Answer) → p ≡ None → a ≡ record { refusal = 5; result = 0; interrupt = 0; rule = 0 } → a ≡ total_weight_answer M (get_percpu_block M cpu)
   unfolding total_weight_answer
   absent_answer a e g = rw (sym f ∙ e) g
 
-  pub present_answer : (k r : ℕ) → p ≡ Present k → r ≡ total_weight_of M k → record { refusal = 0; result = r; interrupt = 0; rule = 0 } ≡ total_weight_answer M (get_percpu_block M cpu)
+  pub present_answer : (k r : ℕ) → p ≡ Some k → r ≡ total_weight_of M k → record { refusal = 0; result = r; interrupt = 0; rule = 0 } ≡ total_weight_answer M (get_percpu_block M cpu)
   unfolding total_weight_answer
   present_answer k r e g = rw (sym f ∙ e) (λ j. record { refusal = 0; result = g j; interrupt = 0; rule = 0 })

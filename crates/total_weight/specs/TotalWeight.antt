@@ -1,12 +1,10 @@
 -- A CPU's weight, added up from its contexts (document 02, No. 7). Assumes nothing.
-use Rattle.std.specs.Prelude.{List, [], ◌∷◌, map, ℕ, ◌+◌, if◌then◌else◌}
+use Rattle.std.specs.Prelude.{List, [], ◌∷◌, map, ℕ, ◌+◌, if◌then◌else◌, None, Option, Some}
 use Rattle.context.specs.declared.Context.{Context}
 use Rattle.entries.specs.declared.Entry.{Entry}
 use Rattle.weights.specs.Weights.{weight}
 use Rattle.percpu.specs.Cpu.{Cpu}
 use Rattle.answer.specs.declared.Answer.{Answer}
-use Rattle.machine.specs.declared.CpuLookup.{CpuLookup}
-use Rattle.machine.specs.declared.CpuLookup.TheVariants.{Present, Absent}
 use Rattle.machine.specs.Machine.{Machine, context_at, cpu_at}
 
 abbrev pub sum : List ℕ → ℕ
@@ -29,6 +27,6 @@ unfoldable pub total_weight_of : Machine → (cpu : ℕ) → ℕ
 total_weight_of M i = sum (items_of M.contexts (cpu_at M i))
 
 -- the answer of a CPU that was looked up
-unfoldable pub total_weight_answer : Machine → CpuLookup → Answer
-total_weight_answer M Absent = record { refusal = 5; result = 0; interrupt = 0; rule = 0 }
-total_weight_answer M (Present k) = record { refusal = 0; result = total_weight_of M k; interrupt = 0; rule = 0 }
+unfoldable pub total_weight_answer : Machine → Option ℕ → Answer
+total_weight_answer M None = record { refusal = 5; result = 0; interrupt = 0; rule = 0 }
+total_weight_answer M (Some k) = record { refusal = 0; result = total_weight_of M k; interrupt = 0; rule = 0 }

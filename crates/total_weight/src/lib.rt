@@ -12,9 +12,9 @@ ghost use Rattle.machine.specs.LookUp.{get_percpu_block};
 ghost use Rattle.total_weight.specs.TotalWeight.{total_weight_of, total_weight_answer};
 ghost use Rattle.total_weight.specs.Words.{weight_words, Light};
 
-use answer::{Answer, refused};
-use machine::CpuLookup;
+use answer::Answer;
 use percpu::places;
+use refusal::{Refusal, refused};
 
 // The weights of the queue in the block b.
 fn queue_weight(b: &[u64]) -> u64
@@ -24,10 +24,8 @@ fn queue_weight(b: &[u64]) -> u64
 {
     let count = numbers::index(b[places::QUEUE_COUNT]);
     let mut total = 0;
-    let mut i = 0;
-    while i < count {
+    for i in 0..count {
         total += b[places::ENTRY_WEIGHT + i];
-        i += 1;
     }
     total
 }
@@ -54,8 +52,8 @@ pub fn answer(m: &[u64], c: usize, n: usize, cpu: u64) -> Answer
     ensures { (M : Machine) → m.now ≡ encode M → Fits c n M → result ≡ total_weight_answer M (get_percpu_block M cpu) }
 {
     let p = machine::get_percpu_block(m, c, n, cpu);
-    let CpuLookup::Present(k) = p else {
-        return refused(5);
+    let Some(k) = p else {
+        return refused(Refusal::Name);
     };
     Answer {
         refusal: 0,

@@ -1,12 +1,11 @@
 -- A switch for trial, from what its parts said. Assumes nothing.
+use Rattle.std.specs.Prelude.{Option, Some, Err, Ok, Result}
 use mathlib.Core.Path.{◌≡◌, sym, ap, ◌∙◌, subst}
 use Prim.Native.Nat.{ℕ, ◌-◌, ◌≤◌}
 use native.Mathlib.Omega.{arith}
 use mathlib.Core.List.{List, ◌++◌}
 use lib.ListN.{length, take}
 use lib.Seq.{take_all, take_at}
-use Rattle.machine.specs.declared.CpuLookup.{CpuLookup}
-use Rattle.machine.specs.declared.CpuLookup.TheVariants.{Present}
 use Rattle.machine.specs.Machine.{Machine}
 use Rattle.machine.specs.LookUp.{get_percpu_block}
 use Rattle.machine.specs.Encode.{encode, decode, max_image_size}
@@ -20,8 +19,6 @@ use Rattle.admission.specs.Refusals.{decision_refusal}
 use Rattle.answer.specs.declared.Answer.{Answer}
 use Rattle.context_ops.specs.Reply.{Reply, replied}
 use Rattle.switch_ops.specs.Reply.{decide_on, decide_by, decide, Replies, Attempts}
-use Rattle.calls.specs.declared.Checked.{Checked}
-use Rattle.calls.specs.declared.Checked.TheVariants.{Refused, Passed}
 use Rattle.calls.specs.Call.{check, checked_by, switch_call}
 use Rattle.calls.proofs.Called.{is_refused, call_refused, call_image, call_time, call_ranged, call_machine}
 use Rattle.trial.specs.Trial.{Tried}
@@ -38,7 +35,7 @@ module _ {m' : List ℕ} {a : Answer} (m : List ℕ) (M : Machine) (time : ℕ) 
   attempted_on k r e z h = rw (sym e ∙ z) h
 
   -- p: what looking up the CPU gave
-  pub attempted_by : (cpu k : ℕ) (p : CpuLookup) → p ≡ get_percpu_block M cpu → p ≡ Present k → Attempts m' a (decide_on m M k time by_switch) (outcome by_switch k time M).machine
+  pub attempted_by : (cpu k : ℕ) (p : Option ℕ) → p ≡ get_percpu_block M cpu → p ≡ Some k → Attempts m' a (decide_on m M k time by_switch) (outcome by_switch k time M).machine
       → Attempts m' a (decide m M cpu time by_switch) (outcome by_switch cpu time M).machine
   unfolding decide_by
   attempted_by cpu k p h e f =
@@ -50,15 +47,15 @@ pub copied : (m z : List ℕ) → take (length m) z ≡ take (length m) m → ta
 copied m z e = let l : length m - 0 ≡ length m = omega arith in rw l (e ∙ take_all (length m) m (omega arith))
 
 -- w: what the code's check of m gave
-module _ (m : List ℕ) (time : ℕ) (w : Checked) (e : w ≡ check m time) where
-  pub tried_refused : {a : Answer} (m' : List ℕ) (cpu r : ℕ) → w ≡ Refused r → a ≡ record { refusal = r; result = 0; interrupt = 0; rule = 0 } → Tried m m' cpu time a
+module _ (m : List ℕ) (time : ℕ) (w : Result (ℕ × ℕ) ℕ) (e : w ≡ check m time) where
+  pub tried_refused : {a : Answer} (m' : List ℕ) (cpu r : ℕ) → w ≡ Err r → a ≡ record { refusal = r; result = 0; interrupt = 0; rule = 0 } → Tried m m' cpu time a
   tried_refused m' cpu r g h =
       record {
         answers = ap (λ (y : Reply). y.answer) (call_refused m time w e r (λ (M : Machine). decide m M cpu time by_switch) g h);
         leaves = λ z. absurd (is_refused m time r (sym g ∙ e) (sym (ap (λ (b : Answer). b.refusal) h) ∙ z));
       }
 
-  module _ (c n : ℕ) (g : w ≡ Passed c n) where
+  module _ (c n : ℕ) (g : w ≡ Ok (c, n)) where
     pub fits_longest : length m ≤ max_image_size
     fits_longest = let s = sized (call_image m time w e c n g) in omega (arith, s.size, s.cpus, s.contexts)
 

@@ -12,8 +12,7 @@ ghost use Rattle.numbers.specs.Limits.{max_number};
 ghost use Rattle.trial.specs.Trial.{Tried};
 
 use answer::Answer;
-use calls::Checked;
-use machine::CpuLookup;
+use refusal::{Refusal, refused};
 use switch_ops::Decision;
 
 // On CPU k, which is present.
@@ -23,9 +22,8 @@ fn switch_on(m: &mut [u64], c: usize, n: usize, k: usize, time: u64) -> Answer
     requires ranged { Ranged c n max_number max_number m.old }
     ensures { (M : Machine) → m.old ≡ encode M → Fits c n M → Attempts m.new result (decide_on m.old M k time by_switch) (outcome by_switch k time M).machine }
 {
-    let number = admission::decision_refusal(m, c, n, k, time);
-    if number != 0 {
-        return answer::refused(number);
+    if let Err(refusal) = admission::check_decision(m, c, n, k, time) {
+        return refused(refusal);
     }
     switch_ops::attempt(m, c, n, k, time, Decision::Switch)
 }
@@ -39,8 +37,8 @@ pub fn switch(m: &mut [u64], c: usize, n: usize, cpu: u64, time: u64) -> Answer
 {
     let p = machine::get_percpu_block(m, c, n, cpu);
     match p {
-        CpuLookup::Present(k) => switch_on(m, c, n, k, time),
-        CpuLookup::Absent => answer::refused(5),
+        Some(k) => switch_on(m, c, n, k, time),
+        None => refused(Refusal::Name),
     }
 }
 
@@ -51,8 +49,8 @@ pub fn on_copy(image: &[u64], copy: &mut [u64], cpu: u64, time: u64) -> Answer
 {
     let checked = calls::check(image, time);
     match checked {
-        Checked::Refused(number) => answer::refused(number),
-        Checked::Passed(c, n) => {
+        Err(refusal) => refused(refusal),
+        Ok((c, n)) => {
             let len = image.len();
             words::copy(image, copy, len);
             switch(&mut copy[0..len], c, n, cpu, time)
@@ -66,7 +64,7 @@ pub fn in_place(m: &mut [u64], cpu: u64, time: u64) -> Answer
 {
     let checked = calls::check(m, time);
     match checked {
-        Checked::Refused(number) => answer::refused(number),
-        Checked::Passed(c, n) => switch(m, c, n, cpu, time),
+        Err(refusal) => refused(refusal),
+        Ok((c, n)) => switch(m, c, n, cpu, time),
     }
 }

@@ -9,19 +9,15 @@ ghost use Rattle.stages.specs.Stage.{Staged, Ranged};
 ghost use Rattle.numbers.specs.Limits.{max_number, half_range};
 ghost use Rattle.stages.specs.Bounds.{t_counted};
 
-use cpu_stats::lent::Change;
 use percpu::PercpuBlock;
 
-fn counted(b: PercpuBlock) -> PercpuBlock
+fn counted(mut b: PercpuBlock) -> PercpuBlock
     requires { CountersBelow half_range b.stats }
     ensures { result ≡ block_pit_ticks 0 (block_stats (switch_added b.inside_syscall b.stats) b) }
 {
-    let s = b.stats;
-    let change = Change::Switch(b.inside_syscall);
-    let stats = cpu_stats::lent::update(s, change);
-    let mut r = b.with_stats(stats);
-    r.pit_ticks = 0;
-    r
+    b.stats.add_context_switch(b.inside_syscall);
+    b.pit_ticks = 0;
+    b
 }
 
 pub fn count_switch(m: &mut [u64], c: usize, n: usize, k: usize)

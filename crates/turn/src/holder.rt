@@ -1,5 +1,5 @@
 // What the holder pays for its turn.
-ghost use Rattle.std.specs.Prelude.{◌≡◌, Bool, false, ℕ, ◌<◌, ◌≤◌};
+ghost use Rattle.std.specs.Prelude.{◌≡◌, Bool, false, ℕ, ◌<◌, ◌≤◌, is_err};
 ghost use Rattle.charging.specs.Charge.{Chargeable};
 ghost use Rattle.machine.specs.Shape.{ContextFits, Image};
 ghost use Rattle.model.specs.State.{State};
@@ -13,6 +13,7 @@ ghost use Rattle.stages.specs.Bounds.{t_timed, b_woken};
 use context::Context;
 use entries::Timer;
 use percpu::PercpuBlock;
+use stages::NoRoom;
 use ticks::Spent;
 
 // The total weight without a context that stops.
@@ -22,7 +23,7 @@ fn leave_weight(mut b: PercpuBlock, q: Context) -> PercpuBlock
 {
     if q.is_active {
         let weight = weights::weight_of(q.prio);
-        b.total_weight = numbers::saturating_sub(b.total_weight, weight);
+        b.total_weight = b.total_weight.saturating_sub(weight);
         return b;
     }
     b
@@ -41,7 +42,7 @@ fn deactivate(m: &mut [u64], c: usize, n: usize, k: usize, x: usize, b: PercpuBl
     stages::store_context(m, c, n, k, x, stopped);
 }
 
-// The wake of a holder that stops becomes a timer. True if there is no room for it.
+// The wake of a holder that stops becomes a timer.
 fn stop_holder(
     m: &mut [u64],
     c: usize,
@@ -50,12 +51,12 @@ fn stop_holder(
     x: usize,
     b: PercpuBlock,
     q: Context,
-) -> bool
+) -> Result<(), NoRoom>
     requires image { Image c n m.old }
     requires k_lt_c { (k < c) × (x < n) }
     requires block_fits { BlockFits n b }
     requires context_fits { ContextFits c q }
-    ensures { Staged c n k m.old m.new result (λ (s : State). stopped_by x b q s) }
+    ensures { Staged c n k m.old m.new (is_err result) (λ (s : State). stopped_by x b q s) }
 {
     deactivate(m, c, n, k, x, b, q);
     if q.has_wake {
@@ -65,7 +66,7 @@ fn stop_holder(
         };
         return stages::insert_newest_timer(m, c, n, k, t);
     }
-    false
+    Ok(())
 }
 
 fn charge_context(
@@ -77,33 +78,39 @@ fn charge_context(
     x: usize,
     b: PercpuBlock,
     q: Context,
-) -> bool
+) -> Result<(), NoRoom>
     requires image { Image c n m.old }
     requires k_lt_c { (k < c) × (x < n) }
     requires block_fits { BlockFits n b }
     requires context_fits { ContextFits c q }
     requires chargeable { Chargeable b.v spent q }
-    ensures { Staged c n k m.old m.new result (λ (s : State). charged_by spent x b q s) }
+    ensures { Staged c n k m.old m.new (is_err result) (λ (s : State). charged_by spent x b q s) }
 {
     let status = q.status;
     if status.is_runnable() {
         let charged = charging::charge_runnable(q, b.v, spent);
         stages::store_context(m, c, n, k, x, charged);
-        return false;
+        return Ok(());
     }
     stop_holder(m, c, n, k, x, b, q)
 }
 
-// True if there is no room for the timer of a holder that stopped.
-pub fn charge_holder(m: &mut [u64], c: usize, n: usize, k: usize, spent: Spent) -> bool
+// There may be no room for the timer of a holder that stopped.
+pub fn charge_holder(
+    m: &mut [u64],
+    c: usize,
+    n: usize,
+    k: usize,
+    spent: Spent,
+) -> Result<(), NoRoom>
     requires image { Image c n m.old }
     requires k_lt_c { (k < c) × (spent.ticks ≤ max_ticks) }
     requires ranged { Ranged c n t_timed b_woken m.old }
-    ensures { Staged c n k m.old m.new result (λ (s : State). charge_holder spent s) }
+    ensures { Staged c n k m.old m.new (is_err result) (λ (s : State). charge_holder spent s) }
 {
     let b = stages::load_block(m, c, n, k);
     if b.sched_ctxt == b.idle_ctxt {
-        return false;
+        return Ok(());
     }
     let x = numbers::index(b.sched_ctxt);
     let q = machine::load(m, c, n, x);

@@ -12,7 +12,6 @@ ghost use Rattle.numbers.specs.Limits.{max_number, max_elapsed, half_range, nano
 ghost use Rattle.stages.specs.Bounds.{t_counted, b_woken};
 
 use cpu_stats::CpuState;
-use cpu_stats::lent::Change;
 use percpu::PercpuBlock;
 use ticks::Spent;
 
@@ -26,24 +25,17 @@ pub struct Turn {
 fn is_idle(s: CpuState) -> bool
     ensures { result ≡ is_idle_state s }
 {
-    match s {
-        CpuState::Idle => true,
-        CpuState::Kernel => false,
-        CpuState::User => false,
-    }
+    s == CpuState::Idle
 }
 
-fn timed(b: PercpuBlock, time: u64, elapsed: u64) -> PercpuBlock
+fn timed(mut b: PercpuBlock, time: u64, elapsed: u64) -> PercpuBlock
     requires counters_below { CountersBelow half_range b.stats }
     requires elapsed_le_max_number { elapsed ≤ max_number }
     ensures { result ≡ block_schedule_time time (block_stats (time_added (elapsed / nanos_per_millisecond) b.stats) b) }
 {
-    let s = b.stats;
-    let change = Change::Time(elapsed / numbers::NANOS_PER_MILLISECOND);
-    let stats = cpu_stats::lent::update(s, change);
-    let mut r = b.with_stats(stats);
-    r.schedule_time = time;
-    r
+    b.stats.add_time(elapsed / numbers::NANOS_PER_MILLISECOND);
+    b.schedule_time = time;
+    b
 }
 
 // The turn's ticks. What is left over stays for the next decision, whoever is in charge.
@@ -69,7 +61,7 @@ pub fn times(m: &mut [u64], c: usize, n: usize, k: usize, time: u64) -> Turn
     ensures { Stage c n k m.old m.new false result (λ (s : State). on_cpu (times time) s) (λ (s : State). turn_of time s.cpu) }
 {
     let b = stages::load_block(m, c, n, k);
-    let elapsed = numbers::saturating_sub(time, b.schedule_time);
+    let elapsed = time.saturating_sub(b.schedule_time);
     let after = timed(b, time, elapsed);
     stages::store_block(m, c, n, k, after);
     let spent = convert(m, c, n, k, elapsed);

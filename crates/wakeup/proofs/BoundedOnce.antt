@@ -1,8 +1,7 @@
 -- What one wake-up adds: u bounds virtual times and the total weight of the whole stage. Assumes nothing.
-use Rattle.std.specs.Prelude.{if◌then◌else◌}
+use Rattle.std.specs.Prelude.{if◌then◌else◌, None, Option, Some}
 use mathlib.Core.Bool.{Bool, true, false}
 use mathlib.Core.List.{List}
-use mathlib.Core.Option.{Option, none, some}
 use Prim.Native.Nat.{ℕ, ◌+◌, ◌<◌, ◌≤◌}
 use native.Mathlib.Omega.{arith}
 use Rattle.columns.specs.Common.{All}
@@ -51,8 +50,8 @@ pub wakes_of : {t b : ℕ} (p : Cpu) → CpuBelow t b p → All (λ (x : Timer).
 wakes_of {t} p o = all_of (λ (x : Timer). x.wake ≤ t) no_timer p.timers o.timer_wake
 
 woken_below : {t b : ℕ} (o : Option ℕ) (c : Context) → ContextBelow t b c → ContextBelow t b (woken_by o c)
-woken_below none c f = f
-woken_below (some w) c f =
+woken_below None c f = f
+woken_below (Some w) c f =
     by_test (waits_for w c)
     (λ e. rw e
     (record {
@@ -70,7 +69,7 @@ woken_below (some w) c f =
 -- one wake-up; u is the bound of the whole stage
 module _ {n t b w u : ℕ} (s : State) (o : Slow n b w s) (f : StateBelow n t u s) (hw : w + max_weight ≤ u) (hb : b + max_whole_slice ≤ u) where
   back_below : (k : Option ℕ) (x : ℕ) → WakeBelow t k → StateBelow n t u (put_back k x s)
-  back_below none x h =
+  back_below None x h =
       record {
         context = f.context;
         cpu = record {
@@ -88,7 +87,7 @@ module _ {n t b w u : ℕ} (s : State) (o : Slow n b w s) (f : StateBelow n t u 
           timer_wake = f.cpu.timer_wake;
         };
       }
-  back_below (some k) x h =
+  back_below (Some k) x h =
       record {
         context = f.context;
         cpu = timers_below (timer_insert (record { wake = k; context_ref = x }) s.cpu.timers) s.cpu f.cpu

@@ -1,9 +1,8 @@
 -- One wake-up served, as it was judged: one lemma for each return. Assumes nothing.
-use Rattle.std.specs.Prelude.{if◌then◌else◌}
+use Rattle.std.specs.Prelude.{if◌then◌else◌, None, Option, Some}
 use mathlib.Core.Path.{◌≡◌, refl, sym, ap, ◌∙◌, subst}
 use mathlib.Core.Bool.{Bool, true, false, not}
 use mathlib.Core.List.{List}
-use mathlib.Core.Option.{Option, none, some}
 use Prim.Native.Nat.{ℕ, ◌<◌}
 use lib.Dec.{eqb}
 use Rattle.columns.proofs.Tests.{by_test}
@@ -28,7 +27,7 @@ use Rattle.numbers.specs.Limits.{max_number}
 
 -- put back, as the code found it
 abbrev back : Wakeup → Bool → State → State
-back w b s = put_back (if b then some w.wake else none) w.context_ref s
+back w b s = put_back (if b then Some w.wake else None) w.context_ref s
 
 module _ {c n k : ℕ} {m m' : List ℕ} {r : Bool} (w : Wakeup) where
   pub back_timer : w.by_timer ≡ true → Staged c n k m m' r (λ (s : State). insert_timer (record { wake = w.wake; context_ref = w.context_ref }) s)
@@ -71,8 +70,8 @@ record_entered {c} q h f = subst (ResultFits c) h f
 
 -- the record that a wake-up leaves is in its ranges
 woken_fits : {c : ℕ} (t : Option ℕ) (q : Context) → RecordFits c q → RecordFits c (woken_by t q)
-woken_fits none q f = f
-woken_fits {c} (some t) q f =
+woken_fits None q f = f
+woken_fits {c} (Some t) q f =
     by_test (waits_for t q)
     (λ e. rw e (record { fits = record { cpu_id = f.fits.cpu_id; prio = f.fits.prio; rem_slice = f.fits.rem_slice }; vtime = f.vtime }))
     (λ e. rw e f)

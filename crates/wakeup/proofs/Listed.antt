@@ -1,6 +1,6 @@
 -- The list of wake-ups: names, wakes and length. Assumes nothing.
+use Rattle.std.specs.Prelude.{None, Option, Some}
 use mathlib.Core.List.{List, [], ◌∷◌, ◌++◌, map}
-use mathlib.Core.Option.{Option, none, some}
 use Prim.Native.Nat.{ℕ, ◌<◌, ◌≤◌}
 use native.Mathlib.Omega.{arith}
 use lib.ListN.{length, get_or, length-append, length-map}
@@ -30,8 +30,8 @@ all_any P f (x ∷ xs) = (f x, all_any P f xs)
 
 -- a wake of a timer is at most t
 abbrev pub WakeBelow : ℕ → Option ℕ → Type 0
-WakeBelow t none = Unit {0}
-WakeBelow t (some x) = x ≤ t
+WakeBelow t None = Unit {0}
+WakeBelow t (Some x) = x ≤ t
 
 module _ (time : ℕ) (s : State) where
   abbrev live : List Timer

@@ -1,8 +1,7 @@
 -- How far the wake-ups move virtual times and the total weight. Assumes nothing.
-use Rattle.std.specs.Prelude.{if◌then◌else◌}
+use Rattle.std.specs.Prelude.{if◌then◌else◌, None, Option, Some}
 use mathlib.Core.Path.{◌≡◌, refl}
 use mathlib.Core.Bool.{Bool, true, false}
-use mathlib.Core.Option.{Option, none, some}
 use Prim.Native.Nat.{ℕ, ◌+◌, ◌<◌, ◌≤◌, max}
 use native.Mathlib.Omega.{arith}
 use native.Mathlib.Nat.{div-zero}
@@ -36,8 +35,8 @@ pub max_at_most : (a b c : ℕ) → a ≤ c → b ≤ c → max a b ≤ c
 max_at_most a b c h g = omega arith
 
 pub woken_vtime : (o : Option ℕ) (c : Context) → (woken_by o c).vtime ≡ c.vtime
-woken_vtime none c = refl
-woken_vtime (some t) c = by_test (waits_for t c) (λ e. rw e) (λ e. rw e)
+woken_vtime None c = refl
+woken_vtime (Some t) c = by_test (waits_for t c) (λ e. rw e) (λ e. rw e)
 
 pub slow_more : {n b w : ℕ} (w' : ℕ) {s : State} → w ≤ w' → Slow n b w s → Slow n b w' s
 slow_more w' h o = record { vtime = o.vtime; v = o.v; total_weight = omega (arith, o.total_weight) }
@@ -49,8 +48,8 @@ slow_put {b = b} {s = s} x q h o =
 
 module _ {n b w : ℕ} (s : State) (u : Wakeup) (o : Slow n b w s) where
   slow_back : (t : Option ℕ) (x : ℕ) → Slow n b w (put_back t x s)
-  slow_back none x = record { vtime = o.vtime; v = o.v; total_weight = o.total_weight }
-  slow_back (some t) x = record { vtime = o.vtime; v = o.v; total_weight = o.total_weight }
+  slow_back None x = record { vtime = o.vtime; v = o.v; total_weight = o.total_weight }
+  slow_back (Some t) x = record { vtime = o.vtime; v = o.v; total_weight = o.total_weight }
 
   slow_enter : (x : ℕ) (q : Context) → q.vtime ≤ b → Slow n b (w + max_weight) (enter x q s)
   unfolding enter

@@ -1,19 +1,18 @@
 -- The wake-ups served in order: one lemma for each need. Assumes nothing.
 use mathlib.Core.Path.{◌≡◌, refl, sym, ap, ◌∙◌, subst}
 use mathlib.Core.Bool.{Bool, true, false}
-use mathlib.Core.List.{List, [], ◌∷◌, ◌++◌}
+use mathlib.Core.List.{List, [], ◌∷◌, ◌++◌, map, map-append}
 use Prim.Native.Nat.{ℕ, zero, suc, ◌+◌, ◌*◌, ◌<◌, ◌≤◌}
 use native.Mathlib.Omega.{arith}
 use native.Mathlib.Numerals.{add-one}
-use lib.Dec.{ltb}
-use lib.ListN.{length}
-use borrow.Author.Tests.{ltb-true, ltb-false}
+use lib.ListN.{length, get_or, take, drop, take-append-drop}
+use lib.Seq.{take-suc, take_all}
 use Rattle.columns.specs.Common.{fold}
-use Rattle.columns.proofs.Tests.{by_test, never}
+use Rattle.columns.proofs.Tests.{never}
 use Rattle.machine.specs.Machine.{Machine}
 use Rattle.machine.specs.Encode.{encode}
 use Rattle.machine.specs.Shape.{Fits, Image}
-use Rattle.model.specs.State.{State, state_of, at}
+use Rattle.model.specs.State.{State, state_of}
 use Rattle.model.specs.Wakeup as definition
 use Rattle.model.specs.Wakeup.{wakeups, drained, serve_wakeup, serve_wakeups}
 use Rattle.model.proofs.NoRoom.{serve_full}
@@ -21,8 +20,7 @@ use Rattle.stages.specs.Stage.{put_state, Staged, Ranged}
 use Rattle.stages.proofs.Compose.{state_put, stage_then, stage_as}
 use Rattle.wakeup_judge.specs.declared.Wakeup.{Wakeup}
 use Rattle.wakeup_judge.specs.Judge.{wakeup_of}
-use Rattle.wakeup_read.specs.Read.{wakeup_at, wakeups_in, max_wakeups}
-use Rattle.wakeup_read.proofs.Scratched.{wakeup_such}
+use Rattle.wakeup_read.specs.Read.{wakeups_in, max_wakeups}
 use Rattle.wakeup.specs.Paced.{Slow, Paced, Named}
 use Rattle.wakeup.proofs.Pacing.{slow_more, slow_serve}
 use Rattle.stages.proofs.Reading.{stage_none}
@@ -31,24 +29,32 @@ use Rattle.numbers.specs.Limits.{max_number}
 use Rattle.weights.specs.Weights.{max_weight}
 use Rattle.stages.specs.Bounds.{b_waking}
 
--- the state after the first i wake-ups of the scratch
-abbrev pub after : List ℕ → ℕ → State → State
-after d i s = fold serve_wakeup s (wakeups_in d i)
+-- the state after the first i of the wake-ups ws
+abbrev pub after : List Wakeup → ℕ → State → State
+after ws i s = fold serve_wakeup s (map wakeup_of (take i ws))
 
 fold_append : {A B : Type 0} (f : B → A → B) (b : B) (xs ys : List A) → fold f b (xs ++ ys) ≡ fold f (fold f b xs) ys
 fold_append f b [] ys = refl
 fold_append f b (x ∷ xs) ys = fold_append f (f b x) xs ys
 
-after_next : (d : List ℕ) (i : ℕ) (s : State) → after d (suc i) s ≡ serve_wakeup (after d i s) (wakeup_of (wakeup_at d i))
-unfolding wakeups_in
-after_next d i s = fold_append serve_wakeup s (wakeups_in d i) (wakeup_of (wakeup_at d i) ∷ [])
+after_next : (ws : List Wakeup) (i : ℕ) (w : Wakeup) (s : State) → i < length ws → after ws (suc i) s ≡ serve_wakeup (after ws i s) (wakeup_of (get_or ws i w))
+after_next ws i w s h =
+    ap (λ (l : List Wakeup). fold serve_wakeup s (map wakeup_of l)) (take-suc ws i w h)
+    ∙ ap (fold serve_wakeup s) (map-append wakeup_of (take i ws) (get_or ws i w ∷ []))
+    ∙ fold_append serve_wakeup s (map wakeup_of (take i ws)) (wakeup_of (get_or ws i w) ∷ [])
 
-after_full : (d : List ℕ) (i j : ℕ) (s : State) → i ≤ j → (after d i s).no_room ≡ true → (after d j s).no_room ≡ true
-after_full d i zero s h e = let z : i ≡ 0 = omega arith in rw z at e
-after_full d i (suc j) s h e =
-    by_test (ltb i (suc j))
-    (λ t. let b : i ≤ j = (let a : i < suc j = ltb-true i (suc j) t in omega arith) in rw (after_next d j s) (serve_full (after d j s) (wakeup_of (wakeup_at d j)) (after_full d i j s b e)))
-    (λ t. let a : suc j ≤ i = ltb-false i (suc j) t in let z : i ≡ suc j = omega arith in rw z at e)
+-- without room it stays so
+fold_full : (s : State) (l : List definition.Wakeup) → s.no_room ≡ true → (fold serve_wakeup s l).no_room ≡ true
+fold_full s [] e = e
+fold_full s (w ∷ ws) e = fold_full (serve_wakeup s w) ws (serve_full s w e)
+
+after_full : (ws : List Wakeup) (i : ℕ) (s : State) → (after ws i s).no_room ≡ true → (fold serve_wakeup s (map wakeup_of ws)).no_room ≡ true
+after_full ws i s e =
+    let all : fold serve_wakeup s (map wakeup_of ws) ≡ fold serve_wakeup (after ws i s) (map wakeup_of (drop i ws)) =
+    ap (λ (l : List Wakeup). fold serve_wakeup s (map wakeup_of l)) (sym (take-append-drop i ws))
+    ∙ ap (fold serve_wakeup s) (map-append wakeup_of (take i ws) (drop i ws))
+    ∙ fold_append serve_wakeup s (map wakeup_of (take i ws)) (map wakeup_of (drop i ws))
+    in rw all (fold_full (after ws i s) (map wakeup_of (drop i ws)) e)
 
 -- a stage without room, and all that sets the mark where it does
 staged_full : {c n k : ℕ} {m m' m'' : List ℕ} {f f' : State → State} → Staged c n k m m' true f → ((s : State) → (f s).no_room ≡ true → (f' s).no_room ≡ true) → Staged c n k m m'' true f'
@@ -71,50 +77,51 @@ paced_by {n = n} {k = k} {b = b} {w' = w'} {f = f} h g t p =
     in record { M = put_state k (f (state_of k p.M)) p.M; eq = a.after refl; fits = a.fits refl; slow = subst (Slow n b w') (sym z) (g (state_of k p.M) p.slow) }
 
 -- the invariant: m₀ and m are the image where the loop begins and now
-pub record ServeLoop (c n k len : ℕ) (m₀ m d : List ℕ) (i : ℕ) : Type 0 where
-  pub here : i ≤ len
-  pub same : length m ≡ length m₀
-  pub served : Staged c n k m₀ m false (λ (s : State). after d i s)
+pub record ServeLoop (c n k : ℕ) (m₀ m : List ℕ) (ws : List Wakeup) (i : ℕ) : Type 0 where
+  pub served : Staged c n k m₀ m false (λ (s : State). after ws i s)
   pub paced : Paced c n k max_number (max_number + max_weight * i) m
 
-pub serve_start : {c n k : ℕ} {m : List ℕ} (len : ℕ) (d : List ℕ) → Image c n m → Paced c n k max_number max_number m → ServeLoop c n k len m m d 0
-unfolding wakeups_in
-serve_start {k = k} len d i p = record { here = omega arith; same = refl; served = stage_none i; paced = paced_more _ (omega arith) p }
+pub serve_start : {c n k : ℕ} {m : List ℕ} (ws : List Wakeup) → Image c n m → Paced c n k max_number max_number m → ServeLoop c n k m m ws 0
+serve_start ws i p = record { served = stage_none i; paced = paced_more _ (omega arith) p }
 
-module _ {c n k len : ℕ} {m₀ m d : List ℕ} {i : ℕ} (h : k < c) (l : ServeLoop c n k len m₀ m d i) (b : i < len) (w : Wakeup) (hw : w ≡ wakeup_at d i) where
-  pub serve_named : Named n (wakeups_in d len) → w.context_ref < n
-  serve_named a = subst (λ (y : Wakeup). y.context_ref < n) (sym hw) (wakeup_such (λ (u : definition.Wakeup). u.context_ref < n) d len i a b)
+all_at : (n : ℕ) (ws : List Wakeup) (i : ℕ) (w : Wakeup) → Named n (map wakeup_of ws) → i < length ws → (get_or ws i w).context_ref < n
+all_at n [] i w a b = absurd (omega arith)
+all_at n (v ∷ vs) zero w a b = a.0
+all_at n (v ∷ vs) (suc i) w a b = all_at n vs i w a.1 (omega arith)
 
-  pub serve_paced : len ≤ max_wakeups → Paced c n k max_number b_waking m
+-- w: what the code reads past the end
+module _ {c n k : ℕ} {m₀ m : List ℕ} {ws : List Wakeup} {i : ℕ} (h : k < c) (l : ServeLoop c n k m₀ m ws i) (b : i < length ws) (w : Wakeup) where
+  pub serve_named : Named n (map wakeup_of ws) → (get_or ws i w).context_ref < n
+  serve_named a = all_at n ws i w a b
+
+  pub serve_paced : length ws ≤ max_wakeups → Paced c n k max_number b_waking m
   serve_paced s = paced_more b_waking (omega arith) l.paced
 
-  once_more : {m' : List ℕ} {r : Bool} → Staged c n k m m' r (λ (s : State). serve_wakeup s (wakeup_of w)) → Staged c n k m₀ m' r (λ (s : State). after d (suc i) s)
-  once_more t =
-      stage_as (stage_then h l.served t)
-      (λ M e o. (ap (λ (y : Wakeup). serve_wakeup (after d i (state_of k M)) (wakeup_of y)) hw ∙ sym (after_next d i (state_of k M)), λ y z. refl))
+  once_more : {m' : List ℕ} {r : Bool} → Staged c n k m m' r (λ (s : State). serve_wakeup s (wakeup_of (get_or ws i w))) → Staged c n k m₀ m' r (λ (s : State). after ws (suc i) s)
+  once_more t = stage_as (stage_then h l.served t) (λ M e o. (sym (after_next ws i w (state_of k M) b), λ y z. refl))
 
-  pub serve_no_room : {m' : List ℕ} {r : Bool} → r ≡ true → Staged c n k m m' r (λ (s : State). serve_wakeup s (wakeup_of w)) → Staged c n k m₀ m' true (λ (s : State). after d len s)
+  pub serve_no_room : {m' : List ℕ} {r : Bool} → r ≡ true → Staged c n k m m' r (λ (s : State). serve_wakeup s (wakeup_of (get_or ws i w)))
+      → Staged c n k m₀ m' true (λ (s : State). fold serve_wakeup s (map wakeup_of ws))
   serve_no_room {m'} e t =
-      staged_full (subst (λ (y : Bool). Staged c n k m₀ m' y (λ (s : State). after d (suc i) s)) e (once_more t)) (λ s f. after_full d (suc i) len s (omega arith) f)
+      staged_full (subst (λ (y : Bool). Staged c n k m₀ m' y (λ (s : State). after ws (suc i) s)) e (once_more t)) (λ s f. after_full ws (suc i) s f)
 
-  pub serve_next : {m' : List ℕ} {r : Bool} → Named n (wakeups_in d len) → r ≡ false → Staged c n k m m' r (λ (s : State). serve_wakeup s (wakeup_of w)) → length m' ≡ length m
-      → ServeLoop c n k len m₀ m' d (i + 1)
-  serve_next {m'} a e t z =
-      let u = subst (λ (y : Bool). Staged c n k m m' y (λ (s : State). serve_wakeup s (wakeup_of w))) e t
+  pub serve_next : {m' : List ℕ} {r : Bool} → Named n (map wakeup_of ws) → r ≡ false → Staged c n k m m' r (λ (s : State). serve_wakeup s (wakeup_of (get_or ws i w)))
+      → ServeLoop c n k m₀ m' ws (i + 1)
+  serve_next {m'} a e t =
+      let u = subst (λ (y : Bool). Staged c n k m m' y (λ (s : State). serve_wakeup s (wakeup_of (get_or ws i w)))) e t
       in record {
-        here = omega arith;
-        same = z ∙ l.same;
         served = rw (add-one i) (once_more u);
         paced = paced_more (max_number + max_weight * (i + 1)) (omega arith)
-            (paced_by h (λ s o. slow_serve s (wakeup_of w) o (serve_named a)) u l.paced);
+            (paced_by h (λ s o. slow_serve s (wakeup_of (get_or ws i w)) o (serve_named a)) u l.paced);
       }
 
-pub serve_end : {c n k len : ℕ} {m₀ m d : List ℕ} {i : ℕ} → ServeLoop c n k len m₀ m d i → len ≤ i → Staged c n k m₀ m false (λ (s : State). after d len s)
-serve_end {c} {n} {k} {len} {m₀} {m} {d} {i} l b =
-    let z : i ≡ len = omega (arith, l.here) in subst (λ (y : ℕ). Staged c n k m₀ m false (λ (s : State). after d y s)) z l.served
+pub serve_end : {c n k : ℕ} {m₀ m : List ℕ} {ws : List Wakeup} {i : ℕ} → ServeLoop c n k m₀ m ws i → length ws ≤ i
+    → Staged c n k m₀ m false (λ (s : State). fold serve_wakeup s (map wakeup_of ws))
+serve_end {c} {n} {k} {m₀} {m} {ws} {i} l b =
+    subst (λ (y : List Wakeup). Staged c n k m₀ m false (λ (s : State). fold serve_wakeup s (map wakeup_of y))) (take_all i ws b) l.served
 
 -- the whole
-module _ {c n k : ℕ} {m : List ℕ} (time len : ℕ) (d : List ℕ) (h : k < c) (f : (M : Machine) → m ≡ encode M → Fits c n M → wakeups_in d len ≡ wakeups time (state_of k M)) where
+module _ {c n k : ℕ} {m : List ℕ} (time len : ℕ) (d : List Wakeup) (h : k < c) (f : (M : Machine) → m ≡ encode M → Fits c n M → wakeups_in d len ≡ wakeups time (state_of k M)) where
   pub read_named : Image c n m → Named n (wakeups_in d len)
   read_named i = subst (Named n) (sym (f i.M i.eq i.fits)) (wakeups_named time (state_of k i.M) (i.fits.cpu k h))
 

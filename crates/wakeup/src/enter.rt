@@ -1,5 +1,5 @@
 // A woken context enters the queue.
-ghost use Rattle.std.specs.Prelude.{false, ◌<◌};
+ghost use Rattle.std.specs.Prelude.{false, ◌<◌, is_err};
 ghost use Rattle.weights.specs.Weights.{weight};
 ghost use Rattle.entries.specs.Queue.{queue_remove};
 ghost use Rattle.percpu.specs.Cpu.{Cpu};
@@ -16,6 +16,7 @@ ghost use Rattle.context.specs.Key.{entry_of};
 use context::Context;
 use entries::Key;
 use percpu::places::BLOCK_SIZE;
+use stages::NoRoom;
 
 // A context that was not active counts in the total weight from now on.
 fn activate(m: &mut [u64], c: usize, n: usize, k: usize, q: Context)
@@ -52,12 +53,12 @@ fn remove_old_key(m: &mut [u64], c: usize, n: usize, k: usize, q: Context)
     }
 }
 
-// The record e stored, and its entry inserted. True if there is no room.
-fn join(m: &mut [u64], c: usize, n: usize, k: usize, x: usize, e: Context) -> bool
+// The record e stored, and its entry inserted.
+fn join(m: &mut [u64], c: usize, n: usize, k: usize, x: usize, e: Context) -> Result<(), NoRoom>
     requires image { Image c n m.old }
     requires k_lt_c { (k < c) × (x < n) }
     requires context_fits { ContextFits c e }
-    ensures { Staged c n k m.old m.new result (λ (s : State). insert_entry (entry_of x (weight e.prio) e) (put_context x e s)) }
+    ensures { Staged c n k m.old m.new (is_err result) (λ (s : State). insert_entry (entry_of x (weight e.prio) e) (put_context x e s)) }
 {
     stages::store_context(m, c, n, k, x, e);
     let weight = weights::weight_of(e.prio);
@@ -66,12 +67,19 @@ fn join(m: &mut [u64], c: usize, n: usize, k: usize, x: usize, e: Context) -> bo
     stages::insert_entry(m, c, n, k, entry)
 }
 
-// The context x with the record q enters. True if there is no room.
-pub fn enter_queue(m: &mut [u64], c: usize, n: usize, k: usize, x: usize, q: Context) -> bool
+// The context x with the record q enters.
+pub fn enter_queue(
+    m: &mut [u64],
+    c: usize,
+    n: usize,
+    k: usize,
+    x: usize,
+    q: Context,
+) -> Result<(), NoRoom>
     requires image { Image c n m.old }
     requires k_lt_c { (k < c) × (x < n) × RecordFits c q }
     requires paced { Paced c n k max_number b_waking m.old }
-    ensures { Staged c n k m.old m.new result (λ (s : State). enter x q s) }
+    ensures { Staged c n k m.old m.new (is_err result) (λ (s : State). enter x q s) }
 {
     let b = stages::load_block(m, c, n, k);
     let e = wakeup_judge::enter_record(b.v, q);

@@ -1,6 +1,5 @@
 -- A wake-up by value, and what the definitions of the decision say of it. Assumes nothing.
-use Rattle.std.specs.Prelude.{Bool, not, ◌&&◌, ◌||◌, ℕ, ◌+◌, ◌<◌, ◌≤◌, eqb, if◌then◌else◌}
-use Rattle.std.proofs.Math.Option.{Option, none, some}
+use Rattle.std.specs.Prelude.{Bool, not, ◌&&◌, ◌||◌, ℕ, ◌+◌, ◌<◌, ◌≤◌, eqb, if◌then◌else◌, None, Option, Some}
 use Rattle.context.specs.declared.Context.{Context}
 use Rattle.context.specs.Status.{is_runnable}
 use Rattle.weights.specs.Weights.{weight}
@@ -14,7 +13,7 @@ use Rattle.wakeup_judge.specs.declared.WakeupResult.TheVariants.{Dropped, Locked
 use Rattle.numbers.specs.Limits.{max_number}
 
 abbrev pub wake_of : Wakeup → Option ℕ
-wake_of w = if w.by_timer then some w.wake else none
+wake_of w = if w.by_timer then Some w.wake else None
 
 -- the definition's wake-up, and its result
 abbrev pub wakeup_of : Wakeup → definition.Wakeup

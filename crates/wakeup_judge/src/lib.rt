@@ -66,13 +66,13 @@ pub fn is_unreadable(sched: u64, t: Timer, c: Context) -> bool
     t.context_ref == sched
 }
 
-fn woken_by(w: Wakeup, c: Context) -> Context
+fn woken_by(w: Wakeup, mut c: Context) -> Context
     ensures { result ≡ woken_by (wake_of w) c }
 {
     if w.by_timer {
         if waits_for(c, w.wake) {
-            let woken = c.wake_up();
-            return woken.context;
+            c.wake_up();
+            return c;
         }
         return c;
     }
@@ -123,7 +123,7 @@ pub fn enter_record(v: u64, mut c: Context) -> Context
     requires { Enterable v c }
     ensures { result ≡ entering v c }
 {
-    let vtime = numbers::max(c.vtime, v);
+    let vtime = c.vtime.max(v);
     let vd = vtime + weights::slice_of(c.prio);
     c.vtime = vtime;
     c.vd = vd;

@@ -1,25 +1,19 @@
 -- The names of the interrupt list behind those of the local list. Assumes nothing.
-use mathlib.Core.Path.{◌≡◌, refl, sym, ap, ◌∙◌}
-use mathlib.Core.Bool.{Bool, true, false}
-use Prim.Native.Nat.{ℕ, zero, suc, ◌+◌, ◌*◌, ◌<◌, ◌≤◌}
+use mathlib.Core.Path.{◌≡◌, sym, ap, ◌∙◌}
+use Prim.Native.Nat.{ℕ, ◌+◌, ◌<◌, ◌≤◌}
 use native.Mathlib.Omega.{arith}
 use native.Mathlib.Numerals.{add-one}
 use mathlib.Core.List.{List, [], ◌∷◌, ◌++◌, append_assoc, append-nil}
-use lib.Dec.{ltb, eqb}
-use lib.ListN.{length, get_or, set, take, drop, replicate, length-replicate, get_or-replicate}
-use lib.Seq.{take-suc, take_all, ext_get_or, get_or-set_same, get_or-set_other}
-use borrow.Author.Tests.{eqb-true, eqb-false}
-use borrow.Rule.Slice.PartMut.{put_mid}
+use lib.ListN.{length, get_or, set, take, replicate}
+use lib.Seq.{take-suc, take_all}
 use Rattle.columns.specs.Columns.{pad}
-use Rattle.columns.specs.Blocks.{flat, part, splice, col_splice}
-use Rattle.columns.proofs.Tests.{by_test}
-use Rattle.cpu_stats.specs.Words.{stats_words}
+use Rattle.columns.specs.Blocks.{flat, splice, col_splice}
 use Rattle.percpu.specs.Cpu.{Cpu}
 use Rattle.percpu.specs.With.{cpu_local_wakeup_list, cpu_ipi_context_wakeup_list}
 use Rattle.percpu.specs.Words.{block_words}
 use Rattle.percpu.specs.Layout.{cpu_words, counts, columns, last_words, front_length}
 use Rattle.percpu.proofs.Read.{ipi_is}
-use Rattle.wakeup_lists.proofs.Pushed.{Listed, local_listed, ipi_listed}
+use Rattle.wakeup_lists.proofs.Pushed.{local_listed, ipi_listed}
 use Rattle.percpu.specs.Places.{local_wakeup_list_column, ipi_context_wakeup_list_column}
 
 -- the first i names are behind the local ones
@@ -49,18 +43,6 @@ pub appended_all : (b₀ b : List ℕ) (k i : ℕ) → k ≡ get_or b₀ 24 0 �
 appended_all b₀ b k i hk h f c e l =
     let n : length c.ipi_context_wakeup_list ≤ i = omega (arith, ipi_count c b₀ e)
     in f c e l ∙ rw (take_all i c.ipi_context_wakeup_list n)
-
--- words that are 0
-pub zeros_more : (a : List ℕ) (i : ℕ) → i < length a → ((j : ℕ) → j < i → get_or a j 0 ≡ 0) → (j : ℕ) → j < i + 1 → get_or (set a i 0) j 0 ≡ 0
-zeros_more a i h z j g =
-    by_test (eqb j i)
-    (λ t. rw (eqb-true j i t) (get_or-set_same a i 0 0 h))
-    (λ t. let n : j ≡ i → ⊥ = eqb-false j i t in get_or-set_other a i j 0 0 n ∙ z j (omega (arith, n)))
-
-pub zeros_all : (a : List ℕ) (n i : ℕ) → length a ≡ n → n ≤ i → ((j : ℕ) → j < i → get_or a j 0 ≡ 0) → a ≡ replicate n 0
-zeros_all a n i l h z =
-    ext_get_or 0 a (replicate n 0) (l ∙ sym (length-replicate n 0))
-    (λ j g. z j (omega arith) ∙ sym (get_or-replicate n j 0 0 (omega arith)))
 
 -- the interrupt list's words cleared, and its count
 pub cleared : (b a : List ℕ) (c : Cpu) → b ≡ cpu_words c → a ≡ replicate 64 0

@@ -37,11 +37,7 @@ fn clear(a: &mut [u64])
     requires { length a.old ≡ 64 }
     ensures { a.new ≡ replicate 64 0 }
 {
-    let mut i = 0;
-    while i < 64 {
-        a[i] = 0;
-        i += 1;
-    }
+    a.fill(0);
 }
 
 // The names of the interrupt list behind those of the local list, which has room for them.
@@ -50,11 +46,9 @@ fn append_ipi(b: &mut [u64])
     ensures { (c : Cpu) → b.old ≡ cpu_words c → length c.ipi_context_wakeup_list ≤ 64 → b.new ≡ cpu_words (cpu_local_wakeup_list (c.local_wakeup_list ++ c.ipi_context_wakeup_list) c) }
 {
     let k = numbers::index(b[IPI_COUNT]);
-    let mut i = 0;
-    while i < k {
+    for i in 0..k {
         let x = b[IPI_CONTEXT_WAKEUP_LIST + i];
         push_local(b, x);
-        i += 1;
     }
 }
 

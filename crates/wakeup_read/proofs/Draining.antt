@@ -1,7 +1,6 @@
 -- The due timers taken out from the last to the first, then the local list. Assumes nothing.
-use Rattle.std.specs.Prelude.{if◌then◌else◌}
 use mathlib.Core.Path.{◌≡◌, refl, sym, ap, ◌∙◌}
-use mathlib.Core.Bool.{Bool, true, false, not, ◌||◌}
+use mathlib.Core.Bool.{Bool, true, false}
 use mathlib.Core.List.{List, []}
 use Prim.Native.Nat.{ℕ, suc, ◌+◌, ◌-◌, ◌<◌, ◌≤◌}
 use native.Mathlib.Omega.{arith}
@@ -20,7 +19,7 @@ use Rattle.table.specs.First.{lead}
 use Rattle.timers.proofs.Table.{due_kept}
 use Rattle.machine.specs.Machine.{Machine, context_at, cpu_at}
 use Rattle.machine.specs.Encode.{encode, cpu_place}
-use Rattle.machine.specs.Shape.{Image, Fits, CpuFits}
+use Rattle.machine.specs.Shape.{Image, Fits}
 use Rattle.model.specs.State.{State, state_of, on_cpu}
 use Rattle.model.specs.Wakeup.{is_unreadable, stays, drained}
 use Rattle.stages.specs.Stage.{put_state, Staged}

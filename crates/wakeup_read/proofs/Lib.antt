@@ -1,4 +1,3 @@
-pub mod Scratched
 pub mod Items
 pub mod Reading
 pub mod Thinned

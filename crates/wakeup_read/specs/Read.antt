@@ -1,10 +1,9 @@
--- What is read into the scratch: three words a wake-up. Assumes nothing.
-use Rattle.std.specs.Prelude.{◌≡◌, List, [], ◌∷◌, ◌++◌, map, ℕ, zero, suc, ◌+◌, ◌*◌, ◌<◌, eqb, get_or, if◌then◌else◌}
+-- What is read into the scratch. Assumes nothing.
+use Rattle.std.specs.Prelude.{◌≡◌, List, map, ℕ, ◌<◌, take, get_or, if◌then◌else◌}
 use Rattle.columns.specs.Columns.{remove_at}
 use Rattle.columns.specs.Common.{keep}
 use Rattle.context.specs.declared.Context.{Context}
 use Rattle.entries.specs.declared.Timer.{Timer}
-use Rattle.percpu.specs.Cpu.{Cpu}
 use Rattle.percpu.specs.With.{cpu_timers}
 use Rattle.percpu.specs.Layout.{no_timer}
 use Rattle.machine.specs.Machine.{Machine, context_at, cpu_at}
@@ -15,20 +14,13 @@ use Rattle.model.specs.Wakeup as definition
 use Rattle.wakeup_judge.specs.declared.Wakeup.{Wakeup}
 use Rattle.wakeup_judge.specs.Judge.{wakeup_of, live_at}
 
--- 64 timers and 64 names, three words each
+-- 64 timers and 64 names
 abbrev pub max_wakeups : ℕ
 max_wakeups = 128
 
-abbrev pub wakeup_words : ℕ
-wakeup_words = 3 * max_wakeups
-
-abbrev pub wakeup_at : List ℕ → ℕ → Wakeup
-wakeup_at d i = record { by_timer = eqb (get_or d (3 * i) 0) 1; wake = get_or d (3 * i + 1) 0; context_ref = get_or d (3 * i + 2) 0 }
-
 -- the first n wake-ups of a scratch
-unfoldable pub wakeups_in : List ℕ → ℕ → List definition.Wakeup
-wakeups_in d zero = []
-wakeups_in d (suc n) = wakeups_in d n ++ (wakeup_of (wakeup_at d n) ∷ [])
+abbrev pub wakeups_in : List Wakeup → ℕ → List definition.Wakeup
+wakeups_in d n = map wakeup_of (take n d)
 
 -- the wake-ups of the timers that are live, where the holder is `sched`
 unfoldable pub live_wakeups : ℕ → List Context → List Timer → List definition.Wakeup

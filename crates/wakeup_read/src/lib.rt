@@ -1,8 +1,7 @@
 // The wake-ups of a decision read into a scratch, and taken out of the timers and the local list.
-// In every function m is the image of a machine of c CPUs and n contexts, and k is the CPU; d is the scratch, three words a wake-up.
+// In every function m is the image of a machine of c CPUs and n contexts, and k is the CPU; d is the scratch.
 #![tactic(auto)]
 
-mod scratch;
 mod take_out;
 
 ghost use Rattle.std.specs.Prelude.{◌≡◌, [], ◌∷◌, ◌++◌, map, ◌+◌, ◌<◌, ◌≤◌, length, get_or};
@@ -14,16 +13,17 @@ ghost use Rattle.machine.specs.Encode.{encode, cpu_place};
 ghost use Rattle.machine.specs.Shape.{Image, Fits};
 ghost use Rattle.model.specs.State.{state_of};
 ghost use Rattle.model.specs.Wakeup.{local_wakeup, wakeups};
-ghost use Rattle.wakeup_read.specs.Read.{wakeups_in, live_wakeups, TimerRead, NameRead, max_wakeups, wakeup_words};
+ghost use Rattle.wakeup_read.specs.Read.{wakeups_in, live_wakeups, TimerRead, NameRead, max_wakeups};
 ghost use Rattle.numbers.specs.Limits.{max_number};
 ghost use Rattle.percpu.specs.Places.{timers_count, local_count};
 
 use entries::Timer;
-use machine::Lookup;
 use percpu::places;
-pub use scratch::{WAKEUP_WORDS, put_wakeup, wakeup_in};
 pub use take_out::drain;
 use wakeup_judge::Wakeup;
+
+// how many wake-ups a decision can have
+pub const MAX_WAKEUPS: usize = 128;
 
 // How many timers at the front are due.
 fn due(m: &[u64], c: usize, n: usize, k: usize, time: u64) -> usize
@@ -68,7 +68,7 @@ fn local_name(m: &[u64], c: usize, n: usize, k: usize, i: usize) -> u64
 // A due timer: behind the len wake-ups of the scratch if it is live. How many there are then.
 fn read_timer(
     m: &[u64],
-    d: &mut [u64],
+    d: &mut [Wakeup],
     c: usize,
     n: usize,
     sched: u64,
@@ -76,69 +76,62 @@ fn read_timer(
     t: Timer,
 ) -> usize
     requires image { Image c n m.now }
-    requires context_ref_bound { (t.context_ref < n) × (length d.old ≡ wakeup_words) × (len < max_wakeups) }
+    requires context_ref_bound { (t.context_ref < n) × (length d.old ≡ max_wakeups) × (len < max_wakeups) }
     ensures { (result ≤ len + 1) × ((M : Machine) → m.now ≡ encode M → Fits c n M → wakeups_in d.new result ≡ wakeups_in d.old len ++ live_wakeups sched M.contexts (t ∷ [])) }
 {
     let l = machine::look_up(m, c, n, t.context_ref);
-    let Lookup::Live(x) = l else {
+    let Some(x) = l else {
         return len;
     };
     let q = machine::load(m, c, n, x);
     if wakeup_judge::is_live(sched, t, q) {
-        let w = Wakeup {
+        d[len] = Wakeup {
             by_timer: true,
             wake: t.wake,
             context_ref: t.context_ref,
         };
-        put_wakeup(d, len, w);
         return len + 1;
     }
     len
 }
 
 // The due timers that are live, from the scratch's front. How many they are.
-fn read_timers(m: &[u64], d: &mut [u64], c: usize, n: usize, k: usize, time: u64) -> usize
+fn read_timers(m: &[u64], d: &mut [Wakeup], c: usize, n: usize, k: usize, time: u64) -> usize
     requires image { Image c n m.now }
-    requires k_lt_c { (k < c) × (time ≤ max_number) × (length d.old ≡ wakeup_words) }
+    requires k_lt_c { (k < c) × (time ≤ max_number) × (length d.old ≡ max_wakeups) }
     ensures { (result ≤ 64) × ((M : Machine) → m.now ≡ encode M → Fits c n M → wakeups_in d.new result ≡ live_wakeups (cpu_at M k).block.sched_ctxt M.contexts (keep (is_due time) (cpu_at M k).timers)) }
 {
     let b = stages::load_block(m, c, n, k);
     let count = due(m, c, n, k, time);
     let mut len = 0;
-    let mut i = 0;
-    while i < count {
+    for i in 0..count {
         let t = timer(m, c, n, k, i);
         len = read_timer(m, d, c, n, b.sched_ctxt, len, t);
-        i += 1;
     }
     len
 }
 
 // The local list's names behind the first `from` wake-ups. How many there are then.
-fn read_local(m: &[u64], d: &mut [u64], c: usize, n: usize, k: usize, from: usize) -> usize
+fn read_local(m: &[u64], d: &mut [Wakeup], c: usize, n: usize, k: usize, from: usize) -> usize
     requires image { Image c n m.now }
-    requires k_lt_c { (k < c) × (from ≤ 64) × (length d.old ≡ wakeup_words) }
+    requires k_lt_c { (k < c) × (from ≤ 64) × (length d.old ≡ max_wakeups) }
     ensures { (result ≤ max_wakeups) × ((M : Machine) → m.now ≡ encode M → Fits c n M → wakeups_in d.new result ≡ wakeups_in d.old from ++ map local_wakeup (cpu_at M k).local_wakeup_list) }
 {
     let count = local_len(m, c, n, k);
-    let mut i = 0;
-    while i < count {
-        let x = local_name(m, c, n, k, i);
-        let w = Wakeup {
+    for i in 0..count {
+        d[from + i] = Wakeup {
             by_timer: false,
             wake: 0,
-            context_ref: x,
+            context_ref: local_name(m, c, n, k, i),
         };
-        put_wakeup(d, from + i, w);
-        i += 1;
     }
-    from + i
+    from + count
 }
 
 // All wake-ups, in order. How many they are.
-pub fn read_wakeups(m: &[u64], d: &mut [u64], c: usize, n: usize, k: usize, time: u64) -> usize
+pub fn read_wakeups(m: &[u64], d: &mut [Wakeup], c: usize, n: usize, k: usize, time: u64) -> usize
     requires image { Image c n m.now }
-    requires k_lt_c { (k < c) × (time ≤ max_number) × (length d.old ≡ wakeup_words) }
+    requires k_lt_c { (k < c) × (time ≤ max_number) × (length d.old ≡ max_wakeups) }
     ensures { (result ≤ max_wakeups) × ((M : Machine) → m.now ≡ encode M → Fits c n M → wakeups_in d.new result ≡ wakeups time (state_of k M)) }
 {
     let len = read_timers(m, d, c, n, k, time);

@@ -15,7 +15,6 @@ ghost use Rattle.wakeup_read.specs.Read.{timer_taken, timers_drained};
 ghost use Rattle.numbers.specs.Limits.{max_number};
 
 use entries::Timer;
-use machine::Lookup;
 use percpu::places::BLOCK_SIZE;
 
 // The timer's context is alive and cannot be read.
@@ -25,7 +24,7 @@ fn is_unreadable(m: &[u64], c: usize, n: usize, sched: u64, t: Timer) -> bool
     ensures { (M : Machine) → m.now ≡ encode M → Fits c n M → result ≡ unreadable_at sched t (context_at M.contexts t.context_ref) }
 {
     let l = machine::look_up(m, c, n, t.context_ref);
-    let Lookup::Live(x) = l else {
+    let Some(x) = l else {
         return false;
     };
     let q = machine::load(m, c, n, x);
@@ -62,9 +61,7 @@ fn drain_timers(m: &mut [u64], c: usize, n: usize, k: usize, time: u64)
     requires k_lt_c { (k < c) × (time ≤ max_number) }
     ensures { Staged c n k m.old m.new false (λ (s : State). timers_drained time s) }
 {
-    let mut i = crate::due(m, c, n, k, time);
-    while i > 0 {
-        i -= 1;
+    for i in (0..crate::due(m, c, n, k, time)).rev() {
         take_timer(m, c, n, k, i);
     }
 }

@@ -17,8 +17,10 @@ ghost use Rattle.window.specs.Window.{
 };
 ghost use Rattle.window.specs.Shares.{time_for, sum_for, share_answer};
 ghost use Rattle.window.specs.Passes.{Passes};
+ghost use Rattle.refusal.specs.Number.{refusal_of};
 
 use answer::Answer;
+use refusal::{Refusal, refused};
 
 pub const CAPACITY: usize = 256;
 
@@ -38,7 +40,7 @@ pub struct Record {
     pub time: u64,
 }
 
-// Whose time is added up.
+// Whose time is added up. No Option: `All` is no lack of a context.
 #[derive(Clone, Copy)]
 pub enum Whose {
     Context(u64),
@@ -49,34 +51,32 @@ fn in_range(w: &[u64], count: usize, n: u64) -> bool
     requires { (length w.now ≡ window_size) × (count ≤ capacity) }
     ensures { result ≡ every (λ i. is_in_range n (record_at w.now i)) count }
 {
-    let mut i = 0;
-    while i < count {
+    for i in 0..count {
         if n <= w[CONTEXTS + i] {
             return false;
         }
         if numbers::MAX_ELAPSED < w[TIMES + i] {
             return false;
         }
-        i += 1;
     }
     true
 }
 
-// Why a window is refused, of an image of n contexts: 1 or 3, or 0 for not at all.
-pub fn refusal(w: &[u64], n: u64) -> u64
-    ensures { result ≡ refusal n w.now }
+// A window is checked for an image of n contexts.
+pub fn check(w: &[u64], n: u64) -> Result<(), Refusal>
+    ensures { refusal_of result ≡ refusal n w.now }
 {
     if w.len() != WINDOW_SIZE {
-        return 1;
+        return Err(Refusal::Size);
     }
     let count = numbers::index(w[COUNT]);
     if CAPACITY < count {
-        return 1;
+        return Err(Refusal::Size);
     }
     if in_range(w, count, n) {
-        return 0;
+        return Ok(());
     }
-    3
+    Err(Refusal::Range)
 }
 
 // All records but the oldest, of a window that is full.
@@ -132,10 +132,8 @@ fn sum(w: &[u64], n: u64, whose: Whose) -> u64
 {
     let count = numbers::index(w[COUNT]);
     let mut total = 0;
-    let mut i = 0;
-    while i < count {
+    for i in 0..count {
         total += time_for(whose, w[CONTEXTS + i], w[TIMES + i]);
-        i += 1;
     }
     total
 }
@@ -144,9 +142,8 @@ fn sum(w: &[u64], n: u64, whose: Whose) -> u64
 pub fn share(w: &[u64], n: u64, whose: Whose) -> Answer
     ensures { result ≡ share_answer n whose w.now }
 {
-    let number = refusal(w, n);
-    if number != 0 {
-        return answer::refused(number);
+    if let Err(refusal) = check(w, n) {
+        return refused(refusal);
     }
     Answer {
         refusal: 0,

@@ -7,9 +7,5 @@ pub fn copy(from: &[u64], to: &mut [u64], len: usize)
     requires { (len ≤ length from.now) × (len ≤ length to.old) }
     ensures { take len to.new ≡ take len from.now }
 {
-    let mut i = 0;
-    while i < len {
-        to[i] = from[i];
-        i += 1;
-    }
+    to[..len].copy_from_slice(&from[..len]);
 }

@@ -7,7 +7,7 @@ use Rattle.apart.proofs.blocks_apart.Goals as goal
 
 -- src/lib.rt:89:5
 pub loop-x-init : goal.loop-x-init
-loop-x-init c = (omega arith, every_none _)
+loop-x-init c = every_none _
 
 -- src/lib.rt:91:13
 pub returns-then-both_name : goal.returns-then-both_name
@@ -15,8 +15,8 @@ returns-then-both_name c = sym (every_no _ _ c.loop-x.x c.loop-x-test.true (foun
 
 -- src/lib.rt:89:5
 pub loop-x-preserved : goal.loop-x-preserved
-loop-x-preserved c = (omega arith, every_next _ _ c.loop-x.invariant.1 (not_found _ _ _ _ c.word.ensures _ c.both_name.ensures c.if-both_name.false))
+loop-x-preserved c = every_next _ _ c.loop-x.invariant (not_found _ _ _ _ c.word.ensures _ c.both_name.ensures c.if-both_name.false)
 
 -- src/lib.rt:83:1
 pub returns : goal.returns
-returns c = every_end _ _ _ c.loop-x-test.false c.loop-x.invariant.0 c.loop-x.invariant.1
+returns c = every_end _ _ _ c.loop-x-test.false c.loop-x.auto.x-end c.loop-x.invariant

@@ -6,7 +6,4 @@ use Rattle.apart.specs.Words.{is_named_in}
 use Rattle.apart.proofs.blocks_apart.Given as goal
 
 abbrev pub invariant-loop-x : goal.invariant-loop-x
-invariant-loop-x l = (l.x ≤ l.n) × (every (λ (z : ℕ). not (is_named_in l.one z && is_named_in l.other z)) l.x ≡ true)
-
-abbrev pub decreases-loop-x : goal.decreases-loop-x
-decreases-loop-x l = l.n - l.x
+invariant-loop-x l = every (λ (z : ℕ). not (is_named_in l.one z && is_named_in l.other z)) l.x ≡ true

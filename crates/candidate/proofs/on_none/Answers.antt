@@ -2,16 +2,11 @@ use Rattle.candidate.proofs.Apart.{one_on, one_off, all_off}
 use Rattle.candidate.specs.Candidate.{not_on}
 use Rattle.columns.proofs.Tests.{every_none}
 use mathlib.Core.Bool.{true}
-use native.Mathlib.Omega.{arith}
 use Rattle.candidate.proofs.on_none.Goals as goal
 
 -- src/lib.rt:55:5
 pub loop-k-init : goal.loop-k-init
-loop-k-init c = (omega arith, λ M e o. every_none _)
-
--- src/lib.rt:56:13
-pub not_on-requires : goal.not_on-requires
-not_on-requires c = record { image = c.requires; k_lt_c = omega arith }
+loop-k-init c = λ M e o. every_none _
 
 -- src/lib.rt:57:13
 pub returns-then-not-not_on : goal.returns-then-not-not_on
@@ -19,8 +14,8 @@ returns-then-not-not_on c = λ M e o. one_on _ M o _ c.loop-k-test.true _ (c.not
 
 -- src/lib.rt:55:5
 pub loop-k-preserved : goal.loop-k-preserved
-loop-k-preserved c = (omega arith, λ M e o. one_off _ M o _ _ (c.not_on.ensures M e o) c.if-not-not_on.false (c.loop-k.invariant.1 M e o))
+loop-k-preserved c = λ M e o. one_off _ M o _ _ (c.not_on.ensures M e o) c.if-not-not_on.false (c.loop-k.invariant M e o)
 
 -- src/lib.rt:50:1
 pub returns : goal.returns
-returns c = λ M e o. all_off _ M o _ c.loop-k-test.false c.loop-k.invariant.0 (c.loop-k.invariant.1 M e o)
+returns c = λ M e o. all_off _ M o _ c.loop-k-test.false c.loop-k.auto.k-end (c.loop-k.invariant M e o)

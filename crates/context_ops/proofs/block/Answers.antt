@@ -1,11 +1,13 @@
+use mathlib.Core.Path.{ap}
+use Rattle.refusal.specs.Number.{numbered}
 use Rattle.context_ops.proofs.Operated.{refused_call, found_call, found_below}
 use Rattle.context_ops.proofs.block.Goals as goal
 
 pub block_live-requires : goal.block_live-requires
-block_live-requires c = record { image = c.requires; x_lt_n = (found_below c.requires _ _ _ _ _ c.resolve-who.ensures c.in-Found.is).1 }
+block_live-requires c = record { image = c.requires; x_lt_n = (found_below c.requires _ _ _ _ _ c.resolve-who.ensures (ap numbered c.in-Ok.is)).1 }
 
-pub returns-in-Refused : goal.returns-in-Refused
-returns-in-Refused c = λ M e o. refused_call _ _ _ _ _ (c.resolve-who.ensures M e o) c.in-Refused.is c.refused.ensures
+pub returns-in-Err : goal.returns-in-Err
+returns-in-Err c = λ M e o. refused_call _ _ _ _ _ (c.resolve-who.ensures M e o) (ap numbered c.in-Err.is) c.refused.ensures
 
-pub returns-in-Found : goal.returns-in-Found
-returns-in-Found c = λ M e o. found_call _ _ _ _ _ _ (c.resolve-who.ensures M e o) c.in-Found.is (c.block_live.ensures M e o)
+pub returns-in-Ok : goal.returns-in-Ok
+returns-in-Ok c = λ M e o. found_call _ _ _ _ _ _ (c.resolve-who.ensures M e o) (ap numbered c.in-Ok.is) (c.block_live.ensures M e o)

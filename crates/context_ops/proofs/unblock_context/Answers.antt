@@ -1,11 +1,13 @@
+use mathlib.Core.Path.{ap}
+use Rattle.refusal.specs.Number.{numbered}
 use Rattle.context_ops.proofs.Operated.{refused_call, found_call, found_below}
 use Rattle.context_ops.proofs.unblock_context.Goals as goal
 
 pub unblock-requires : goal.unblock-requires
-unblock-requires c = record { image = c.requires; k_lt_c = found_below c.requires _ _ _ _ _ c.resolve-who.ensures c.in-Found.is }
+unblock-requires c = record { image = c.requires; k_lt_c = found_below c.requires _ _ _ _ _ c.resolve-who.ensures (ap numbered c.in-Ok.is) }
 
-pub returns-in-Refused : goal.returns-in-Refused
-returns-in-Refused c = λ M e o. refused_call _ _ _ _ _ (c.resolve-who.ensures M e o) c.in-Refused.is c.refused.ensures
+pub returns-in-Err : goal.returns-in-Err
+returns-in-Err c = λ M e o. refused_call _ _ _ _ _ (c.resolve-who.ensures M e o) (ap numbered c.in-Err.is) c.refused.ensures
 
-pub returns-in-Found : goal.returns-in-Found
-returns-in-Found c = λ M e o. found_call _ _ _ _ _ _ (c.resolve-who.ensures M e o) c.in-Found.is (c.unblock.ensures M e o)
+pub returns-in-Ok : goal.returns-in-Ok
+returns-in-Ok c = λ M e o. found_call _ _ _ _ _ _ (c.resolve-who.ensures M e o) (ap numbered c.in-Ok.is) (c.unblock.ensures M e o)

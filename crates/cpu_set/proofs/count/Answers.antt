@@ -5,4 +5,4 @@ use Rattle.cpu_set.proofs.Members.{members_count}
 use Rattle.cpu_set.proofs.count.Goals as goal
 
 pub returns : goal.returns
-returns c = c.wide.ensures ∙ members_count c.args.mask (omega arith)
+returns c = c.from.ensures ∙ members_count c.args.mask (omega arith)

@@ -6,4 +6,4 @@ use Rattle.cpu_set.proofs.next.Goals as goal
 
 pub returns : goal.returns
 unfolding next_cpu
-returns c = (c.wide.ensures, rw c.wide.ensures (lowest 64 c.args.mask c.requires (omega arith)).1)
+returns c = (c.from.ensures, rw c.from.ensures (lowest 64 c.args.mask c.requires (omega arith)).1)

@@ -1,19 +1,21 @@
-use native.Mathlib.Omega.{arith}
+use Rattle.std.proofs.Common.{refl}
+use Rattle.std.proofs.lemmas.Result.{err_from_is_err_and}
 use Rattle.cues.proofs.Asked.{offered_wrong, offer_refused, board_full, slot_free}
-use Rattle.board.proofs.Sized.{wrong_is, right_is}
+use Rattle.board.proofs.Sized.{wrong_is, right_is, refused_number}
 use Rattle.cues.proofs.free_slot.Goals as goal
 
-pub returns-in_default : goal.returns-in_default
-returns-in_default c = λ q s f g. offered_wrong _ (wrong_is _ _ c.sizes_of-s.ensures c.in_default.is) q
+pub returns-in_err-s : goal.returns-in_err-s
+returns-in_err-s c = let p = err_from_is_err_and c.from_residual.result c.from_residual.ensures.1 in let w = wrong_is _ _ c.in_err-s.ensures in rw (p.1, p.2, w.1) (offered_wrong _ w.0 _)
 
-pub offered_refusal-refusal-requires : goal.offered_refusal-refusal-requires
-offered_refusal-refusal-requires c = let o = right_is _ _ c.sizes_of-s.ensures _ _ _ c.in-Right.is in record { board = o.board; n_le_k = o.fewer }
+pub check_offered-requires : goal.check_offered-requires
+check_offered-requires c = let o = right_is _ _ c.in_ok-s.ensures in record { board = o.board; n_le_k = o.fewer }
 
-pub returns-then-refusal-ne0 : goal.returns-then-refusal-ne0
-returns-then-refusal-ne0 c = λ q s f g. offer_refused _ _ _ _ (right_is _ _ c.sizes_of-s.ensures _ _ _ c.in-Right.is) q _ (c.offered_refusal-refusal.ensures q s f g) (λ z. omega (arith, c.if-refusal-ne0.true, z))
+pub returns-in_err-check_offered : goal.returns-in_err-check_offered
+returns-in_err-check_offered c = let p = err_from_is_err_and c.from_residual-in_err-check_offered.result c.from_residual-in_err-check_offered.ensures.1 in
+    rw (p.1, p.2) (offer_refused _ _ _ _ (right_is _ _ c.in_ok-s.ensures) _ _ c.in_err-check_offered.ensures (refused_number _))
 
-pub returns-then-n-k : goal.returns-then-n-k
-returns-then-n-k c = λ q s f g. board_full _ _ _ _ (right_is _ _ c.sizes_of-s.ensures _ _ _ c.in-Right.is) q _ (c.offered_refusal-refusal.ensures q s f g) (omega (arith, c.if-refusal-ne0.false)) c.if-n-k.true
+pub returns-then-s : goal.returns-then-s
+returns-then-s c = board_full _ _ _ _ (right_is _ _ c.in_ok-s.ensures) _ _ c.in_ok-check_offered.ensures refl c.if-s.true
 
 pub returns : goal.returns
-returns c = λ q s f g. slot_free _ _ _ _ (right_is _ _ c.sizes_of-s.ensures _ _ _ c.in-Right.is) q _ (c.offered_refusal-refusal.ensures q s f g) (omega (arith, c.if-refusal-ne0.false)) c.if-n-k.false
+returns c = slot_free _ _ _ _ (right_is _ _ c.in_ok-s.ensures) _ _ c.in_ok-check_offered.ensures refl c.if-s.false

@@ -1,25 +1,27 @@
+use Rattle.std.proofs.Common.{refl, arith}
+use Rattle.std.proofs.lemmas.Result.{err_from_is_err_and}
 use Rattle.cues.proofs.Asked.{asked_wrong, asked_refused, all_handed, not_yet, now_due}
-use Rattle.board.proofs.Sized.{wrong_is, right_is}
-use native.Mathlib.Omega.{arith}
+use Rattle.board.proofs.Sized.{wrong_is, right_is, refused_number}
 use Rattle.cues.proofs.next_due.Goals as goal
 
-pub returns-in_default : goal.returns-in_default
-returns-in_default c = asked_wrong _ (wrong_is _ _ c.sizes_of-s.ensures c.in_default.is) _
+pub returns-in_err-s : goal.returns-in_err-s
+returns-in_err-s c = let p = err_from_is_err_and c.from_residual.result c.from_residual.ensures.1 in let w = wrong_is _ _ c.in_err-s.ensures in rw (p.1, p.2, w.1) (asked_wrong _ w.0 _)
 
-pub stored_refusal-number-requires : goal.stored_refusal-number-requires
-stored_refusal-number-requires c = let o = right_is _ _ c.sizes_of-s.ensures _ _ _ c.in-Right.is in record { board = o.board; n_le_k = o.fewer }
+pub check_stored-requires : goal.check_stored-requires
+check_stored-requires c = let o = right_is _ _ c.in_ok-s.ensures in record { board = o.board; n_le_k = o.fewer }
 
-pub returns-then-number-ne0 : goal.returns-then-number-ne0
-returns-then-number-ne0 c = asked_refused _ _ _ _ (right_is _ _ c.sizes_of-s.ensures _ _ _ c.in-Right.is) _ _ c.stored_refusal-number.ensures c.if-number-ne0.true
+pub returns-in_err-check_stored : goal.returns-in_err-check_stored
+returns-in_err-check_stored c = let p = err_from_is_err_and c.from_residual-in_err-check_stored.result c.from_residual-in_err-check_stored.ensures.1 in
+    rw (p.1, p.2) (asked_refused _ _ _ _ (right_is _ _ c.in_ok-s.ensures) _ _ c.in_err-check_stored.ensures (refused_number _))
 
-pub returns-then-n-h : goal.returns-then-n-h
-returns-then-n-h c = all_handed _ _ _ _ (right_is _ _ c.sizes_of-s.ensures _ _ _ c.in-Right.is) _ _ c.stored_refusal-number.ensures c.if-number-ne0.false c.if-n-h.true
+pub returns-then-s : goal.returns-then-s
+returns-then-s c = all_handed _ _ _ _ (right_is _ _ c.in_ok-s.ensures) _ _ c.in_ok-check_stored.ensures refl c.if-s.true
 
 pub start_at-requires : goal.start_at-requires
-start_at-requires c = let o = right_is _ _ c.sizes_of-s.ensures _ _ _ c.in-Right.is in record { board = o.board; i_lt_k = omega (arith, o.fewer, c.if-n-h.false) }
+start_at-requires c = let o = right_is _ _ c.in_ok-s.ensures in record { board = o.board; i_lt_k = omega (arith, o.fewer, c.if-s.false) }
 
 pub returns-then-time-start_at : goal.returns-then-time-start_at
-returns-then-time-start_at c = not_yet _ _ _ _ (right_is _ _ c.sizes_of-s.ensures _ _ _ c.in-Right.is) _ _ c.stored_refusal-number.ensures c.if-number-ne0.false _ c.if-n-h.false c.start_at.ensures c.if-time-start_at.true
+returns-then-time-start_at c = not_yet _ _ _ _ (right_is _ _ c.in_ok-s.ensures) _ _ c.in_ok-check_stored.ensures refl _ c.if-s.false c.start_at.ensures c.if-time-start_at.true
 
 pub returns : goal.returns
-returns c = now_due _ _ _ _ (right_is _ _ c.sizes_of-s.ensures _ _ _ c.in-Right.is) _ _ c.stored_refusal-number.ensures c.if-number-ne0.false _ c.if-n-h.false c.start_at.ensures c.if-time-start_at.false
+returns c = now_due _ _ _ _ (right_is _ _ c.in_ok-s.ensures) _ _ c.in_ok-check_stored.ensures refl _ c.if-s.false c.start_at.ensures c.if-time-start_at.false

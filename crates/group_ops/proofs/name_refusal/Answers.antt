@@ -2,10 +2,10 @@ use Rattle.group_ops.specs.Group.{name_refusal}
 use borrow.Author.Rules.{rules}
 use Rattle.group_ops.proofs.name_refusal.Goals as goal
 
-pub returns-in-Refused : goal.returns-in-Refused
+pub returns-in-Err : goal.returns-in-Err
 unfolding name_refusal
-returns-in-Refused c = search rules
+returns-in-Err c = search rules
 
-pub returns-in-Found : goal.returns-in-Found
+pub returns-in-Ok : goal.returns-in-Ok
 unfolding name_refusal
-returns-in-Found c = search rules
+returns-in-Ok c = search rules

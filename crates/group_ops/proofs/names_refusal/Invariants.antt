@@ -1,8 +1,9 @@
-use Rattle.group_ops.proofs.Naming.{NamesLeft}
+use mathlib.Core.Path.{◌≡◌}
+use Rattle.machine.specs.Machine.{Machine}
+use Rattle.machine.specs.Encode.{encode}
+use Rattle.machine.specs.Shape.{Fits}
+use Rattle.group_ops.proofs.Naming.{Comes}
 use Rattle.group_ops.proofs.names_refusal.Given as goal
 
-abbrev pub invariant-loop-rest : goal.invariant-loop-rest
-invariant-loop-rest l = NamesLeft l.c l.n l.cpu l.mask l.first l.rest l.m
-
-abbrev pub decreases-loop-rest : goal.decreases-loop-rest
-decreases-loop-rest l = l.rest
+abbrev pub invariant-loop-x : goal.invariant-loop-x
+invariant-loop-x l = (M : Machine) → l.m ≡ encode M → Fits l.c l.n M → Comes M l.cpu l.mask l.first l.x-iterator.rest

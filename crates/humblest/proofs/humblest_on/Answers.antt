@@ -1,3 +1,5 @@
+use mathlib.Core.Path.{ap}
+use Rattle.refusal.specs.Number.{numbered}
 use Rattle.humblest.proofs.Finding.{checked_image, fits_longest, not_candidate, ready, searched}
 use lib.ListN.{length-take, length-drop}
 use native.Mathlib.Omega.{arith}
@@ -13,12 +15,12 @@ slice_bounds-copy-end c = omega (arith, fits_longest _ _ c.requires)
 
 -- src/lib.rt:64:13
 pub search-requires : goal.search-requires
-search-requires c = record { ready = ready _ _ c.requires _ _ _ c.candidate-who.ensures _ _ c.in-Found.is; copy_len = simp (length-take, length-drop) (omega (arith, fits_longest _ _ c.requires)) }
+search-requires c = record { ready = ready _ _ c.requires _ _ _ c.candidate-who.ensures _ _ (ap numbered c.in-Ok.is); copy_len = simp (length-take, length-drop) (omega (arith, fits_longest _ _ c.requires)) }
 
 -- src/lib.rt:54:1
-pub returns-in-Refused : goal.returns-in-Refused
-returns-in-Refused c = not_candidate _ _ c.requires _ _ _ c.candidate-who.ensures _ c.in-Refused.is c.refused.ensures
+pub returns-in-Err : goal.returns-in-Err
+returns-in-Err c = not_candidate _ _ c.requires _ _ _ c.candidate-who.ensures _ (ap numbered c.in-Err.is) c.refused.ensures
 
 -- src/lib.rt:54:1
-pub returns-in-Found : goal.returns-in-Found
-returns-in-Found c = searched _ _ c.requires _ _ _ c.candidate-who.ensures _ _ c.in-Found.is c.search.ensures
+pub returns-in-Ok : goal.returns-in-Ok
+returns-in-Ok c = searched _ _ c.requires _ _ _ c.candidate-who.ensures _ _ (ap numbered c.in-Ok.is) c.search.ensures

@@ -19,14 +19,14 @@ unfolding block_structure
 returns-then-not-entry_ids c = rw (ne_eqb _ 0 c.if-b-eq0.false, sym c.names_live.ensures ∙ c.if-not-names_live.false, sym c.entry_ids.ensures ∙ c.if-not-entry_ids.true)
 
 pub rises-requires : goal.rises-requires
-rises-requires c = (omega arith, omega arith, omega arith, omega (arith, queue_count _ _ c.requires.n_in_bounds.1 c.requires.b_value, c.index-entries.ensures))
+rises-requires c = ((omega arith, omega arith, omega arith), omega (arith, queue_count _ _ c.requires.n_in_bounds.1 c.requires.b_value, c.index-entries.ensures))
 
 pub returns-then-not-rises : goal.returns-then-not-rises
 unfolding block_structure
 returns-then-not-rises c = rw (ne_eqb _ 0 c.if-b-eq0.false, sym c.names_live.ensures ∙ c.if-not-names_live.false, sym c.entry_ids.ensures ∙ c.if-not-entry_ids.false, sym (keys_are _ _ c.index-entries.ensures c.rises.ensures) ∙ c.if-not-rises.true)
 
 pub rises-requires-2 : goal.rises-requires-2
-rises-requires-2 c = (omega arith, omega arith, omega arith, omega (arith, timer_count _ _ c.requires.n_in_bounds.1 c.requires.b_value, c.index-timers.ensures))
+rises-requires-2 c = ((omega arith, omega arith, omega arith), omega (arith, timer_count _ _ c.requires.n_in_bounds.1 c.requires.b_value, c.index-timers.ensures))
 
 pub returns-then-not-rises-2 : goal.returns-then-not-rises-2
 unfolding block_structure

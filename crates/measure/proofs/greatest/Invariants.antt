@@ -4,6 +4,3 @@ use Rattle.measure.proofs.greatest.Given as goal
 
 abbrev pub invariant-loop-i : goal.invariant-loop-i
 invariant-loop-i l = Greatest l.m l.from l.i l.most l.top
-
-abbrev pub decreases-loop-i : goal.decreases-loop-i
-decreases-loop-i l = l.to - l.i

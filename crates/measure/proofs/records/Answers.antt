@@ -4,7 +4,7 @@ use Rattle.measure.proofs.records.Goals as goal
 
 -- src/lib.rt:80:5
 pub loop-x-init : goal.loop-x-init
-loop-x-init c = (omega arith, no_records _ _)
+loop-x-init c = no_records _ _
 
 -- src/lib.rt:81:9
 pub of_record-b-requires : goal.of_record-b-requires
@@ -12,8 +12,8 @@ of_record-b-requires c = omega (arith, c.context_place.ensures, c.requires.1)
 
 -- src/lib.rt:80:5
 pub loop-x-preserved : goal.loop-x-preserved
-loop-x-preserved c = (omega arith, next_record _ _ _ _ _ c.context_place.ensures c.loop-x.invariant.1 c.of_record-b.ensures)
+loop-x-preserved c = next_record _ _ _ _ _ c.context_place.ensures c.loop-x.invariant c.of_record-b.ensures
 
 -- src/lib.rt:71:1
 pub returns : goal.returns
-returns c = last_record _ _ _ _ c.loop-x-test.false c.loop-x.invariant.1
+returns c = last_record _ _ _ _ c.loop-x-test.false c.loop-x.invariant

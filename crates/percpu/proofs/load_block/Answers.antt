@@ -4,4 +4,4 @@ use Rattle.percpu.proofs.load_block.Goals as goal
 
 pub returns : goal.returns
 unfolding block_of part
-returns c = rw c.load_stats-stats.ensures
+returns c = rw c.load_stats.ensures

@@ -3,4 +3,4 @@ use Rattle.percpu.proofs.load_stats.Goals as goal
 
 pub returns : goal.returns
 unfolding stats_of
-returns c = rw c.state_of-state.ensures
+returns c = rw c.into.ensures

@@ -1,17 +1,19 @@
+use mathlib.Core.Path.{refl}
+use Rattle.refusal.proofs.Numbered.{number_some}
 use Rattle.plain_calls.proofs.Answering.{sized, callable, refused_on, no_room, has_room}
 use Rattle.plain_calls.proofs.decide_on.Goals as goal
 
 -- src/lib.rt:55:9
-pub returns-then-number-ne0 : goal.returns-then-number-ne0
-returns-then-number-ne0 c = λ M e f. refused_on c.args.c c.args.n c.args.k c.args.time c.args.d _ c.refusal-number.ensures M e f c.if-number-ne0.true c.refused.ensures
+pub returns-in-Err : goal.returns-in-Err
+returns-in-Err c = λ M e f. refused_on c.args.c c.args.n c.args.k c.args.time c.args.d _ c.in-Err.ensures M e f (number_some _) c.refused.ensures
 
 -- src/lib.rt:57:9
 pub decide-decided-requires : goal.decide-decided-requires
-decide-decided-requires c = record { image = c.requires.image; callable = callable c.args.c c.args.n c.args.k c.args.time c.args.d _ c.refusal-number.ensures c.requires.k_lt_c.0 c.requires.k_lt_c.1 c.requires.k_lt_c.2 c.requires.ranged c.if-number-ne0.false }
+decide-decided-requires c = record { image = c.requires.image; callable = callable c.args.c c.args.n c.args.k c.args.time c.args.d _ c.in_default.ensures c.requires.k_lt_c.0 c.requires.k_lt_c.1 c.requires.k_lt_c.2 c.requires.ranged refl }
 
 -- src/lib.rt:60:9
 pub returns-then-state : goal.returns-then-state
-returns-then-state c = λ M e f. no_room c.args.c c.args.n c.args.k c.args.time c.args.d _ c.refusal-number.ensures M e f (c.decide-decided.ensures M e f) c.if-number-ne0.false c.if-state.true c.refused-then-state.ensures
+returns-then-state c = λ M e f. no_room c.args.c c.args.n c.args.k c.args.time c.args.d _ c.in_default.ensures M e f (c.decide-decided.ensures M e f) refl c.if-state.true c.refused-then-state.ensures
 
 -- src/lib.rt:62:5
 pub store-requires : goal.store-requires
@@ -19,4 +21,4 @@ store-requires c = record { image_sized = sized c.requires.image; sound = ((c.de
 
 -- src/lib.rt:47:1
 pub returns : goal.returns
-returns c = λ M e f. has_room c.args.c c.args.n c.args.k c.args.time c.args.d _ c.refusal-number.ensures M e f (c.decide-decided.ensures M e f) c.if-number-ne0.false c.if-state.false c.store.ensures c.accepted.ensures
+returns c = λ M e f. has_room c.args.c c.args.n c.args.k c.args.time c.args.d _ c.in_default.ensures M e f (c.decide-decided.ensures M e f) refl c.if-state.false c.store.ensures c.accepted.ensures

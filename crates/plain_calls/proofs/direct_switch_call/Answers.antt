@@ -1,14 +1,16 @@
+use mathlib.Core.Path.{ap}
+use Rattle.refusal.specs.Number.{numbered}
 use Rattle.calls.proofs.Called.{call_refused, call_image, call_time, call_ranged, call_done}
 use Rattle.plain_calls.proofs.direct_switch_call.Goals as goal
 
 -- src/lib.rt:128:34
 pub direct_switch_to-requires : goal.direct_switch_to-requires
-direct_switch_to-requires c = record { image = call_image _ _ _ c.check-checked.ensures _ _ c.in-Passed.is; time_le_max_number = call_time _ _ _ c.check-checked.ensures _ _ c.in-Passed.is; ranged = call_ranged _ _ _ c.check-checked.ensures _ _ c.in-Passed.is }
+direct_switch_to-requires c = record { image = call_image _ _ _ c.check-checked.ensures _ _ (ap numbered c.in-Ok.is); time_le_max_number = call_time _ _ _ c.check-checked.ensures _ _ (ap numbered c.in-Ok.is); ranged = call_ranged _ _ _ c.check-checked.ensures _ _ (ap numbered c.in-Ok.is) }
 
 -- src/lib.rt:122:1
-pub returns-in-Refused : goal.returns-in-Refused
-returns-in-Refused c = call_refused _ _ _ c.check-checked.ensures _ _ c.in-Refused.is c.refused.ensures
+pub returns-in-Err : goal.returns-in-Err
+returns-in-Err c = call_refused _ _ _ c.check-checked.ensures _ _ (ap numbered c.in-Err.is) c.refused.ensures
 
 -- src/lib.rt:122:1
-pub returns-in-Passed : goal.returns-in-Passed
-returns-in-Passed c = call_done _ _ _ c.check-checked.ensures _ _ _ c.in-Passed.is c.direct_switch_to.ensures
+pub returns-in-Ok : goal.returns-in-Ok
+returns-in-Ok c = call_done _ _ _ c.check-checked.ensures _ _ _ (ap numbered c.in-Ok.is) c.direct_switch_to.ensures

@@ -1,9 +1,9 @@
 use Rattle.plain_choice.proofs.choose.Goals as goal
 
 -- src/lib.rt:136:1
-pub returns-in-Nobody : goal.returns-in-Nobody
-returns-in-Nobody c = rw c.in-Nobody.is c.without_entry.ensures
+pub returns-in-None : goal.returns-in-None
+returns-in-None c = rw c.in-None.is c.without_entry.ensures
 
 -- src/lib.rt:136:1
-pub returns-in-Found : goal.returns-in-Found
-returns-in-Found c = rw c.in-Found.is c.against.ensures
+pub returns-in-Some : goal.returns-in-Some
+returns-in-Some c = rw c.in-Some.is c.against.ensures

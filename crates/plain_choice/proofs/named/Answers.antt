@@ -5,5 +5,5 @@ use mathlib.Core.List.{◌∷◌}
 use Rattle.plain_choice.proofs.named.Goals as goal
 
 -- src/lib.rt:23:1
-pub returns-in-Found : goal.returns-in-Found
-returns-in-Found c = rw c.in-Found.is (ap (λ (x : ℕ). x ∷ []) c.index.ensures)
+pub returns-in-Some : goal.returns-in-Some
+returns-in-Some c = rw c.in-Some.is (ap (λ (x : ℕ). x ∷ []) c.index.ensures)

@@ -3,4 +3,4 @@ use Rattle.plain_moves.proofs.give_up.Goals as goal
 
 -- src/lib.rt:50:1
 pub returns : goal.returns
-returns c = gave_up c.args.v c.args.e c.requires c.leave_out-q.ensures.stands c.saturating_sub.ensures
+returns c = gave_up c.args.v c.args.e c.requires c.leave_out-v.ensures.stands c.saturating_sub-v.ensures

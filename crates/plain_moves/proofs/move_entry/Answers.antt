@@ -3,16 +3,16 @@ use Rattle.plain_handover.proofs.Handed.{name_below}
 use Rattle.plain_moves.proofs.move_entry.Goals as goal
 
 -- src/lib.rt:154:9
-pub returns-then-s : goal.returns-then-s
-returns-then-s c = not_moved c.args.n c.args.m c.args.runs c.args.e c.requires.sound.0 c.requires.sound.1 c.if-s.true
+pub returns-then-m : goal.returns-then-m
+returns-then-m c = not_moved c.args.n c.args.m c.args.runs c.args.e c.requires.sound.0 c.requires.sound.1 c.if-m.true
 
 -- src/lib.rt:156:9
 pub stolen_record-q-requires : goal.stolen_record-q-requires
-stolen_record-q-requires c = (c.requires.sound.0, c.requires.movable c.if-s.false, c.requires.sound.2)
+stolen_record-q-requires c = (c.requires.sound.0, c.requires.movable c.if-m.false, c.requires.sound.2)
 
 -- src/lib.rt:157:9
 pub move_weight-t-requires : goal.move_weight-t-requires
-move_weight-t-requires c = (c.requires.sound.0, c.requires.sound.1, c.requires.movable c.if-s.false, c.requires.sound.2)
+move_weight-t-requires c = (c.requires.sound.0, c.requires.sound.1, c.requires.movable c.if-m.false, c.requires.sound.2)
 
 -- src/lib.rt:159:5
 pub take_in-requires : goal.take_in-requires

@@ -10,7 +10,7 @@ start-f-requires c = c.requires.sound.0
 
 -- src/lib.rt:192:5
 pub run-requires : goal.run-requires
-run-requires c = record { sound = (c.start-f.ensures.sound, c.requires.sound.0.queue, subst (λ (z : ℕ). z < 64) (sym c.scanner-t.ensures.cpu_id_value) c.requires.sound.1); len_value = (c.start-f.ensures.none_leave, c.start-f.ensures.no_weight, c.requires.sound.2) }
+run-requires c = record { sound = (c.start-f.ensures.sound, subst (λ (z : ℕ). z < 64) (sym c.scanner-t.ensures.cpu_id_value) c.requires.sound.1); len_value = (c.start-f.ensures.none_leave, c.start-f.ensures.no_weight, c.requires.sound.2) }
 
 -- src/lib.rt:182:1
 pub returns : goal.returns

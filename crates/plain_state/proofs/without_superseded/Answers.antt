@@ -1,14 +1,6 @@
-use Rattle.plain_lists.proofs.Listing.{kept_none, kept_next, kept_all}
+use Rattle.std.proofs.Common.{rules}
+use Rattle.plain_state.specs.States.{stands_beside}
 use Rattle.plain_state.proofs.without_superseded.Goals as goal
 
--- src/lib.rt:81:5
-pub loop-i-init : goal.loop-i-init
-loop-i-init c = kept_none _ _ _ c.requires c.none-out.ensures.stands c.none-out.ensures.len_value
-
--- src/lib.rt:81:5
-pub loop-i-preserved : goal.loop-i-preserved
-loop-i-preserved c = kept_next _ _ _ _ c.loop-i.invariant c.loop-i-test.true _ (rw c.supersedes-b.ensures at c.push_if-out.ensures.stands) c.push_if-out.ensures.len_bound_2
-
--- src/lib.rt:75:1
 pub returns : goal.returns
-returns c = kept_all _ _ _ _ c.loop-i.invariant c.loop-i-test.false
+returns c = c.retain.ensures.stands (stands_beside c.args.t) (λ x b f. search rules)

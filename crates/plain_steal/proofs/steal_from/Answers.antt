@@ -12,7 +12,7 @@ cpu-v-requires c = (c.requires.stealing_sound.0.cpus, c.requires.stealing_sound.
 
 -- src/lib.rt:133:8
 pub can_steal_from-requires : goal.can_steal_from-requires
-can_steal_from-requires c = (c.requires.stealing_sound.0.state, c.cpu-v.ensures.sound.queue)
+can_steal_from-requires c = c.requires.stealing_sound.0.state
 
 -- src/lib.rt:134:9
 pub steal_some-requires : goal.steal_some-requires

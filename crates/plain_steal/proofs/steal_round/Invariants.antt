@@ -1,4 +1,3 @@
-use Rattle.std.proofs.Common.{◌-◌}
 use Rattle.plain_steal.proofs.Round.{Rounding}
 use Rattle.plain_steal.specs.Stealing.{stealing_in}
 use Rattle.plain_candidates.specs.Stolen.{locked_of}
@@ -6,6 +5,3 @@ use Rattle.plain_steal.proofs.steal_round.Given as goal
 
 abbrev pub invariant-loop-i : goal.invariant-loop-i
 invariant-loop-i l = Rounding l.k l.runs (locked_of l.locked) l.n l.c (stealing_in l.n l.c l.initial.out) l.out l.i
-
-abbrev pub decreases-loop-i : goal.decreases-loop-i
-decreases-loop-i l = l.c - l.i

@@ -1,13 +1,9 @@
 use Rattle.columns.specs.Common.{All}
 use Rattle.plain_state.specs.States.{CpuSound}
-use Prim.Native.Nat.{◌-◌}
 use Rattle.plain_lists.proofs.Filling.{Filled}
 use Rattle.plain_words.proofs.Reading.{IsCpu}
 use Rattle.plain_words.proofs.Storing.{nobody}
 use Rattle.plain_words.proofs.load_cpus.Given as goal
 
 abbrev pub invariant-loop-k : goal.invariant-loop-k
-invariant-loop-k l = Filled nobody (IsCpu l.c l.n l.m) 4 l.c l.cpus l.k × All CpuSound l.cpus
-
-abbrev pub decreases-loop-k : goal.decreases-loop-k
-decreases-loop-k l = l.c - l.k
+invariant-loop-k l = Filled nobody (IsCpu l.c l.n l.m) 4 l.cpus l.k × All CpuSound l.cpus

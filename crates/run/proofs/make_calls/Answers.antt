@@ -9,8 +9,8 @@ pub loop-i-init : goal.loop-i-init
 loop-i-init c = (loop_first _ _ _ _ c.requires.1, search rules, unknown _ _ c.nothing-s.ensures)
 
 -- src/lib.rt:58:13
-pub call_at-c-requires : goal.call_at-c-requires
-call_at-c-requires c = omega (arith, c.requires.0)
+pub call_at-requires : goal.call_at-requires
+call_at-requires c = omega (arith, c.requires.0)
 
 -- src/lib.rt:59:13
 pub make_call-r-requires : goal.make_call-r-requires
@@ -20,13 +20,9 @@ make_call-r-requires c = c.loop-i.invariant.2
 pub put_answer-requires : goal.put_answer-requires
 put_answer-requires c = omega (arith, c.requires.0, c.loop-i.invariant.0.long)
 
--- src/lib.rt:63:9
-pub overflow_add-i : goal.overflow_add-i
-overflow_add-i c = search (rules, c.loop-i-test.true, c.ranges.count)
-
 -- src/lib.rt:57:5
 pub loop-i-preserved : goal.loop-i-preserved
-loop-i-preserved c = (loop_next _ _ _ _ _ _ _ _ _ _ c.requires.0 c.loop-i-test.true c.loop-i.invariant.0 c.call_at-c.ensures c.make_call-r.ensures.replies c.put_answer.ensures (search rules), search rules, c.make_call-r.ensures.holds)
+loop-i-preserved c = (loop_next _ _ _ _ _ _ _ _ _ _ c.requires.0 c.loop-i-test.true c.loop-i.invariant.0 c.call_at.ensures c.make_call-r.ensures.replies c.put_answer.ensures (search rules), search rules, c.make_call-r.ensures.holds)
 
 -- src/lib.rt:51:1
 pub shape_of-answers : goal.shape_of-answers

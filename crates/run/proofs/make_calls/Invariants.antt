@@ -7,6 +7,3 @@ use Rattle.run.proofs.make_calls.Given as goal
 
 abbrev pub invariant-loop-i : goal.invariant-loop-i
 invariant-loop-i l = Loop l.initial.image l.calls l.count l.image l.answers l.i × (length l.image ≡ length l.initial.image) × Holds l.s l.image
-
-abbrev pub decreases-loop-i : goal.decreases-loop-i
-decreases-loop-i l = l.count - l.i

@@ -21,7 +21,7 @@ returns-then-not-contains c = rw (sym c.elsewhere.ensures ∙ c.if-elsewhere.fal
 
 pub returns-then-is_due : goal.returns-then-is_due
 unfolding update_runnable
-returns-then-is_due c = rw (sym c.elsewhere.ensures ∙ c.if-elsewhere.false, sym c.elsewhere-2.ensures ∙ c.if-elsewhere-2.false, ap not (sym c.contains.ensures) ∙ (ap not c.if-not-contains.false), sym c.is_due.ensures ∙ c.if-is_due.true) (ap CanSwitch (woken_is c.args.c c.wake_up-woken.ensures (soft_blocked c.args.schedule_time c.args.c (sym c.is_due.ensures ∙ c.if-is_due.true))))
+returns-then-is_due c = rw (sym c.elsewhere.ensures ∙ c.if-elsewhere.false, sym c.elsewhere-2.ensures ∙ c.if-elsewhere-2.false, ap not (sym c.contains.ensures) ∙ (ap not c.if-not-contains.false), sym c.is_due.ensures ∙ c.if-is_due.true) (ap CanSwitch (woken_is c.args.c c.wake_up.ensures (soft_blocked c.args.schedule_time c.args.c (sym c.is_due.ensures ∙ c.if-is_due.true))))
 
 pub returns-then-is_runnable : goal.returns-then-is_runnable
 unfolding update_runnable

@@ -1,8 +1,9 @@
+use mathlib.Core.Path.{refl}
 use Rattle.switch_ops.proofs.Answered.{attempt_room, attempt_no_room}
 use Rattle.switch_ops.proofs.attempt.Goals as goal
 
-pub returns-then-r : goal.returns-then-r
-returns-then-r c = λ M e o. attempt_no_room _ _ c.if-r.true (c.follow-r.ensures.decides M e o) c.refused.ensures
+pub returns-in-Err : goal.returns-in-Err
+returns-in-Err c = λ M e o. attempt_no_room _ _ refl (c.in-Err.ensures.decides M e o) c.refused.ensures
 
-pub returns : goal.returns
-returns c = λ M e o. attempt_room _ _ c.if-r.false (c.follow-r.ensures.decides M e o) c.accepted.ensures
+pub returns-in-Ok : goal.returns-in-Ok
+returns-in-Ok c = λ M e o. attempt_room _ _ refl (c.in-Ok.ensures.decides M e o) c.accepted.ensures

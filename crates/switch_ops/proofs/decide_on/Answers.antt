@@ -1,20 +1,22 @@
 -- `switch_ops::decide_on` meets its contract. Assumes nothing.
+use mathlib.Core.Path.{refl}
+use Rattle.refusal.proofs.Numbered.{number_some}
 use Rattle.switch_ops.specs.Reply.{call_of}
 use Rattle.switch_ops.proofs.Answered.{refused_on, accepted_on, certain_replies, in_time}
 use Rattle.switch_ops.proofs.Counted.{certain}
 use Rattle.switch_ops.proofs.decide_on.Goals as goal
 
-pub returns-then-number-ne0 : goal.returns-then-number-ne0
-returns-then-number-ne0 c = λ M e o. refused_on _ M _ _ _ _ (c.refusal-number.ensures M e o) c.if-number-ne0.true c.refused.ensures
+pub returns-in-Err : goal.returns-in-Err
+returns-in-Err c = λ M e o. refused_on _ M _ _ _ _ (c.in-Err.ensures M e o) (number_some _) c.refused.ensures
 
 pub attempt-requires : goal.attempt-requires
-attempt-requires c = record { image = c.requires.image; k_lt_c = c.requires.k_lt_c; target_below = c.requires.target_below; ranged = c.requires.ranged; k_bound = λ M e o. in_time (call_of c.args.d) M _ _ _ (c.refusal-number.ensures M e o) c.if-number-ne0.false }
+attempt-requires c = record { image = c.requires.image; k_lt_c = c.requires.k_lt_c; target_below = c.requires.target_below; ranged = c.requires.ranged; k_bound = λ M e o. in_time (call_of c.args.d) M _ _ _ (c.in_default.ensures M e o) refl }
 
 pub returns-then-has_room : goal.returns-then-has_room
-returns-then-has_room c = λ M e o. accepted_on _ M _ _ _ _ (c.refusal-number.ensures M e o) c.if-number-ne0.false (certain_replies _ _ (c.attempt.ensures M e o) (certain c.args.k c.args.time (call_of c.args.d) M o c.requires.k_lt_c.0 (c.has_room.ensures M e o) c.if-has_room.true))
+returns-then-has_room c = λ M e o. accepted_on _ M _ _ _ _ (c.in_default.ensures M e o) refl (certain_replies _ _ (c.attempt.ensures M e o) (certain c.args.k c.args.time (call_of c.args.d) M o c.requires.k_lt_c.0 (c.has_room.ensures M e o) c.if-has_room.true))
 
 pub with_copy-requires : goal.with_copy-requires
-with_copy-requires c = record { image = c.requires.image; k_lt_c = c.requires.k_lt_c; target_below = c.requires.target_below; ranged = c.requires.ranged; k_bound = λ M e o. in_time (call_of c.args.d) M _ _ _ (c.refusal-number.ensures M e o) c.if-number-ne0.false }
+with_copy-requires c = record { image = c.requires.image; k_lt_c = c.requires.k_lt_c; target_below = c.requires.target_below; ranged = c.requires.ranged; k_bound = λ M e o. in_time (call_of c.args.d) M _ _ _ (c.in_default.ensures M e o) refl }
 
 pub returns : goal.returns
-returns c = λ M e o. accepted_on _ M _ _ _ _ (c.refusal-number.ensures M e o) c.if-number-ne0.false (c.with_copy.ensures M e o)
+returns c = λ M e o. accepted_on _ M _ _ _ _ (c.in_default.ensures M e o) refl (c.with_copy.ensures M e o)

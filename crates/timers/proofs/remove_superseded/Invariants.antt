@@ -6,6 +6,3 @@ use Rattle.timers.proofs.remove_superseded.Given as goal
 
 abbrev pub invariant-loop-i : goal.invariant-loop-i
 invariant-loop-i l = (length l.b ≡ length l.initial.b) × Superseding l.t l.initial.b l.b l.i
-
-abbrev pub decreases-loop-i : goal.decreases-loop-i
-decreases-loop-i l = l.i

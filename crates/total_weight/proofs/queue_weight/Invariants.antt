@@ -1,5 +1,5 @@
 use mathlib.Core.Path.{◌≡◌}
-use Prim.Native.Nat.{◌-◌, ◌*◌, ◌≤◌}
+use Prim.Native.Nat.{◌*◌, ◌≤◌}
 use lib.ListN.{get_or}
 use Rattle.weights.specs.Weights.{max_weight}
 use Rattle.percpu.specs.Places.{queue_count}
@@ -7,7 +7,4 @@ use Rattle.total_weight.specs.Words.{weight_words}
 use Rattle.total_weight.proofs.queue_weight.Given as goal
 
 abbrev pub invariant-loop-i : goal.invariant-loop-i
-invariant-loop-i l = (l.i ≤ l.count) × (l.count ≡ get_or l.b queue_count 0) × (l.total ≡ weight_words l.b l.i) × (l.total ≤ max_weight * l.i)
-
-abbrev pub decreases-loop-i : goal.decreases-loop-i
-decreases-loop-i l = l.count - l.i
+invariant-loop-i l = (l.count ≡ get_or l.b queue_count 0) × (l.total ≡ weight_words l.b l.i) × (l.total ≤ max_weight * l.i)

@@ -4,6 +4,3 @@ use Rattle.wakeup_read.proofs.read_local.Given as goal
 
 abbrev pub invariant-loop-i : goal.invariant-loop-i
 invariant-loop-i l = LocalLoop l.c l.n l.k l.from l.count l.m l.initial.d l.d l.i
-
-abbrev pub decreases-loop-i : goal.decreases-loop-i
-decreases-loop-i l = l.count - l.i

@@ -4,6 +4,3 @@ use Rattle.wakeup_read.proofs.read_timers.Given as goal
 
 abbrev pub invariant-loop-i : goal.invariant-loop-i
 invariant-loop-i l = TimersLoop l.c l.n l.k l.count l.m l.d l.len l.i
-
-abbrev pub decreases-loop-i : goal.decreases-loop-i
-decreases-loop-i l = l.count - l.i

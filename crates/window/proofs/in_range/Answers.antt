@@ -2,11 +2,10 @@ use Rattle.window.proofs.Checked.{context_out, time_out, both_in, stops}
 use Rattle.window.specs.Window.{record_at}
 use Rattle.columns.proofs.Tests.{every_none, every_next, every_end}
 use mathlib.Core.Bool.{true}
-use native.Mathlib.Omega.{arith}
 use Rattle.window.proofs.in_range.Goals as goal
 
 pub loop-i-init : goal.loop-i-init
-loop-i-init c = (omega arith, every_none _)
+loop-i-init c = every_none _
 
 pub returns-then-n-w : goal.returns-then-n-w
 returns-then-n-w c = stops c.args.n c.args.w.now _ c.loop-i.i c.loop-i-test.true (context_out c.args.n (record_at c.args.w.now c.loop-i.i) c.if-n-w.true)
@@ -15,7 +14,7 @@ pub returns-then-w-i-gt-MAX_ELAPSED : goal.returns-then-w-i-gt-MAX_ELAPSED
 returns-then-w-i-gt-MAX_ELAPSED c = stops c.args.n c.args.w.now _ c.loop-i.i c.loop-i-test.true (time_out c.args.n (record_at c.args.w.now c.loop-i.i) c.if-w-i-gt-MAX_ELAPSED.true)
 
 pub loop-i-preserved : goal.loop-i-preserved
-loop-i-preserved c = (omega arith, every_next _ _ c.loop-i.invariant.1 (both_in c.args.n (record_at c.args.w.now c.loop-i.i) c.if-n-w.false c.if-w-i-gt-MAX_ELAPSED.false))
+loop-i-preserved c = every_next _ _ c.loop-i.invariant (both_in c.args.n (record_at c.args.w.now c.loop-i.i) c.if-n-w.false c.if-w-i-gt-MAX_ELAPSED.false)
 
 pub returns : goal.returns
-returns c = every_end _ _ _ c.loop-i-test.false c.loop-i.invariant.0 c.loop-i.invariant.1
+returns c = every_end _ _ _ c.loop-i-test.false c.loop-i.auto.i-end c.loop-i.invariant

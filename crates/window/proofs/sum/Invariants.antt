@@ -4,11 +4,8 @@ use Rattle.numbers.specs.Limits.{max_elapsed}
 use Rattle.columns.specs.Common.{tabulate}
 use lib.ListN.{get_or}
 use mathlib.Core.Path.{◌≡◌}
-use Prim.Native.Nat.{◌-◌, ◌*◌, ◌≤◌}
+use Prim.Native.Nat.{◌*◌, ◌≤◌}
 use Rattle.window.proofs.sum.Given as goal
 
 abbrev pub invariant-loop-i : goal.invariant-loop-i
-invariant-loop-i l = (l.i ≤ l.count) × (l.count ≡ get_or l.w 0 0) × (l.total ≡ sum_for l.whose (tabulate l.i (record_at l.w))) × (l.total ≤ max_elapsed * l.i)
-
-abbrev pub decreases-loop-i : goal.decreases-loop-i
-decreases-loop-i l = l.count - l.i
+invariant-loop-i l = (l.count ≡ get_or l.w 0 0) × (l.total ≡ sum_for l.whose (tabulate l.i (record_at l.w))) × (l.total ≤ max_elapsed * l.i)

@@ -2,10 +2,10 @@ use mathlib.Core.Path.{sym, ◌∙◌}
 use Rattle.context.specs.Block.{blocked_as}
 use Rattle.context.proofs.Context.blocked_as.Goals as goal
 
-pub returns-then-is_runnable : goal.returns-then-is_runnable
+pub returns-then-runs : goal.returns-then-runs
 unfolding blocked_as
-returns-then-is_runnable c = rw (sym c.is_runnable.ensures ∙ c.if-is_runnable.true, c.with_status.ensures)
+returns-then-runs c = rw (c.if-runs.true, sym c.is_runnable-runs.ensures ∙ c.if-runs.true)
 
-pub returns : goal.returns
+pub returns-else-runs : goal.returns-else-runs
 unfolding blocked_as
-returns c = rw (sym c.is_runnable.ensures ∙ c.if-is_runnable.false)
+returns-else-runs c = rw (c.if-runs.false, sym c.is_runnable-runs.ensures ∙ c.if-runs.false)

@@ -2,10 +2,10 @@ use mathlib.Core.Path.{sym, ◌∙◌}
 use Rattle.context.specs.Block.{unblocked}
 use Rattle.context.proofs.Context.unblock_no_ipi.Goals as goal
 
-pub returns-then-is_soft_blocked : goal.returns-then-is_soft_blocked
+pub returns-then-blocked : goal.returns-then-blocked
 unfolding unblocked
-returns-then-is_soft_blocked c = rw (sym c.is_soft_blocked.ensures ∙ c.if-is_soft_blocked.true, c.with_status.ensures)
+returns-then-blocked c = rw (c.if-blocked.true, sym c.is_soft_blocked-blocked.ensures ∙ c.if-blocked.true)
 
-pub returns : goal.returns
+pub returns-else-blocked : goal.returns-else-blocked
 unfolding unblocked
-returns c = rw (sym c.is_soft_blocked.ensures ∙ c.if-is_soft_blocked.false)
+returns-else-blocked c = rw (c.if-blocked.false, sym c.is_soft_blocked-blocked.ensures ∙ c.if-blocked.false)

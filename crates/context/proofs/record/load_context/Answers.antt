@@ -3,4 +3,4 @@ use Rattle.context.proofs.record.load_context.Goals as goal
 
 pub returns : goal.returns
 unfolding context_of
-returns c = rw c.status_of-status.ensures
+returns c = rw c.into.ensures

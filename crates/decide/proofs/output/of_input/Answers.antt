@@ -10,4 +10,4 @@ pub returns-then-len-over-ne0 : goal.returns-then-len-over-ne0
 returns-then-len-over-ne0 c = torn _ _ c.if-len-lt32.false c.if-len-over-ne0.true c.refused-then-len-over-ne0.ensures
 
 pub returns : goal.returns
-returns c = whole _ _ _ c.if-len-lt32.false c.if-len-over-ne0.false (first_words _ _ (omega arith) ∙ c.least-n.ensures.0) c.of_words.ensures
+returns c = whole _ _ _ c.if-len-lt32.false c.if-len-over-ne0.false (first_words _ _ (omega arith) ∙ c.min-n.ensures) c.of_words.ensures

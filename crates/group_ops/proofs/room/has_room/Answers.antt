@@ -1,15 +1,7 @@
-use Rattle.group_ops.proofs.Roomy.{below_none, below_next, below_all, counted_small}
-use Rattle.columns.proofs.Tests.{never}
+use Rattle.group_ops.proofs.Roomy.{below_next, below_all, counted_small}
 use Rattle.machine.proofs.Steps.{sized}
-use mathlib.Core.Path.{sym}
 use native.Mathlib.Omega.{arith}
 use Rattle.group_ops.proofs.room.has_room.Goals as goal
-
-pub loop-t-init : goal.loop-t-init
-loop-t-init c = record { few = omega arith; room = λ M e o. below_none _ _ M e o }
-
-pub cpu_place-at-requires : goal.cpu_place-at-requires
-cpu_place-at-requires c = omega (arith, sized c.requires.image, c.loop-t-test.true)
 
 pub bounds-m-at : goal.bounds-m-at
 bounds-m-at c = omega (arith, sized c.requires.image, c.cpu_place-at.ensures, c.loop-t-test.true)
@@ -19,9 +11,6 @@ bounds-m-at-in-loop-t c = omega (arith, sized c.requires.image, c.cpu_place-at.e
 
 pub overflow_add-most : goal.overflow_add-most
 overflow_add-most c = omega (arith, counted_small c.requires.image _ c.cpu_place-at.ensures c.loop-t-test.true c.max-most.ensures c.requires.count_bound)
-
-pub returns-then-most-count-gt64 : goal.returns-then-most-count-gt64
-returns-then-most-count-gt64 c = λ M e o z. never (sym z)
 
 pub loop-t-preserved : goal.loop-t-preserved
 loop-t-preserved c = record { few = omega arith; room = λ M e o. below_next _ _ M e o _ _ _ c.loop-t-test.true c.cpu_place-at.ensures c.max-most.ensures c.if-most-count-gt64.false (c.loop-t.invariant.room M e o) }

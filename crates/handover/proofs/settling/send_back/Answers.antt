@@ -1,12 +1,11 @@
 -- `handover::settling::send_back` meets its contract. Assumes nothing.
-use Rattle.handover.proofs.Settled.{sent_back, stopped_before, nobody_won}
+use Rattle.handover.proofs.Settled.{stopped_before, nobody_won}
 use Rattle.handover.proofs.settling.send_back.Goals as goal
-
-pub returns-then-runs : goal.returns-then-runs
-returns-then-runs c = sent_back c.args.won c.args.runs c.if-won.true c.if-runs.true c.requeue.ensures
-
-pub returns-then-won : goal.returns-then-won
-returns-then-won c = stopped_before c.args.won c.args.runs c.if-won.true c.if-runs.false c.requires.image
+use Rattle.handover.proofs.settling.send_back.Goals.{else-won-via-then-won+else-runs, else-won-via-else-won}
 
 pub returns : goal.returns
-returns c = nobody_won c.args.won c.args.runs c.if-won.false c.requires.image
+returns c =
+    elim c.else-won.branch [
+      | else-won-via-then-won+else-runs w ↦ stopped_before c.args.won c.args.runs w.if-won.true w.if-runs.false c.requires.image
+      | else-won-via-else-won w ↦ nobody_won c.args.won c.args.runs w.if-won.false c.requires.image
+    ]

@@ -1,12 +1,12 @@
-use Rattle.image_ranges.specs.Ranges.{block_in_range_to, block_most_to}
+use Rattle.image_ranges.specs.Ranges.{zero_words, block_in_range_to, block_most_to}
 use borrow.Author.Tests.{eq-eqb, ne_eqb, le-leb, lt-leb}
 use Rattle.ticks.specs.Ticks.{max_remainder}
-use mathlib.Core.Path.{sym, ◌∙◌}
+use mathlib.Core.Path.{sym, ap, ◌∙◌}
 use Rattle.image_ranges.proofs.ranges.block_in_range.Goals as goal
 
 pub returns-then-b-eq0 : goal.returns-then-b-eq0
 unfolding block_in_range_to
-returns-then-b-eq0 c = rw (eq-eqb _ 0 c.if-b-eq0.true) c.zero_words.ensures
+returns-then-b-eq0 c = rw (eq-eqb _ 0 c.if-b-eq0.true) (c.zero_words.ensures ∙ ap (zero_words c.args.b.now) c.requires.b_len)
 
 pub returns-then-not-within : goal.returns-then-not-within
 unfolding block_in_range_to block_most_to

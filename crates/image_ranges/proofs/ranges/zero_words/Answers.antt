@@ -1,16 +1,16 @@
--- `image::ranges::zero_words` meets its contract. Assumes nothing.
+-- `ranges::zero_words` meets its contract. Assumes nothing.
 use mathlib.Core.Path.{refl}
 use native.Mathlib.Omega.{arith}
 use Rattle.image_ranges.specs.Ranges.{zero_words}
 use Rattle.image_ranges.proofs.Zeros.{zeros_none, zeros_next, zeros_all}
 use Rattle.image_ranges.proofs.ranges.zero_words.Goals as goal
 
-pub loop-i-init : goal.loop-i-init
-loop-i-init c = (omega arith, omega arith, zeros_none _)
+pub loop-x-init : goal.loop-x-init
+loop-x-init c = zeros_none _
 
-pub loop-i-preserved : goal.loop-i-preserved
-loop-i-preserved c = (omega arith, omega arith, zeros_next _ c.loop-i.all _ _ c.loop-i.invariant.2 refl)
+pub loop-x-preserved : goal.loop-x-preserved
+loop-x-preserved c = zeros_next _ c.loop-x.all _ _ c.loop-x.invariant refl
 
 pub returns : goal.returns
 unfolding zero_words
-returns c = zeros_all _ c.loop-i.all _ _ c.loop-i-test.false c.loop-i.invariant.0 c.loop-i.invariant.2
+returns c = zeros_all _ c.loop-x.all _ _ (omega arith) (omega arith) c.loop-x.invariant

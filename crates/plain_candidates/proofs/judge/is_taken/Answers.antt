@@ -1,14 +1,11 @@
-use Rattle.plain_candidates.proofs.Judging.{none_looked, one_looked, all_looked}
+use Rattle.std.proofs.Common.{rules, refl, eqb}
+use Rattle.std.proofs.lemmas.List.Recursion.{or_is}
+use Rattle.entries.specs.Queue.{keyed}
+use Rattle.model.specs.Steal.{member, contexts_of}
+use Rattle.plain_lists.specs.Lists.{entries_of}
 use Rattle.plain_candidates.proofs.judge.is_taken.Goals as goal
 
--- src/judge.rt:47:5
-pub loop-i-init : goal.loop-i-init
-loop-i-init c = none_looked _ _ c.requires
-
--- src/judge.rt:47:5
-pub loop-i-preserved : goal.loop-i-preserved
-loop-i-preserved c = one_looked _ _ _ _ c.loop-i.invariant c.loop-i-test.true _ c.either-b.ensures
-
--- src/judge.rt:41:1
 pub returns : goal.returns
-returns c = all_looked _ _ _ _ c.loop-i.invariant c.loop-i-test.false
+returns c =
+    or_is (λ l. member c.args.x (contexts_of l)) (λ e. eqb c.args.x e.context_ref) refl (λ e l. refl) (entries_of c.args.got)
+    (keyed (record { vd = 0; rem_slice = 0; ctxt_id = 0 })) c.any.result (search rules) (search rules)

@@ -3,4 +3,4 @@ use Rattle.plain_candidates.proofs.victim.want.Goals as goal
 
 -- src/victim.rt:72:1
 pub returns : goal.returns
-returns c = (wanted_is c.args.n c.args.s c.requires.0 c.args.v c.requires.1 c.half_of.ensures.0, c.half_of.ensures.1)
+returns c = (wanted_is c.args.n c.args.s c.requires c.args.v c.half_of.ensures.0, c.half_of.ensures.1)

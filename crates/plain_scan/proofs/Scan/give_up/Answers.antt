@@ -3,4 +3,4 @@ use Rattle.plain_scan.proofs.Scan.give_up.Goals as goal
 
 -- src/lib.rt:77:5
 pub returns : goal.returns
-returns c = given_up_is c.args.n c.args.self c.args.e c.args.w c.requires.sound c.push-leaving.ensures.stands c.push-leaving.ensures.len_value
+returns c = given_up_is c.args.n c.args.self c.args.e c.args.w c.requires.sound c.push-self.ensures.stands c.push-self.ensures.len_value

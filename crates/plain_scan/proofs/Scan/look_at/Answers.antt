@@ -5,7 +5,7 @@ use Rattle.plain_scan.proofs.Scan.look_at.Goals as goal
 
 -- src/lib.rt:177:17
 pub take-requires : goal.take-requires
-take-requires c = (c.store-s-in-Ready.ensures.1.sound, subst (λ (z : ℕ). z < c.args.n) c.requires.x_lt_n.1 c.requires.x_lt_n.0)
+take-requires c = (c.store-in-Ready.ensures.1.sound, subst (λ (z : ℕ). z < c.args.n) c.requires.x_lt_n.1 c.requires.x_lt_n.0)
 
 -- src/lib.rt:159:5
 pub returns-in-Pass : goal.returns-in-Pass
@@ -17,12 +17,12 @@ returns-in-Gone c = look_gone c.args.n c.args.t c.args.e c.args.self c.args.v c.
 
 -- src/lib.rt:159:5
 pub returns-in-Blocked : goal.returns-in-Blocked
-returns-in-Blocked c = look_blocked c.args.n c.args.t c.args.e c.args.self c.args.v _ c.args.x c.weight_of-w.result c.record-was.result c.in-Blocked.is c.store-s.ensures c.record-was.ensures c.requires.x_lt_n.1 c.weight_of-w.ensures.0 c.weight_of-w.ensures.1 c.give_up-in-Blocked.ensures
+returns-in-Blocked c = look_blocked c.args.n c.args.t c.args.e c.args.self c.args.v _ c.args.x c.weight_of-w.result c.record-was.result c.in-Blocked.is c.store.ensures c.record-was.ensures c.requires.x_lt_n.1 c.weight_of-w.ensures.0 c.weight_of-w.ensures.1 c.give_up-in-Blocked.ensures
 
 -- src/lib.rt:159:5
 pub returns-in-NoAddrSpace : goal.returns-in-NoAddrSpace
-returns-in-NoAddrSpace c = look_space c.args.n c.args.t c.args.e c.args.self c.args.v _ c.in-NoAddrSpace.is c.store.ensures
+returns-in-NoAddrSpace c = look_space c.args.n c.args.t c.args.e c.args.self c.args.v _ c.in-NoAddrSpace.is c.store-in-NoAddrSpace.ensures
 
 -- src/lib.rt:159:5
 pub returns-in-Ready : goal.returns-in-Ready
-returns-in-Ready c = look_ready c.args.n c.args.t c.args.e c.args.self c.args.v _ c.in-Ready.is c.store-s-in-Ready.ensures c.take.ensures
+returns-in-Ready c = look_ready c.args.n c.args.t c.args.e c.args.self c.args.v _ c.in-Ready.is c.store-in-Ready.ensures c.take.ensures

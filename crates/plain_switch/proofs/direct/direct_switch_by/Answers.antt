@@ -12,8 +12,8 @@ returns-in-CanSwitch c = by_can_switch c.args.n c.args.k c.args.time c.args.x c.
 
 -- src/direct.rt:50:1
 pub returns-in-Skip : goal.returns-in-Skip
-returns-in-Skip c = by_skip c.args.n c.args.k c.args.time c.args.x c.args.own c.args.s c.word-cpu.ensures c.context-q.ensures c.update_runnable-u.ensures c.in-Skip.is c.requires.sound.0 c.not_switched.ensures
+returns-in-Skip c = by_skip c.args.n c.args.k c.args.time c.args.x c.args.own c.args.s c.word-cpu.ensures c.context-q.ensures c.update_runnable-u.ensures c.in-Skip.is
 
 -- src/direct.rt:50:1
 pub returns-in-Blocked : goal.returns-in-Blocked
-returns-in-Blocked c = by_blocked c.args.n c.args.k c.args.time c.args.x c.args.own c.args.s c.word-cpu.ensures c.context-q.ensures c.update_runnable-u.ensures c.in-Blocked.is c.requires.sound.0 c.not_switched-in-Blocked.ensures
+returns-in-Blocked c = by_blocked c.args.n c.args.k c.args.time c.args.x c.args.own c.args.s c.word-cpu.ensures c.context-q.ensures c.update_runnable-u.ensures c.in-Blocked.is

@@ -1,5 +1,6 @@
 use Rattle.plain_wakeup.proofs.Serving.{old_key_left}
 use mathlib.Core.Path.{refl}
+use Rattle.plain_lists.proofs.Listing.{sized}
 use Rattle.plain_wakeup.proofs.serve.without_old_key.Goals as goal
 
 -- src/serve.rt:44:9
@@ -8,4 +9,4 @@ returns-then-c c = old_key_left c.args.c _ c.if-c.true c.queue_key-k.ensures c.l
 
 -- src/serve.rt:38:1
 pub returns : goal.returns
-returns c = rw c.if-c.false (record { sized = c.requires; is = refl })
+returns c = rw c.if-c.false (record { sized = sized _; is = refl })

@@ -4,7 +4,7 @@ use Prim.Native.Nat.{ℕ}
 use native.Mathlib.Omega.{arith}
 use lib.Dec.{eqb}
 use Rattle.stages.proofs.Kept.{ranged_more}
-use Rattle.switch_to.specs.declared.direct.DirectSwitch.TheVariants.{NotSwitched, Switched, NoRoom}
+use Rattle.std.proofs.lemmas.Result.{err_from_is_err_and}
 use Rattle.schedule.proofs.Inner.{direct_is, begin_again}
 use Rattle.schedule.proofs.Called.{can_begin, direct, direct_current, directly, directly_full, not_directly}
 use Rattle.schedule.proofs.calls.direct_switch_to.Goals as goal
@@ -12,17 +12,17 @@ use Rattle.schedule.proofs.calls.direct_switch_to.Goals as goal
 pub returns-then-b-name : goal.returns-then-b-name
 returns-then-b-name c = direct_current c.args.k c.args.time c.args.x _ c.load_block-b.ensures (c.if-b-name.true ∙ c.word-name.ensures) c.requires.image
 
-pub direct_switch_by-made-requires : goal.direct_switch_by-made-requires
-direct_switch_by-made-requires c = record { image = c.requires.image; k_lt_c = c.requires.k_lt_c; ranged = ranged_more (omega arith) (omega arith) c.requires.ranged }
+pub direct_switch_by-requires : goal.direct_switch_by-requires
+direct_switch_by-requires c = record { image = c.requires.image; k_lt_c = c.requires.k_lt_c; ranged = ranged_more (omega arith) (omega arith) c.requires.ranged }
 
 pub switch_inner-requires : goal.switch_inner-requires
-switch_inner-requires c = let t = direct_is NotSwitched c.in-NotSwitched.is c.direct_switch_by-made.ensures in record { image = t.image refl; k_lt_c = (c.requires.k_lt_c.0, c.requires.k_lt_c.2); can_begin = begin_again c.args.time (direct c.args.k c.args.time c.args.x (eqb c.load_block-b.result.sched_ctxt c.word-name.result)) t c.requires.image (can_begin c.args.time c.requires.k_lt_c.0 c.requires.ranged c.requires.k_bound) }
+switch_inner-requires c = let t = direct_is c.if-made.false c.in_ok-made.ensures in record { image = t.image refl; k_lt_c = (c.requires.k_lt_c.0, c.requires.k_lt_c.2); can_begin = begin_again c.args.time (direct c.args.k c.args.time c.args.x (eqb c.load_block-b.result.sched_ctxt c.word-name.result)) t c.requires.image (can_begin c.args.time c.requires.k_lt_c.0 c.requires.ranged c.requires.k_bound) }
 
-pub returns-in-NoRoom : goal.returns-in-NoRoom
-returns-in-NoRoom c = directly_full c.args.k c.args.time c.args.x _ c.load_block-b.ensures _ (ap (λ (y : ℕ). eqb c.load_block-b.result.sched_ctxt y) c.word-name.ensures) (λ z. c.if-b-name.false (z ∙ sym c.word-name.ensures)) (direct_is NoRoom c.in-NoRoom.is c.direct_switch_by-made.ensures)
+pub returns-in_err-made : goal.returns-in_err-made
+returns-in_err-made c = let p = err_from_is_err_and c.from_residual.result c.from_residual.ensures.1 in rw p.1 (directly_full c.args.k c.args.time c.args.x _ c.load_block-b.ensures _ (ap (λ (y : ℕ). eqb c.load_block-b.result.sched_ctxt y) c.word-name.ensures) (λ z. c.if-b-name.false (z ∙ sym c.word-name.ensures)) c.in_err-made.ensures)
 
-pub returns-in-Switched : goal.returns-in-Switched
-returns-in-Switched c = directly c.args.k c.args.time c.args.x _ c.load_block-b.ensures _ (ap (λ (y : ℕ). eqb c.load_block-b.result.sched_ctxt y) c.word-name.ensures) (λ z. c.if-b-name.false (z ∙ sym c.word-name.ensures)) (direct_is Switched c.in-Switched.is c.direct_switch_by-made.ensures)
+pub returns-then-made : goal.returns-then-made
+returns-then-made c = directly c.args.k c.args.time c.args.x _ c.load_block-b.ensures _ (ap (λ (y : ℕ). eqb c.load_block-b.result.sched_ctxt y) c.word-name.ensures) (λ z. c.if-b-name.false (z ∙ sym c.word-name.ensures)) (direct_is c.if-made.true c.in_ok-made.ensures)
 
-pub returns-in-NotSwitched : goal.returns-in-NotSwitched
-returns-in-NotSwitched c = not_directly c.args.k c.args.time c.args.x _ c.load_block-b.ensures _ (ap (λ (y : ℕ). eqb c.load_block-b.result.sched_ctxt y) c.word-name.ensures) (λ z. c.if-b-name.false (z ∙ sym c.word-name.ensures)) (direct_is NotSwitched c.in-NotSwitched.is c.direct_switch_by-made.ensures) c.requires.image c.switch_inner.ensures
+pub returns : goal.returns
+returns c = not_directly c.args.k c.args.time c.args.x _ c.load_block-b.ensures _ (ap (λ (y : ℕ). eqb c.load_block-b.result.sched_ctxt y) c.word-name.ensures) (λ z. c.if-b-name.false (z ∙ sym c.word-name.ensures)) (direct_is c.if-made.false c.in_ok-made.ensures) c.requires.image c.switch_inner.ensures

@@ -1,13 +1,14 @@
 -- `schedule::switching::decide` meets its contract. Assumes nothing.
-use Rattle.schedule.proofs.Parts.{part_full_is}
+use Rattle.std.proofs.lemmas.Result.{err_from_is_err_and}
+use mathlib.Core.Path.{refl}
 use Rattle.schedule.proofs.Inner.{decided_full, decided}
 use Rattle.schedule.proofs.switching.decide.Goals as goal
 
-pub returns-then-next : goal.returns-then-next
-returns-then-next c = decided_full c.args.time (part_full_is c.if-next.true c.schedule-next.ensures.part)
+pub returns-in_err-next : goal.returns-in_err-next
+returns-in_err-next c = let p = err_from_is_err_and c.from_residual.result c.from_residual.ensures.1 in rw p.1 (decided_full c.args.time c.in_err-next.ensures.part)
 
 pub switch_as-requires : goal.switch_as-requires
-switch_as-requires c = record { image = c.schedule-next.ensures.part.image c.if-next.false; k_lt_c = (c.requires.k_lt_c.0, c.requires.k_lt_c.1, (c.schedule-next.ensures.named_below c.if-next.false).0); ranged = (c.schedule-next.ensures.named_below c.if-next.false).1 }
+switch_as-requires c = record { image = c.in_ok-next.ensures.part.image refl; k_lt_c = (c.requires.k_lt_c.0, c.requires.k_lt_c.1, c.in_ok-next.ensures.named_below.0); ranged = c.in_ok-next.ensures.named_below.1 }
 
 pub returns : goal.returns
-returns c = decided c.args.time c.rule_number-number.ensures c.requires.k_lt_c.0 (part_full_is c.if-next.false c.schedule-next.ensures.part) c.switch_as.ensures
+returns c = decided c.args.time c.from-number.ensures c.requires.k_lt_c.0 c.in_ok-next.ensures.part c.switch_as.ensures

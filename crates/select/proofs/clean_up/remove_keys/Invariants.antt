@@ -1,9 +1,9 @@
-use Prim.Native.Nat.{◌-◌}
-use Rattle.select.proofs.Cleaning.{Removing}
+use lib.ListN.{take}
+use mathlib.Core.Bool.{false}
+use Rattle.model.specs.State.{State}
+use Rattle.select.specs.Cleaning.{remove_keys}
+use Rattle.stages.specs.Stage.{Staged}
 use Rattle.select.proofs.clean_up.remove_keys.Given as goal
 
-abbrev pub invariant-loop-j : goal.invariant-loop-j
-invariant-loop-j l = Removing l.c l.n l.k l.number l.initial.m l.m l.d l.j
-
-abbrev pub decreases-loop-j : goal.decreases-loop-j
-decreases-loop-j l = l.number - l.j
+abbrev pub invariant-loop-key : goal.invariant-loop-key
+invariant-loop-key l = Staged l.c l.n l.k l.initial.m l.m false (λ (s : State). remove_keys (take l.key-index l.keys) s)

@@ -4,7 +4,7 @@ use native.Mathlib.Omega.{arith}
 use Rattle.select.proofs.scan.scan_queue.Goals as goal
 
 pub loop-i-init : goal.loop-i-init
-loop-i-init c = record { here = omega arith; few = c.queue_len-len.ensures.1; same = refl; size = c.requires.k_lt_c.2; keys = omega arith; sum = omega arith; nobody = refl; late = tt; scans = scanned_none _ _ c.requires.image }
+loop-i-init c = record { few = c.queue_len-len.ensures.1; same = refl; size = c.requires.k_lt_c.2; keys = omega arith; sum = omega arith; nobody = refl; late = tt; scans = scanned_none _ _ c.requires.image }
 
 pub entry-e-requires : goal.entry-e-requires
 entry-e-requires c = record { image = c.loop-i.invariant.scans.image; k_lt_c = (c.requires.k_lt_c.0, loop_count c.loop-i.invariant c.requires.k_lt_c.0 c.requires.image c.queue_len-len.ensures.2 c.loop-i-test.true) }
@@ -22,4 +22,4 @@ pub loop-i-preserved : goal.loop-i-preserved
 loop-i-preserved c = loop_next c.queue_len-len.ensures.2 c.loop-i.invariant c.loop-i-test.true c.entry-e.ensures.is c.scan_step-w.ensures.scans c.scan_step-w.ensures.grown (omega arith) (omega arith) (sym c.is_found.ensures ∙ c.if-is_found.false)
 
 pub returns : goal.returns
-returns c = record { scans = scanned_all _ _ _ (λ M e o. omega (arith, c.queue_len-len.ensures.2 M e o, c.loop-i-test.false)) c.loop-i.invariant.scans; contexts_to_remove_bound = loop_end c.loop-i.invariant }
+returns c = record { scans = scanned_all _ _ _ (λ M e o. omega (arith, c.queue_len-len.ensures.2 M e o, c.loop-i-test.false)) c.loop-i.invariant.scans; contexts_to_remove_bound = loop_end c.loop-i.invariant c.loop-i.auto.i-end }

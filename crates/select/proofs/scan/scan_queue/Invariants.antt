@@ -4,6 +4,3 @@ use Rattle.select.proofs.scan.scan_queue.Given as goal
 
 abbrev pub invariant-loop-i : goal.invariant-loop-i
 invariant-loop-i l = Loop l.c l.n l.k l.len l.initial.m l.m l.d l.t l.w l.i
-
-abbrev pub decreases-loop-i : goal.decreases-loop-i
-decreases-loop-i l = l.len - l.i

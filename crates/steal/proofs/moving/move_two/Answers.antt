@@ -1,17 +1,19 @@
+use Rattle.std.proofs.lemmas.Result.{err_from_is_err_and}
+use mathlib.Core.Path.{refl}
 use Rattle.model.specs.Steal.{Moving, move_entry}
 use Rattle.steal.proofs.Victims.{moves_then, moves_full}
 use Rattle.steal.proofs.AfterMove.{move_stays_full}
 use Rattle.steal.proofs.Movable.{movable_first, movable_second}
 use Rattle.steal.proofs.moving.move_two.Goals as goal
 
-pub move_entry-one-requires : goal.move_entry-one-requires
-move_entry-one-requires c = record { image = c.requires.image; k_lt_c = (c.requires.k_lt_c.0, c.requires.k_lt_c.1, c.requires.k_lt_c.2, c.requires.k_lt_c.3); movable = movable_first c.requires.k_lt_c.0 c.requires.ranged }
-
-pub returns-then-one : goal.returns-then-one
-returns-then-one c = moves_full (λ (v : Moving). move_entry c.args.runs v c.args.b) c.if-one.true c.move_entry-one.ensures (move_stays_full c.args.runs c.args.b)
-
 pub move_entry-requires : goal.move_entry-requires
-move_entry-requires c = record { image = c.move_entry-one.ensures.image c.if-one.false; k_lt_c = (c.requires.k_lt_c.0, c.requires.k_lt_c.1, c.requires.k_lt_c.2, c.requires.k_lt_c.4); movable = movable_second c.args.runs c.args.a c.requires.k_lt_c.0 c.requires.k_lt_c.1 c.requires.ranged c.requires.k_lt_c.3 c.if-one.false c.move_entry-one.ensures }
+move_entry-requires c = record { image = c.requires.image; k_lt_c = (c.requires.k_lt_c.0, c.requires.k_lt_c.1, c.requires.k_lt_c.2, c.requires.k_lt_c.3); movable = movable_first c.requires.k_lt_c.0 c.requires.ranged }
+
+pub returns-in_err-first : goal.returns-in_err-first
+returns-in_err-first c = let p = err_from_is_err_and c.from_residual.result c.from_residual.ensures.1 in rw p.1 (moves_full (λ (v : Moving). move_entry c.args.runs v c.args.b) refl c.in_err-first.ensures (move_stays_full c.args.runs c.args.b))
+
+pub move_entry-requires-2 : goal.move_entry-requires-2
+move_entry-requires-2 c = record { image = c.in_ok-first.ensures.image refl; k_lt_c = (c.requires.k_lt_c.0, c.requires.k_lt_c.1, c.requires.k_lt_c.2, c.requires.k_lt_c.4); movable = movable_second c.args.runs c.args.a c.requires.k_lt_c.0 c.requires.k_lt_c.1 c.requires.ranged c.requires.k_lt_c.3 refl c.in_ok-first.ensures }
 
 pub returns : goal.returns
-returns c = moves_then (λ (v : Moving). move_entry c.args.runs v c.args.b) c.requires.k_lt_c.0 c.requires.k_lt_c.1 c.requires.k_lt_c.2 c.if-one.false c.move_entry-one.ensures c.move_entry.ensures
+returns c = moves_then (λ (v : Moving). move_entry c.args.runs v c.args.b) c.requires.k_lt_c.0 c.requires.k_lt_c.1 c.requires.k_lt_c.2 refl c.in_ok-first.ensures c.move_entry-2.ensures

@@ -1,4 +1,5 @@
-use Rattle.steal.proofs.AfterMove.{first_in, later_in}
+use Rattle.std.proofs.lemmas.Result.{err_from_is_err_and}
+use Rattle.steal.proofs.AfterMove.{first_in, later_in, later_full}
 use native.Mathlib.Omega.{arith}
 use Rattle.steal.proofs.moving.take_in.Goals as goal
 
@@ -8,8 +9,11 @@ store_context-requires c = record { image = c.requires.image; k_lt_c = (c.requir
 pub returns-then-first_wins : goal.returns-then-first_wins
 returns-then-first_wins c = first_in c.args.e c.args.q c.args.runs c.args.w c.store_context.ensures c.index-x.ensures c.first_wins.ensures c.if-first_wins.true
 
-pub queue_in-full-requires : goal.queue_in-full-requires
-queue_in-full-requires c = record { image = c.requires.image; k_lt_c = (c.requires.k_lt_c.0, c.requires.k_lt_c.1, c.index-x.ensures); context_fits = c.requires.context_fits }
+pub queue_in-requires : goal.queue_in-requires
+queue_in-requires c = record { image = c.requires.image; k_lt_c = (c.requires.k_lt_c.0, c.requires.k_lt_c.1, c.index-x.ensures); context_fits = c.requires.context_fits }
+
+pub returns-in_err-queue_in : goal.returns-in_err-queue_in
+returns-in_err-queue_in c = let p = err_from_is_err_and c.from_residual.result c.from_residual.ensures.1 in rw p.1 (later_full c.args.e c.args.q c.args.runs c.args.w c.in_err-queue_in.ensures c.first_wins.ensures c.if-first_wins.false)
 
 pub returns : goal.returns
-returns c = later_in c.args.e c.args.q c.args.runs c.args.w c.queue_in-full.ensures c.first_wins.ensures c.if-first_wins.false
+returns c = later_in c.args.e c.args.q c.args.runs c.args.w c.in_ok-queue_in.ensures c.first_wins.ensures c.if-first_wins.false

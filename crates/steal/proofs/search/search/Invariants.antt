@@ -1,4 +1,3 @@
-use Prim.Native.Nat.{◌-◌}
 use Rattle.steal.proofs.Round.{Outer}
 use Rattle.steal.proofs.Offered.{Inner}
 use Rattle.steal.proofs.search.search.Given as goal
@@ -6,11 +5,5 @@ use Rattle.steal.proofs.search.search.Given as goal
 abbrev pub invariant-loop-j : goal.invariant-loop-j
 invariant-loop-j l = Inner l.c l.n l.k l.len l.want l.m l.w l.locked l.got l.t l.j
 
-abbrev pub decreases-loop-j : goal.decreases-loop-j
-decreases-loop-j l = l.len - l.j
-
 abbrev pub invariant-search : goal.invariant-search
 invariant-search l = Outer l.c l.n l.k l.m l.w l.locked l.got l.t l.i
-
-abbrev pub decreases-search : goal.decreases-search
-decreases-search l = l.others - l.i

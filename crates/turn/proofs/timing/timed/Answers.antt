@@ -2,4 +2,4 @@
 use Rattle.turn.proofs.timing.timed.Goals as goal
 
 pub returns : goal.returns
-returns c = rw (c.with_stats-r.ensures, c.update-stats.ensures)
+returns c = rw c.add_time.ensures

@@ -1,0 +1,17 @@
+use mathlib.Core.Path.{ap}
+use Rattle.refusal.specs.Number.{numbered}
+use borrow.Author.Rules.{rules}
+use Rattle.ronthuyal.proofs.Left.{switch_promises}
+use Rattle.model.specs.Accepted.{by_switch}
+use Rattle.ronthuyal.proofs.Demanded.{demand_refused, demand_decided, stands_switch}
+use Rattle.calls.proofs.Called.{call_refused, call_image, call_time, call_ranged, call_done}
+use Rattle.ronthuyal.proofs.single.ronthuyal_switch.Goals as goal
+
+pub switch-requires : goal.switch-requires
+switch-requires c = record { image = call_image _ _ _ c.check-checked.ensures _ _ (ap numbered c.in-Ok.is); time_le_max_number = call_time _ _ _ c.check-checked.ensures _ _ (ap numbered c.in-Ok.is); ranged = call_ranged _ _ _ c.check-checked.ensures _ _ (ap numbered c.in-Ok.is) }
+
+pub returns-in-Err : goal.returns-in-Err
+returns-in-Err c = switch_promises _ _ _ 0 (search rules) (call_refused _ _ _ c.check-checked.ensures _ _ (ap numbered c.in-Err.is) c.refused.ensures) (demand_refused _ _ _ c.check-checked.ensures _ _ _ _ (ap numbered c.in-Err.is) c.refused.ensures)
+
+pub returns-in-Ok : goal.returns-in-Ok
+returns-in-Ok c = switch_promises _ _ _ 0 c.type_inv.image (call_done _ _ _ c.check-checked.ensures _ _ _ (ap numbered c.in-Ok.is) (λ M e o. (c.switch.ensures M e o).replies)) (demand_decided _ _ _ c.check-checked.ensures _ _ _ by_switch (stands_switch 0) _ _ (ap numbered c.in-Ok.is) c.switch.ensures)
