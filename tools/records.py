@@ -136,7 +136,8 @@ def write_places():
     columns = [array.name for array in ARRAYS]
     ends = ["scalars_size", "front_size", "columns_end", "block_size"]
     named = [(f + ("_column" if f in columns else "" if f in COUNTS + ends else "_place"), n) for f, n in places()]
-    consts("crates/percpu/src/places.rt", "Where the words of a block stand, and its size.", places())
+    consts("crates/percpu/src/places.rt", "Where the words of a block stand, its size, and that of a column.",
+           places() + [("room", ROOM)])
     consts("crates/context/src/places.rt", "Where the words of a record stand, and its size.",
            [(f, i) for i, (f, _) in enumerate(CONTEXT)] + [("record_size", len(CONTEXT))])
     with open("crates/percpu/specs/Places.antt", "w") as out:

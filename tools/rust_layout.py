@@ -149,7 +149,7 @@ def strings(says, name, items):
 def weights():
     """The kernel's table, as crates/weights has it."""
     source = open("crates/weights/src/lib.rt").read()
-    table = re.search(r"const SCHED_PRIO_TO_WEIGHT: \[u64; 40\] = \[([^\]]*)\]", source).group(1)
+    table = re.search(r"static SCHED_PRIO_TO_WEIGHT: \[u64; 40\] = \[([^\]]*)\]", source).group(1)
     return [int(number) for number in re.findall(r"\d+", table)]
 
 

@@ -1,8 +1,10 @@
 // What a call answers.
 #![tactic(auto)]
 
-ghost use Rattle.std.specs.Prelude.{◌≡◌};
+ghost use Rattle.std.specs.Prelude.{◌≡◌, ◌∷◌, ◌++◌, Some, decimal};
 ghost use Rattle.answer.specs.Number.{result_number, rule_number};
+
+use std::fmt;
 
 // 0 or the number of its refusal, the result, whether a wake-up went to another CPU, and the number of the rule that decided
 #[repr(C)]
@@ -20,6 +22,18 @@ pub fn refused(number: u64) -> Answer
     Answer {
         refusal: number,
         result: 0,
+        interrupt: 0,
+        rule: 0,
+    }
+}
+
+// A call that decides nothing, and sends no wake-up to another CPU.
+pub fn accepted(value: u64) -> Answer
+    ensures { result ≡ record { refusal = 0; result = value; interrupt = 0; rule = 0 } }
+{
+    Answer {
+        refusal: 0,
+        result: value,
         interrupt: 0,
         rule: 0,
     }
@@ -64,5 +78,18 @@ impl From<Rule> for u64 {
 
     fn from(rule: Rule) -> u64 {
         rule as u64
+    }
+}
+
+// Its four numbers, a space (32) between two.
+impl fmt::Display for Answer {
+    ghost output = { λ a. Some (decimal a.refusal ++ 32 ∷ decimal a.result ++ 32 ∷ decimal a.interrupt ++ 32 ∷ decimal a.rule) };
+
+    fn fmt<W: fmt::Write>(&self, f: &mut fmt::Formatter<W>) -> fmt::Result {
+        write!(
+            f,
+            "{} {} {} {}",
+            self.refusal, self.result, self.interrupt, self.rule
+        )
     }
 }

@@ -89,19 +89,11 @@ pub fn answer(m: &[u64], c: usize, n: usize, one: u64, other: u64) -> Answer
     requires { Image c n m.now }
     ensures { (M : Machine) → m.now ≡ encode M → Fits c n M → result ≡ apart_answer M (get_percpu_block M one) (get_percpu_block M other) }
 {
-    let p = machine::get_percpu_block(m, c, n, one);
-    let Some(a) = p else {
+    let Some(a) = machine::get_percpu_block(m, c, n, one) else {
         return refused(Refusal::Name);
     };
-    let q = machine::get_percpu_block(m, c, n, other);
-    let Some(b) = q else {
+    let Some(b) = machine::get_percpu_block(m, c, n, other) else {
         return refused(Refusal::Name);
     };
-    let apart = are_apart(m, c, n, a, b);
-    Answer {
-        refusal: 0,
-        result: apart as u64,
-        interrupt: 0,
-        rule: 0,
-    }
+    answer::accepted(are_apart(m, c, n, a, b) as u64)
 }

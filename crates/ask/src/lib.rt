@@ -48,8 +48,7 @@ fn commit_on(image: &mut [u64], c: usize, n: usize, cpu: u64, time: u64, given: 
 pub fn commit(image: &mut [u64], cpu: u64, time: u64, given: Asked) -> Answer
     ensures { reply result image.new ≡ commit image.old cpu time given }
 {
-    let checked = calls::check(image, time);
-    match checked {
+    match calls::check(image, time) {
         Err(refusal) => refused(refusal),
         Ok((c, n)) => commit_on(image, c, n, cpu, time, given),
     }

@@ -1,12 +1,13 @@
 // The five numbers that are told of a reply, and two of them compared.
 #![tactic(auto)]
 
-ghost use Rattle.std.specs.Prelude.{◌≡◌, get_or};
+ghost use Rattle.std.specs.Prelude.{◌≡◌, ◌∷◌, ◌++◌, get_or, Some, decimal};
 ghost use Rattle.context_ops.specs.Reply.{reply};
 ghost use Rattle.asked.specs.OfReply.{refused, accepted, BlockInside, asked_of, same, commit_refusal};
 
 use answer::Answer;
 use percpu::places;
+use std::fmt;
 
 // 0 or the number of its refusal, the result, and the CPU's context in charge, current context and V
 #[repr(C)]
@@ -75,7 +76,7 @@ fn same(a: Asked, b: Asked) -> bool
     a == b
 }
 
-// The switch's own refusal comes first; 13 is checked last.
+// The switch's own refusal comes first; 13 is checked last. A number, not a Refusal: it hands on a word of Asked, which is a struct of C.
 pub fn commit_refusal(given: Asked, now: Asked) -> u64
     ensures { result ≡ commit_refusal given now }
 {
@@ -86,4 +87,17 @@ pub fn commit_refusal(given: Asked, now: Asked) -> u64
         return 0;
     }
     13
+}
+
+// Its five numbers, a space (32) between two.
+impl fmt::Display for Asked {
+    ghost output = { λ a. Some (decimal a.refusal ++ 32 ∷ decimal a.result ++ 32 ∷ decimal a.in_charge ++ 32 ∷ decimal a.current ++ 32 ∷ decimal a.v) };
+
+    fn fmt<W: fmt::Write>(&self, f: &mut fmt::Formatter<W>) -> fmt::Result {
+        write!(
+            f,
+            "{} {} {} {} {}",
+            self.refusal, self.result, self.in_charge, self.current, self.v
+        )
+    }
 }

@@ -1,4 +1,4 @@
--- The sizes of a board, test by test. Assumes nothing.
+-- The sizes of a board, by their test. Assumes nothing.
 use mathlib.Core.Path.{◌≡◌, refl}
 use mathlib.Core.Bool.{true, false}
 use Prim.Native.Nat.{ℕ, ◌<◌, ◌≤◌}
@@ -7,46 +7,12 @@ use mathlib.Core.List.{List}
 use lib.ListN.{length}
 use lib.Dec.{leb, ltb, eqb}
 use Rattle.columns.proofs.Tests.{by_test, and_both}
-use borrow.Author.Tests.{leb-true, ltb-true, eqb-true, lt-ltb, le-ltb, le-leb, lt-leb, eq-eqb, ne_eqb}
+use borrow.Author.Tests.{leb-true, ltb-true, eqb-true}
 use Rattle.std.specs.Prelude.{Result, Ok, Err}
 use Rattle.board.specs.declared.Sizes.{Sizes}
 use Rattle.board.specs.declared.Refusal.{Refusal}
 use Rattle.board.specs.declared.Refusal.TheVariants.{WrongSizes, LongRow, EarlyStart, FullBoard}
 use Rattle.board.specs.Board.{Board, header_size, max_capacity, capacity, stored, handed_out, board_size, is_sized, sizes_of, refusal_number}
-
-module _ (b : List ℕ) where
-  pub too_short : length b < header_size → Err WrongSizes ≡ sizes_of b
-  unfolding sizes_of is_sized
-  too_short h = rw (lt-leb header_size (length b) h)
-
-  module _ (k : ℕ) (e : k ≡ capacity b) (h : header_size ≤ length b) where
-    pub none_held : k < 1 → Err WrongSizes ≡ sizes_of b
-    unfolding sizes_of is_sized
-    none_held z = rw (le-leb header_size (length b) h, ← e, le-ltb 0 k (omega arith))
-
-    module _ (z : 1 ≤ k) where
-      pub too_many : max_capacity < k → Err WrongSizes ≡ sizes_of b
-      unfolding sizes_of is_sized
-      too_many g = rw (le-leb header_size (length b) h, ← e, lt-ltb 0 k (omega arith), lt-leb k max_capacity g)
-
-      module _ (g : k ≤ max_capacity) where
-        pub other_length : (s : ℕ) → s ≡ board_size k → (length b ≡ s → ⊥) → Err WrongSizes ≡ sizes_of b
-        unfolding sizes_of is_sized
-        other_length s q n = rw (le-leb header_size (length b) h, ← e, lt-ltb 0 k (omega arith), le-leb k max_capacity g, ← q, ne_eqb (length b) s n)
-
-        module _ (n s : ℕ) (f : n ≡ stored b) (q : s ≡ board_size k) (l : length b ≡ s) where
-          pub over_full : k < n → Err WrongSizes ≡ sizes_of b
-          unfolding sizes_of is_sized
-          over_full o = rw (le-leb header_size (length b) h, ← e, lt-ltb 0 k (omega arith), le-leb k max_capacity g, ← q, eq-eqb (length b) s l, ← f, lt-leb n k o)
-
-          module _ (o : n ≤ k) (y : ℕ) (d : y ≡ handed_out b) where
-            pub over_handed : n < y → Err WrongSizes ≡ sizes_of b
-            unfolding sizes_of is_sized
-            over_handed u = rw (le-leb header_size (length b) h, ← e, lt-ltb 0 k (omega arith), le-leb k max_capacity g, ← q, eq-eqb (length b) s l, ← f, le-leb n k o, ← d, lt-leb y n u)
-
-            pub all_right : y ≤ n → Ok (record { capacity = k; stored = n; handed_out = y }) ≡ sizes_of b
-            unfolding sizes_of is_sized
-            all_right u = rw (le-leb header_size (length b) h, ← e, lt-ltb 0 k (omega arith), le-leb k max_capacity g, ← q, eq-eqb (length b) s l, ← f, le-leb n k o, ← d, le-leb y n u)
 
 -- what right sizes say
 pub record IsRight (b : List ℕ) (k n h : ℕ) : Type 0 where

@@ -119,6 +119,9 @@ cue_at k b i =
       second = part b (row_place k i 1) row_size;
     }
 
+abbrev pub length_of : (r : ℕ) → Cue → ℕ
+length_of r q = if eqb r 0 then q.first_length else q.second_length
+
 -- the cues that are stored, in order
 unfoldable pub cues : List ℕ → List Cue
 cues b = tabulate (stored b) (cue_at (capacity b) b)

@@ -4,8 +4,7 @@
 pub mod places;
 
 ghost use Rattle.std.specs.Prelude.{◌≡◌, ◌+◌, ◌<◌, ◌≤◌, length};
-ghost use Rattle.std.specs.Prelude.{get_or};
-ghost use Rattle.board.specs.Board.{Board, number_at, put_number, length_place, refusal_number, sizes_of, cue_at};
+ghost use Rattle.board.specs.Board.{Board, number_at, put_number, length_of, refusal_number, sizes_of, cue_at};
 
 // How many cues the board holds, how many are stored, and how many of these are handed out.
 #[derive(Clone, Copy)]
@@ -55,6 +54,7 @@ pub fn put_number(b: &mut [u8], at: usize, x: u64)
 }
 
 // The capacity is tested before the length that it gives is worked out.
+#[tactic(auto, unfolding(crate::specs::Board::sizes_of, crate::specs::Board::is_sized))]
 pub fn sizes_of(b: &[u8]) -> Result<Sizes, Refusal>
     ensures { result ≡ sizes_of b.now }
 {
@@ -62,21 +62,12 @@ pub fn sizes_of(b: &[u8]) -> Result<Sizes, Refusal>
         return Err(Refusal::WrongSizes);
     }
     let k = numbers::index(number(b, places::CAPACITY));
-    if k < 1 {
-        return Err(Refusal::WrongSizes);
-    }
-    if places::MAX_CAPACITY < k {
-        return Err(Refusal::WrongSizes);
-    }
-    if b.len() != places::board_size(k) {
+    if k < 1 || places::MAX_CAPACITY < k || b.len() != places::board_size(k) {
         return Err(Refusal::WrongSizes);
     }
     let n = numbers::index(number(b, places::STORED));
-    if k < n {
-        return Err(Refusal::WrongSizes);
-    }
     let h = numbers::index(number(b, places::HANDED_OUT));
-    if n < h {
+    if k < n || n < h {
         return Err(Refusal::WrongSizes);
     }
     Ok(Sizes {
@@ -87,15 +78,6 @@ pub fn sizes_of(b: &[u8]) -> Result<Sizes, Refusal>
 }
 
 // The bytes and k stay two parameters here and above: a struct of them would be needed twice, to read and to write.
-// How many bytes of row r, 0 or 1, of cue i came in.
-fn length_at(b: &[u8], k: usize, i: usize, r: usize) -> u64
-    requires board { Board k b.now }
-    requires i_lt_k { (i < k) × (r ≤ 1) }
-    ensures { result ≡ get_or b.now (length_place k i r) 0 }
-{
-    u64::from(b[places::length_place(k, i, r)])
-}
-
 pub fn start_at(b: &[u8], k: usize, i: usize) -> u64
     requires board { Board k b.now }
     requires i_lt_k { i < k }
@@ -112,18 +94,11 @@ pub fn writer_at(b: &[u8], k: usize, i: usize) -> u64
     number(b, places::writer_place(k, i))
 }
 
-pub fn first_length_at(b: &[u8], k: usize, i: usize) -> u64
+// How many bytes of row r, 0 or 1, came in.
+pub fn length_at(b: &[u8], k: usize, i: usize, r: usize) -> u64
     requires board { Board k b.now }
-    requires i_lt_k { i < k }
-    ensures { result ≡ (cue_at k b.now i).first_length }
+    requires i_lt_k { (i < k) × (r ≤ 1) }
+    ensures { result ≡ length_of r (cue_at k b.now i) }
 {
-    length_at(b, k, i, 0)
-}
-
-pub fn second_length_at(b: &[u8], k: usize, i: usize) -> u64
-    requires board { Board k b.now }
-    requires i_lt_k { i < k }
-    ensures { result ≡ (cue_at k b.now i).second_length }
-{
-    length_at(b, k, i, 1)
+    u64::from(b[places::length_place(k, i, r)])
 }

@@ -10,6 +10,7 @@ ghost use Rattle.call_in_window.specs.CallInWindow.{turn_at, window_reply, own_f
 ghost use Rattle.refusal.specs.Number.{refusal_number};
 
 use answer::Answer;
+use operations::Call;
 use percpu::places;
 use refusal::{Refusal, refused};
 use window::Record;
@@ -25,10 +26,7 @@ fn none() -> Record {
 fn turn(image: &[u64], n: usize, cpu: u64, time: u64) -> Record
     ensures { BlockInside n cpu image.now → result ≡ turn_at n cpu time image.now }
 {
-    if 64 < n {
-        return none();
-    }
-    if 3 < cpu {
+    if 64 < n || 3 < cpu {
         return none();
     }
     let at = machine::cpu_place(n, numbers::index(cpu));
@@ -45,27 +43,17 @@ fn turn(image: &[u64], n: usize, cpu: u64, time: u64) -> Record
 fn shorter(len: usize) -> usize
     ensures { (result ≤ len) × (result ≤ max_image_size) × (len ≤ max_image_size → result ≡ len) }
 {
-    if machine::MAX_IMAGE_SIZE < len {
-        return machine::MAX_IMAGE_SIZE;
-    }
-    len
+    len.min(machine::MAX_IMAGE_SIZE)
 }
 
 // The window is refused. What the call itself is refused for comes first; accepted, its words are put back.
-fn refuse(
-    image: &mut [u64],
-    operation: u64,
-    cpu: u64,
-    time: u64,
-    context: u64,
-    refusal: Refusal,
-) -> Answer
-    ensures { reply result image.new ≡ own_first image.old (refusal_number refusal) (call image.old operation cpu time context) }
+fn refuse(image: &mut [u64], q: Call, refusal: Refusal) -> Answer
+    ensures { reply result image.new ≡ own_first image.old (refusal_number refusal) (call image.old q.operation q.cpu q.time q.context) }
 {
     let mut kept = [0u64; machine::MAX_IMAGE_SIZE];
     let len = shorter(image.len());
     words::copy(image, &mut kept, len);
-    let a = operations::call(image, operation, cpu, time, context);
+    let a = operations::call(image, q);
     if a.refusal != 0 {
         return a;
     }
@@ -74,25 +62,17 @@ fn refuse(
 }
 
 // The window is that of the call's CPU, which nothing in it says.
-pub fn call(
-    image: &mut [u64],
-    window: &mut [u64],
-    operation: u64,
-    cpu: u64,
-    time: u64,
-    context: u64,
-) -> Answer
-    ensures { window_reply result image.new window.new ≡ call_in_window image.old window.old operation cpu time context }
+pub fn call(image: &mut [u64], window: &mut [u64], q: Call) -> Answer
+    ensures { window_reply result image.new window.new ≡ call_in_window image.old window.old q.operation q.cpu q.time q.context }
 {
     let n = asked::contexts(image);
     if let Err(refusal) = window::check(window, numbers::word(n)) {
-        return refuse(image, operation, cpu, time, context, refusal);
+        return refuse(image, q, refusal);
     }
-    let holder = turn(image, n, cpu, time);
-    let a = operations::call(image, operation, cpu, time, context);
+    let holder = turn(image, n, q.cpu, q.time);
+    let a = operations::call(image, q);
     if a.rule != 0 {
         window::add(window, holder);
-        return a;
     }
     a
 }

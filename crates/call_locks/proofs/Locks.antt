@@ -23,7 +23,7 @@ use Rattle.context_ops.specs.Named.{named}
 use Rattle.context_ops.specs.Operations.{unblock_context, drain_ipi_context_wakeups, block, hard_block}
 use Rattle.context_ops.specs.Reply.{Reply, refuse, reply_to, reply_on}
 use Rattle.switch_ops.specs.Reply.{decide, direct_switch}
-use Rattle.calls.specs.Call.{check, checked, checked_by, tick_call, switch_call, direct_switch_to_call, unblock_context_call, drain_ipi_context_wakeups_call, block_call, hard_block_call, no_operation_call, call}
+use Rattle.calls.specs.Call.{checked, checked_by, tick_call, switch_call, direct_switch_to_call, unblock_context_call, drain_ipi_context_wakeups_call, block_call, hard_block_call, no_operation_call, call}
 use Rattle.calls.proofs.Called.{check_passed}
 use Rattle.ronthuyal.proofs.Left.{formed}
 use Rattle.call_weights.proofs.Runs as calls

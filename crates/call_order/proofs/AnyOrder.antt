@@ -15,7 +15,6 @@ use Rattle.percpu.specs.Cpu.{Cpu}
 use Rattle.percpu.specs.Words.{block_of}
 use Rattle.machine.specs.Machine.{Machine, cpu_at, no_cpu}
 use Rattle.machine.specs.Encode.{encode, decode}
-use Rattle.model.specs.Schedule.{switch}
 use Rattle.model.proofs.Cases.{by_test, never}
 use Rattle.model_local.specs.Names.{names, is_named}
 use Rattle.model_local.proofs.Named.{within_named}

@@ -6,7 +6,6 @@ use Rattle.machine.specs.Encode.{encode, decode}
 use Rattle.machine.specs.Outcome.{Outcome}
 use Rattle.model.specs.Schedule.{switch}
 use Rattle.model_local.specs.Local.{SameAnswer}
-use Rattle.model_local.specs.Apart as apart
 use Rattle.model_local.proofs.Either as machines
 use Rattle.call_order.specs.Order.{image_of, EitherOrder}
 use Rattle.call_order.proofs.Switched.{answer_of, switched}

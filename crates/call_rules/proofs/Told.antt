@@ -14,14 +14,14 @@ use Rattle.machine.specs.Outcome.{Outcome, finished}
 use Rattle.machine.specs.Encode.{decode}
 use Rattle.machine.specs.LookUp.{get_percpu_block}
 use Rattle.admission.proofs.Soundness.{sound}
-use Rattle.model.specs.Accepted.{Call, by_tick, by_switch, by_direct_switch, outcome, decides}
+use Rattle.model.specs.Accepted.{Call, by_tick, by_switch, by_direct_switch, outcome}
 use Rattle.model_rules.specs.Met.{RuleMet}
 use Rattle.model_rules.specs.ByScan.{ScanCondition}
 use Rattle.model_rules.specs.InDemand3.{TidyCondition}
 use Rattle.model_rules.proofs.Called.{undecided_rule, rule_by_scan}
 use Rattle.model_rules.proofs.InDemand3.{rule_met}
 use Rattle.context_ops.specs.Named.{named}
-use Rattle.context_ops.specs.Operations.{unblock_context, drain_ipi_context_wakeups, block_with, block, hard_block}
+use Rattle.context_ops.specs.Operations.{drain_ipi_context_wakeups, block_with, block, hard_block}
 use Rattle.context_ops.specs.Reply.{Reply, reply}
 use Rattle.model.proofs.Lists.{fold_keeps}
 use Rattle.group_ops.specs.Group.{names_refusal, also_unblock, unblock_each, group_on, unblock_group}

@@ -1,10 +1,8 @@
 -- The ticks that are summed are those that the holder was charged for and V gained by. Assumes nothing.
-use Rattle.std.specs.Prelude.{if◌then◌else◌}
 use mathlib.Core.Path.{◌≡◌, refl, sym, ap, ◌∙◌, subst}
-use mathlib.Core.Bool.{true, ◌&&◌}
+use mathlib.Core.Bool.{true}
 use mathlib.Core.List.{List}
 use Prim.Native.Nat.{ℕ}
-use lib.Dec.{eqb}
 use borrow.Author.Tests.{eq-eqb}
 use Rattle.ticks.specs.declared.Spent.{Spent}
 use Rattle.answer.specs.declared.Answer.{Answer}

@@ -1,12 +1,10 @@
 -- Over any calls on images, each finding the remainder that the one before it left, no part of a tick is lost.
-use Rattle.std.specs.Prelude.{if◌then◌else◌}
 use mathlib.Core.Path.{◌≡◌, refl, sym, ap, ◌∙◌, subst}
-use mathlib.Core.Bool.{Bool, true, false, ◌&&◌}
 use mathlib.Core.List.{List, [], ◌∷◌}
 use Prim.Native.Nat.{ℕ, ◌+◌, ◌*◌, ◌<◌}
 use native.Mathlib.Omega.{arith}
 use lib.Dec.{eqb}
-use lib.ListN.{length, get_or}
+use lib.ListN.{get_or}
 use borrow.Author.Tests.{eqb-true, eqb-false}
 use Rattle.columns.proofs.Tests.{by_test}
 use Rattle.cpu_set.specs.Members.{members}
@@ -25,7 +23,6 @@ use Rattle.image.specs.Refusal.{size_c, size_n}
 use Rattle.model.specs.Accepted.{Call, by_tick, by_switch, by_direct_switch, outcome}
 use Rattle.model.proofs.CpuQueues.{present_in_range}
 use Rattle.context_ops.specs.Reply.{Reply, reply}
-use Rattle.group_ops.specs.Group.{unblock_each}
 use Rattle.model_weights.proofs.Untouched.{Untouched}
 use Rattle.model_weights.proofs.Operations.{block_untouched, drain_untouched, unblock_untouched, group_untouched}
 use Rattle.model_ticks.specs.Turns.{no_turn, turn_ended}
@@ -37,7 +34,7 @@ use Rattle.call_weights.specs.Kept.{ImageCall, operation_call, group_call, reply
 use Rattle.call_weights.proofs.Came.{Came}
 use Rattle.call_weights.proofs.Runs as calls
 use Rattle.call_ticks.proofs.Refused.{refused_keeps}
-use Rattle.call_ticks.specs.Sums.{turn_by, turn_of_call, carried, Made, image_left, Carries, ticks_given, time_taken, Conserved, in_turn}
+use Rattle.call_ticks.specs.Sums.{turn_by, turn_of_call, carried, image_left, Carries, ticks_given, time_taken, Conserved, in_turn}
 
 module _ (k : ℕ) (m m' : List ℕ) where
   -- what one call gives and takes

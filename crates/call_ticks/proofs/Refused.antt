@@ -1,7 +1,6 @@
 -- A refused call keeps every word of the image, whatever its operation. Assumes nothing.
-use Rattle.std.specs.Prelude.{if◌then◌else◌, None, Option, Some, Err, Ok, Result}
+use Rattle.std.specs.Prelude.{None, Option, Some, Err, Ok, Result}
 use mathlib.Core.Path.{◌≡◌, refl}
-use mathlib.Core.Bool.{Bool}
 use mathlib.Core.List.{List}
 use Prim.Native.Nat.{ℕ}
 use lib.Dec.{eqb}
@@ -12,9 +11,9 @@ use Rattle.machine.specs.Outcome.{Outcome}
 use Rattle.model.specs.Accepted.{Call, by_tick, by_switch, by_direct_switch, outcome}
 use Rattle.model.proofs.Cases.{pick}
 use Rattle.context_ops.specs.Named.{named}
-use Rattle.context_ops.specs.Reply.{Reply, refuse, replied, reply_to, reply_on}
-use Rattle.switch_ops.specs.Reply.{refusal, decide_on, decide_by, decide, direct_switch_by, direct_switch}
-use Rattle.calls.specs.Call.{check, checked_by, checked, call}
+use Rattle.context_ops.specs.Reply.{Reply, replied, reply_to, reply_on}
+use Rattle.switch_ops.specs.Reply.{refusal, decide_on, decide_by, direct_switch_by}
+use Rattle.calls.specs.Call.{check, checked_by, call}
 use Rattle.ronthuyal.proofs.Least.{refused_group}
 use Rattle.call_weights.specs.Kept.{ImageCall, operation_call, group_call, reply_of}
 

@@ -1,7 +1,7 @@
 -- From the reply of an accepted call to the machine that its image stands for. Assumes nothing.
 use Rattle.std.specs.Prelude.{if◌then◌else◌, None, Option, Some}
-use mathlib.Core.Path.{◌≡◌, refl, sym, ap, ◌∙◌, subst}
-use mathlib.Core.Bool.{Bool, true, false}
+use mathlib.Core.Path.{◌≡◌, refl, ap, ◌∙◌, subst}
+use mathlib.Core.Bool.{true, false}
 use mathlib.Core.List.{List}
 use Prim.Native.Nat.{ℕ, ◌<◌}
 use native.Mathlib.Omega.{arith}
@@ -9,8 +9,6 @@ use lib.Dec.{eqb}
 use borrow.Author.Tests.{eqb-false, ne_eqb}
 use Rattle.columns.proofs.Tests.{by_test}
 use Rattle.cpu_set.specs.Members.{members}
-use Rattle.context.specs.declared.Status.{Status}
-use Rattle.context.specs.declared.Status.TheVariants.{Blocked, Stopped}
 use Rattle.answer.specs.declared.Answer.{Answer}
 use Rattle.machine.specs.Machine.{Machine, context_at, cpu_at}
 use Rattle.machine.specs.Encode.{encode, decode}
@@ -20,20 +18,18 @@ use Rattle.machine.proofs.Decoded.{decode_encode}
 use Rattle.machine.proofs.LookUps.{IsPresent, live, present}
 use Rattle.image.specs.Refusal.{size_c, size_n, image_refusal}
 use Rattle.image.proofs.Admitted as admitted
-use Rattle.model.specs.Accepted.{Call, by_tick, by_switch, by_direct_switch, outcome}
+use Rattle.model.specs.Accepted.{Call, by_direct_switch, outcome}
 use Rattle.model_leaves.proofs.WellFormed.{LiveName, WellFormed}
 use Rattle.model_leaves.proofs.Deciding.{TargetFormed, decision_leaves}
-use Rattle.model_leaves.proofs.Operations.{unblock_leaves, drain_leaves, block_leaves}
+use Rattle.model_leaves.proofs.Operations.{drain_leaves}
 use Rattle.model_leaves.proofs.Decoding.{well_formed}
-use Rattle.context_ops.specs.Named.{named, named_on, named_context}
-use Rattle.context_ops.specs.Operations.{unblock_context, drain_ipi_context_wakeups, block_with, block, hard_block}
-use Rattle.context_ops.specs.Reply.{Reply, reply, refuse, replied, reply_to, reply_on}
-use Rattle.group_ops.specs.Group.{unblock_each, group_on, unblock_group}
-use Rattle.switch_ops.specs.Reply.{refusal, decide_on, decide_by, decide, direct_switch_by, direct_switch}
-use Rattle.calls.specs.Call.{checked, unblock_context_call, drain_ipi_context_wakeups_call, block_call, hard_block_call, unblock_group_call}
+use Rattle.context_ops.specs.Named.{named_on, named_context}
+use Rattle.context_ops.specs.Operations.{drain_ipi_context_wakeups}
+use Rattle.context_ops.specs.Reply.{reply, refuse, replied, reply_to, reply_on}
+use Rattle.group_ops.specs.Group.{unblock_each, group_on}
+use Rattle.switch_ops.specs.Reply.{refusal, decide_on, decide_by, direct_switch_by}
 use Rattle.calls.proofs.Accepts.{refused_not}
-use Rattle.ronthuyal.proofs.Leaving.{StandsFor, after, here, is_present, live_name}
-use Rattle.ronthuyal.proofs.Left.{through}
+use Rattle.ronthuyal.proofs.Leaving.{after, here, is_present, live_name}
 use Rattle.ronthuyal.proofs.Reached.{short}
 use Rattle.ronthuyal.proofs.OneByOne.{Alike, accepted, crowded, refused, group_alike}
 

@@ -1,6 +1,6 @@
 -- A decision on an image keeps the equality, and accepted calls on images keep it with all that it needs.
 use Rattle.std.specs.Prelude.{if◌then◌else◌, Err, Ok, Result}
-use mathlib.Core.Path.{◌≡◌, refl, sym, ap, ◌∙◌, subst}
+use mathlib.Core.Path.{◌≡◌, refl, sym, subst}
 use mathlib.Core.Bool.{Bool, true, false}
 use mathlib.Core.List.{List, [], ◌∷◌}
 use Prim.Native.Nat.{ℕ}
@@ -22,20 +22,20 @@ use Rattle.model_leaves.proofs.Decoding.{well_formed}
 use Rattle.model_leaves.proofs.Operations.{unblock_leaves, block_leaves}
 use Rattle.context_ops.specs.Named.{named}
 use Rattle.context_ops.specs.Operations.{unblock_context, drain_ipi_context_wakeups, block, hard_block}
-use Rattle.context_ops.specs.Reply.{Reply, reply, refuse}
+use Rattle.context_ops.specs.Reply.{Reply, reply}
 use Rattle.group_ops.specs.Group.{unblock_each, unblock_group}
 use Rattle.model_weights.specs.Weighed.{Weighed, Agree}
 use Rattle.model_weights.specs.Runs.{Steady}
 use Rattle.model_weights.proofs.Decision.{decides_agree}
 use Rattle.model_weights.proofs.Steadiness.{untouched_steady, call_steady}
 use Rattle.model_weights.proofs.Operations.{block_untouched, drain_untouched, unblock_untouched, group_untouched}
-use Rattle.calls.specs.Call.{check, checked_by, tick_call, switch_call, direct_switch_to_call, unblock_context_call, drain_ipi_context_wakeups_call, block_call, hard_block_call, unblock_group_call, no_operation_call, call}
+use Rattle.calls.specs.Call.{check, checked_by, tick_call, switch_call, direct_switch_to_call, unblock_context_call, drain_ipi_context_wakeups_call, block_call, hard_block_call, unblock_group_call, call}
 use Rattle.ronthuyal.specs.Demand.{StandsFor}
 use Rattle.calls.proofs.Accepts.{refused_not}
 use Rattle.ronthuyal.proofs.Demanded.{stands_tick, stands_switch, stands_direct, stands_none}
 use Rattle.calls.proofs.Called.{is_refused, call_none}
 use Rattle.ronthuyal.proofs.Left.{through}
-use Rattle.call_weights.specs.Kept.{WeightKept, ImageCall, operation_call, group_call, reply_of, Inside, AcceptedRun, image_after}
+use Rattle.call_weights.specs.Kept.{WeightKept, ImageCall, operation_call, group_call, AcceptedRun, image_after}
 use Rattle.call_weights.proofs.Came.{Came, by, to, drained, called, grouped}
 
 module _ (a : Answer) (m m' : List ℕ) (cpu time context : ℕ) (z : a.refusal ≡ 0) where

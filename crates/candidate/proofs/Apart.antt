@@ -1,12 +1,11 @@
 -- A context that is on no CPU, from what the code's tests said. Assumes nothing.
 use Rattle.context_ops.proofs.Resolved.{first_found, second_found}
-use Rattle.std.specs.Prelude.{None, Option, Some, Err, Ok, Result}
-use mathlib.Core.Path.{◌≡◌, refl, sym, ap, ◌∙◌, subst}
-use mathlib.Core.Bool.{Bool, true, false, not}
+use Rattle.std.specs.Prelude.{None, Option, Some, ok_or, Err, Ok, Result}
+use mathlib.Core.Path.{◌≡◌, refl, sym, ap, ◌∙◌}
+use mathlib.Core.Bool.{Bool, true, false}
 use mathlib.Core.List.{List}
 use Prim.Native.Nat.{ℕ, ◌+◌, ◌-◌, ◌<◌, ◌≤◌}
 use native.Mathlib.Omega.{arith}
-use lib.Dec.{eqb}
 use lib.ListN.{length, get_or, take, drop}
 use borrow.Author.Tests.{eq-eqb, ne_eqb}
 use Rattle.columns.specs.Common.{every, mark}
@@ -21,6 +20,8 @@ use Rattle.machine.specs.Shape.{Image, Fits}
 use Rattle.machine.specs.LookUp.{look_up, get_percpu_block}
 use Rattle.machine.proofs.LookUps.{IsLive, live, IsPresent, present, block_word, present_word}
 use Rattle.machine.proofs.Places.{lent_is}
+use Rattle.refusal.specs.declared.Refusal.{Refusal}
+use Rattle.refusal.specs.declared.Refusal.TheVariants.{Name}
 use Rattle.candidate.specs.Candidate.{not_on, on_none, candidate, candidate_on, candidate_context}
 use Rattle.candidate.specs.Words.{no_word_queued}
 use Rattle.candidate.proofs.Reading.{counted, queue_is}
@@ -109,6 +110,15 @@ module _ (M : Machine) (cpu context : ℕ) (p : Option ℕ) (hp : p ≡ get_perc
       pub on_context : r ≡ false → Err 5 ≡ candidate M cpu context
       unfolding candidate candidate_on candidate_context
       on_context t = rw (← hp, ek, ← hl, ex, ap (on_none M) same ∙ sym hr ∙ t)
+
+-- what a look-up gave, from the result in its place
+pub missed : (o : Option ℕ) (r : Refusal) → ok_or o Name ≡ Err r → (o ≡ None) × (r ≡ Name)
+missed None r e = (refl, cc)
+missed (Some x) r e = cc
+
+pub met : (o : Option ℕ) (x : ℕ) → ok_or o Name ≡ Ok x → o ≡ Some x
+met None x e = cc
+met (Some y) x e = cc
 
 -- what `Found` says
 pub record IsCandidate (M : Machine) (cpu context k x : ℕ) : Type 0 where

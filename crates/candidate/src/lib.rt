@@ -1,5 +1,5 @@
 // A context that is on no CPU, for trials with it: refusal 5 where it is gone, queued or in charge.
-// In every function m is the image of a machine of c CPUs and n contexts.
+// In every function m is the image of a machine of c CPUs and n contexts (crate machine says why the three stay apart).
 #![tactic(auto)]
 
 ghost use Rattle.std.specs.Prelude.{◌≡◌, ◌<◌, ◌≤◌, length, get_or};
@@ -11,6 +11,7 @@ ghost use Rattle.candidate.specs.Candidate.{not_on, on_none, candidate};
 ghost use Rattle.candidate.specs.Words.{no_word_queued};
 ghost use Rattle.refusal.specs.Number.{numbered};
 
+use machine::CpuPlace;
 use percpu::places;
 use refusal::Refusal;
 
@@ -23,21 +24,14 @@ fn not_queued(b: &[u64], x: u64) -> bool
     !b[places::ENTRY_CONTEXT_REF..end].contains(&x)
 }
 
-// Context x is neither in charge of CPU k nor queued there.
-fn not_on(m: &[u64], c: usize, n: usize, k: usize, x: u64) -> bool
-    requires image { Image c n m.now }
-    requires k_lt_c { k < c }
-    ensures { (M : Machine) → m.now ≡ encode M → Fits c n M → result ≡ not_on x (cpu_at M k) }
+// Context x is neither in charge of the CPU nor queued there.
+fn not_on(m: &[u64], cpu: CpuPlace, x: u64) -> bool
+    requires image { Image cpu.c cpu.n m.now }
+    ensures { (M : Machine) → m.now ≡ encode M → Fits cpu.c cpu.n M → result ≡ not_on x (cpu_at M cpu.k) }
 {
-    let at = machine::cpu_place(n, k);
+    let at = cpu.start();
     let end = at + places::BLOCK_SIZE;
-    if m[at] == 0 {
-        return true;
-    }
-    if m[at + places::SCHED_CTXT] == x {
-        return false;
-    }
-    not_queued(&m[at..end], x)
+    m[at] == 0 || (m[at + places::SCHED_CTXT] != x && not_queued(&m[at..end], x))
 }
 
 fn on_none(m: &[u64], c: usize, n: usize, x: u64) -> bool
@@ -45,7 +39,7 @@ fn on_none(m: &[u64], c: usize, n: usize, x: u64) -> bool
     ensures { (M : Machine) → m.now ≡ encode M → Fits c n M → result ≡ on_none M x }
 {
     for k in 0..c {
-        if !not_on(m, c, n, k, x) {
+        if !not_on(m, CpuPlace { c, n, k }, x) {
             return false;
         }
     }
@@ -62,14 +56,8 @@ pub fn candidate(
     requires { Image c n m.now }
     ensures { (M : Machine) → m.now ≡ encode M → Fits c n M → numbered result ≡ candidate M cpu context }
 {
-    let p = machine::get_percpu_block(m, c, n, cpu);
-    let Some(k) = p else {
-        return Err(Refusal::Name);
-    };
-    let l = machine::look_up(m, c, n, context);
-    let Some(x) = l else {
-        return Err(Refusal::Name);
-    };
+    let k = machine::get_percpu_block(m, c, n, cpu).ok_or(Refusal::Name)?;
+    let x = machine::look_up(m, c, n, context).ok_or(Refusal::Name)?;
     if on_none(m, c, n, context) {
         return Ok((k, x));
     }

@@ -19,7 +19,6 @@ fn renew(mut c: Context) -> Context
     if c.rem_slice == 0 {
         c.vd = c.vtime + weights::slice_of(c.prio);
         c.rem_slice = weights::FULL_SLICE;
-        return c;
     }
     c
 }

@@ -1,5 +1,5 @@
 -- Lists made of blocks of one size, and a part of a list that is read or replaced.
-use Rattle.std.specs.Prelude.{◌≡◌, ℕ, zero, suc, ◌+◌, ◌-◌, ◌*◌, ◌<◌, ◌≤◌, take, drop}
+use Rattle.std.specs.Prelude.{◌≡◌, ℕ, suc, ◌+◌, ◌-◌, ◌*◌, ◌<◌, ◌≤◌, take, drop}
 use Rattle.std.proofs.Math.Path.{refl, sym, ap}
 use Rattle.std.proofs.Common.{◌∙◌, arith, mul-zero, mul-suc, length-append, length-take, length-drop, length-set, length-take-le, get_or-drop, get_or-take}
 use mathlib.Core.List.{List, [], ◌∷◌, ◌++◌, append_assoc}

@@ -1,6 +1,6 @@
 -- A run of stores from place 0 that covers a whole list leaves what is stored. Assumes nothing.
-use Rattle.std.specs.Prelude.{◌≡◌, refl, ℕ, ◌+◌, ◌≤◌, List, [], ◌∷◌, ◌++◌, length, take, drop}
-use Rattle.std.proofs.Common.{sym, ap, ◌∙◌, arith, append-nil, drop_of_length-le}
+use Rattle.std.specs.Prelude.{◌≡◌, ℕ, ◌+◌, List, length}
+use Rattle.std.proofs.Common.{◌∙◌, arith, append-nil, drop_of_length-le}
 use Rattle.std.proofs.lemmas.List.Edits.{sets, sets-eq}
 
 pub sets_all : (vs w : List ℕ) → length w ≡ length vs → sets w 0 vs ≡ vs

@@ -2,7 +2,7 @@
 use Rattle.std.specs.Prelude.{Bool, true, false, if◌then◌else◌}
 use Rattle.context.specs.declared.Context.{Context}
 use Rattle.context.specs.declared.Status.{Status}
-use Rattle.context.specs.declared.Status.TheVariants.{Runnable, Blocked}
+use Rattle.context.specs.declared.Status.TheVariants.{Runnable}
 use Rattle.context.specs.Status.{is_runnable, is_soft_blocked}
 use Rattle.context.specs.With.{with_status, with_has_wake, with_wake}
 

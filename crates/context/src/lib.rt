@@ -5,8 +5,7 @@ mod key;
 pub mod places;
 mod record;
 
-ghost use Rattle.std.specs.Prelude.{◌≡◌, Bool, true, false};
-ghost use Rattle.context.specs.With.{with_status};
+ghost use Rattle.std.specs.Prelude.{◌≡◌, false};
 ghost use Rattle.context.specs.Block.{changed, blocked_as, unblocked, without_wake};
 ghost use Rattle.context.specs.Status.{is_runnable, is_soft_blocked};
 
@@ -70,15 +69,8 @@ impl Status {
 }
 
 impl Context {
-    pub fn with_status(mut self, status: Status) -> Context
-        ensures { result ≡ with_status status self }
-    {
-        self.status = status;
-        self
-    }
-
-    // A runnable context gets the status. True if it did.
-    fn blocked_as(&mut self, status: Status) -> bool
+    // A runnable context gets the status: Blocked, or Stopped, the one reason of `hard_block` that document 01 takes. True if it did.
+    pub fn blocked_as(&mut self, status: Status) -> bool
         ensures { changed self.new result ≡ blocked_as status self.old }
     {
         let runs = self.status.is_runnable();
@@ -86,19 +78,6 @@ impl Context {
             self.status = status;
         }
         runs
-    }
-
-    pub fn block(&mut self) -> bool
-        ensures { changed self.new result ≡ blocked_as Status.Blocked self.old }
-    {
-        self.blocked_as(Status::Blocked)
-    }
-
-    // As Stopped, the one reason that document 01 takes.
-    pub fn hard_block(&mut self) -> bool
-        ensures { changed self.new result ≡ blocked_as Status.Stopped self.old }
-    {
-        self.blocked_as(Status::Stopped)
     }
 
     // Its wake stays. True if it was soft-blocked.

@@ -3,7 +3,7 @@ ghost use Rattle.std.specs.Prelude.{◌≡◌, ℕ, ◌<◌, ◌≤◌, length};
 ghost use Rattle.context.specs.Status.{status_number, status_of};
 ghost use Rattle.context.specs.Words.{context_words, context_of, record_size};
 
-use crate::{Context, Status};
+use crate::{Context, Status, places};
 
 impl From<Status> for u64 {
     ghost from_gives = { λ s x. x ≡ status_number s };
@@ -34,32 +34,32 @@ pub fn load_context(w: &[u64]) -> Context
     ensures { result ≡ context_of w.now }
 {
     Context {
-        gone: w[0] == 1,
-        debug_id: w[1],
-        status: w[2].into(),
-        running: w[3] == 1,
-        currently_scheduled: w[4] == 1,
-        cpu_id: w[5],
-        schedule_time: w[6],
-        switch_time: w[7],
-        active_cpu_time: w[8],
-        sched_cpu_time: w[9],
-        sched_affinity: w[10],
-        inside_syscall: w[11] == 1,
-        has_wake: w[12] == 1,
-        wake: w[13],
-        userspace: w[14] == 1,
-        being_sigkilled: w[15] == 1,
-        prio: w[16],
-        vtime: w[17],
-        vd: w[18],
-        rem_slice: w[19],
-        is_active: w[20] == 1,
-        has_queue_key: w[21] == 1,
-        queue_key_vd: w[22],
-        queue_key_rem_slice: w[23],
-        lock: w[24],
-        addr_space: w[25],
+        gone: w[places::GONE] == 1,
+        debug_id: w[places::DEBUG_ID],
+        status: w[places::STATUS].into(),
+        running: w[places::RUNNING] == 1,
+        currently_scheduled: w[places::CURRENTLY_SCHEDULED] == 1,
+        cpu_id: w[places::CPU_ID],
+        schedule_time: w[places::SCHEDULE_TIME],
+        switch_time: w[places::SWITCH_TIME],
+        active_cpu_time: w[places::ACTIVE_CPU_TIME],
+        sched_cpu_time: w[places::SCHED_CPU_TIME],
+        sched_affinity: w[places::SCHED_AFFINITY],
+        inside_syscall: w[places::INSIDE_SYSCALL] == 1,
+        has_wake: w[places::HAS_WAKE] == 1,
+        wake: w[places::WAKE],
+        userspace: w[places::USERSPACE] == 1,
+        being_sigkilled: w[places::BEING_SIGKILLED] == 1,
+        prio: w[places::PRIO],
+        vtime: w[places::VTIME],
+        vd: w[places::VD],
+        rem_slice: w[places::REM_SLICE],
+        is_active: w[places::IS_ACTIVE] == 1,
+        has_queue_key: w[places::HAS_QUEUE_KEY] == 1,
+        queue_key_vd: w[places::QUEUE_KEY_VD],
+        queue_key_rem_slice: w[places::QUEUE_KEY_REM_SLICE],
+        lock: w[places::LOCK],
+        addr_space: w[places::ADDR_SPACE],
     }
 }
 

@@ -1,10 +1,10 @@
 -- Operations 4 to 7, from what the code's calls and tests said. Assumes nothing.
-use Rattle.std.specs.Prelude.{if◌then◌else◌, None, Option, Some, Err, Ok, Result}
+use Rattle.std.specs.Prelude.{None, Option, Some, Err, Ok, Result}
 use mathlib.Core.Path.{◌≡◌, refl, sym, ap, ◌∙◌, subst}
-use mathlib.Core.Bool.{Bool, true, false}
-use Prim.Native.Nat.{ℕ, zero, suc, ◌+◌, ◌-◌, ◌*◌, ◌<◌, ◌≤◌}
+use mathlib.Core.Bool.{true, false}
+use Prim.Native.Nat.{ℕ, ◌+◌, ◌-◌, ◌<◌, ◌≤◌}
 use native.Mathlib.Omega.{arith}
-use mathlib.Core.List.{List, [], ◌∷◌, ◌++◌}
+use mathlib.Core.List.{List, [], ◌++◌}
 use lib.ListN.{length, get_or, set, take, drop, length-append}
 use borrow.Author.Tests.{lt-ltb, le-ltb}
 use borrow.Rule.Slice.PartMut.{put_mid}
@@ -14,7 +14,8 @@ use Rattle.percpu.specs.Layout.{cpu_words}
 use Rattle.machine.proofs.Places.{lent_is, back_is}
 use Rattle.context_ops.specs.Named.{named}
 use Rattle.context_ops.proofs.Resolved.{found}
-use Rattle.context_ops.proofs.Waking.{local_counted, ipi_counted}
+use Rattle.wakeup_lists.specs.declared.WakeupList.TheVariants.{Local, Ipi}
+use Rattle.context_ops.proofs.Waking.{counted}
 use lib.Seq.{get_or-set_same, set-get_or}
 use Rattle.columns.specs.Common.{mark}
 use Rattle.columns.proofs.Tests.{by_test}
@@ -31,7 +32,7 @@ use Rattle.answer.specs.declared.Answer.{Answer}
 use Rattle.machine.specs.Outcome.{Outcome, finished}
 use Rattle.context_ops.specs.Wakeup.{other_cpu, wakeup_on, wakeup_context}
 use Rattle.context_ops.specs.Operations.{unblock_context, drain_ipi_context_wakeups, block_with}
-use Rattle.context_ops.specs.Reply.{Reply, reply, replied, reply_to, reply_on}
+use Rattle.context_ops.specs.Reply.{reply, replied, reply_to, reply_on}
 use Rattle.percpu.specs.Places.{local_count, ipi_count, block_size}
 
 -- a record stored where it was
@@ -43,13 +44,13 @@ other_same : (k w x : ℕ) (q : Context) (M : Machine) → other_cpu k w (set_co
 unfolding other_cpu get_percpu_block cpu_at
 other_same k w x q M = refl
 
-pub woken_by : {a : Answer} {m' : List ℕ} {c n : ℕ} (m : List ℕ) (k x r : ℕ) (q : Context) (M : Machine) (p P : Option ℕ) → Fits c n M → x < n → p ≡ other_cpu k q.cpu_id M → p ≡ P
-    → reply a m' ≡ replied m (wakeup_on k x r (set_context x q M) P) → reply a m' ≡ replied m (wakeup_context k x r (set_context x q M))
+pub woken_by : {a : Answer} {m' : List ℕ} {c n : ℕ} (m : List ℕ) (k x r : ℕ) (q : Context) (M : Machine) (p : Option ℕ) → Fits c n M → x < n → p ≡ other_cpu k q.cpu_id M
+    → reply a m' ≡ replied m (wakeup_on k x r (set_context x q M) p) → reply a m' ≡ replied m (wakeup_context k x r (set_context x q M))
 unfolding wakeup_context
-woken_by m k x r q M p P o h e f g =
+woken_by m k x r q M p o h e g =
     let b : x < length M.contexts = omega (arith, o.contexts)
     in let s : context_at (set M.contexts x q) x ≡ q = get_or-set_same M.contexts x q no_context b
-    in g ∙ rw (s, other_same k q.cpu_id x q M, ← e, f)
+    in g ∙ rw (s, other_same k q.cpu_id x q M, ← e)
 
 -- blocking and unblocking keep a record's ranges
 pub fits_unblocked : {c : ℕ} (q : Context) → ContextFits c q → ContextFits c (unblocked q).context
@@ -116,7 +117,7 @@ module _ {c n : ℕ} (m : List ℕ) (k : ℕ) (h : k < c) (M : Machine) (e : m �
   both = (cpu_at M k).local_wakeup_list ++ (cpu_at M k).ipi_context_wakeup_list
 
   length_both : length both ≡ local + ipi
-  length_both = length-append (cpu_at M k).local_wakeup_list (cpu_at M k).ipi_context_wakeup_list ∙ rw (← local_counted m k h M e o, ← ipi_counted m k h M e o, ← p, ← hl, ← hi)
+  length_both = length-append (cpu_at M k).local_wakeup_list (cpu_at M k).ipi_context_wakeup_list ∙ rw (← counted m M e o Local k h, ← counted m M e o Ipi k h, ← p, ← hl, ← hi)
 
   pub drain_full : {a : Answer} → a ≡ record { refusal = 9; result = 0; interrupt = 0; rule = 0 } → 64 < local + ipi → reply a m ≡ replied m (drain_ipi_context_wakeups k M)
   unfolding replied drain_ipi_context_wakeups
@@ -134,7 +135,7 @@ module _ {c n : ℕ} (m : List ℕ) (k : ℕ) (h : k < c) (M : Machine) (e : m �
 -- the counts are small
 pub counts_small : {c n : ℕ} {m : List ℕ} (i : Image c n m) (k : ℕ) {at : ℕ} → at ≡ cpu_place n k → k < c → (get_or m (at + local_count) 0 ≤ 64) × (get_or m (at + ipi_count) 0 ≤ 64)
 counts_small {m = m} i k p h =
-    (rw (p, local_counted m k h i.M i.eq i.fits) (i.fits.cpu k h).local, rw (p, ipi_counted m k h i.M i.eq i.fits) (i.fits.cpu k h).ipi)
+    (rw (p, counted m i.M i.eq i.fits Local k h) (i.fits.cpu k h).local, rw (p, counted m i.M i.eq i.fits Ipi k h) (i.fits.cpu k h).ipi)
 
 -- the reply to a call, by whom it names
 pub refused_call : {a : Answer} (m : List ℕ) (f : ℕ → ℕ → Outcome) (r : ℕ) (w v : Result (ℕ × ℕ) ℕ) → w ≡ v → w ≡ Err r → a ≡ record { refusal = r; result = 0; interrupt = 0; rule = 0 } → reply a m ≡ reply_to m f v

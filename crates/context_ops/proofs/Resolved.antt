@@ -1,16 +1,16 @@
 -- The CPU and the context that a call names, from what the look-ups and tests said. Assumes nothing.
 use Rattle.std.specs.Prelude.{None, Option, Some, Err, Ok, Result}
 use mathlib.Core.Path.{◌≡◌, refl, sym, ap, ◌∙◌}
-use mathlib.Core.Bool.{Bool, true, false}
-use Prim.Native.Nat.{ℕ, ◌+◌, ◌*◌, ◌<◌, ◌≤◌}
+use mathlib.Core.Bool.{true}
+use Prim.Native.Nat.{ℕ, ◌+◌, ◌<◌}
 use native.Mathlib.Omega.{arith}
 use mathlib.Core.List.{List}
 use lib.Dec.{eqb}
-use lib.ListN.{length, get_or}
-use borrow.Author.Tests.{eq-eqb, ne_eqb, eqb-true}
+use lib.ListN.{get_or}
+use borrow.Author.Tests.{eq-eqb, ne_eqb}
 use Rattle.columns.proofs.Tests.{by_test}
 use Rattle.context.specs.Words.{context_words}
-use Rattle.machine.specs.Machine.{Machine, context_at, cpu_at}
+use Rattle.machine.specs.Machine.{Machine, context_at}
 use Rattle.machine.specs.Encode.{encode, context_place}
 use Rattle.machine.specs.Shape.{Image, Fits}
 use Rattle.machine.specs.LookUp.{look_up, get_percpu_block}

@@ -1,20 +1,21 @@
 -- Names put on wake-up lists of the image. Assumes nothing.
-use Rattle.std.specs.Prelude.{if◌then◌else◌, None, Option, Some}
+use Rattle.std.specs.Prelude.{None, Option, Some, IfSome, is_some}
 use mathlib.Core.Path.{◌≡◌, refl, sym, ap, ◌∙◌}
-use mathlib.Core.Bool.{Bool, true, false}
-use Prim.Native.Nat.{ℕ, zero, suc, ◌+◌, ◌-◌, ◌*◌, ◌<◌, ◌≤◌}
+use mathlib.Core.Bool.{Bool}
+use Prim.Native.Nat.{ℕ, ◌+◌, ◌-◌, ◌<◌, ◌≤◌}
 use native.Mathlib.Omega.{arith}
 use mathlib.Core.List.{List, [], ◌∷◌, ◌++◌}
-use lib.Dec.{leb, ltb, eqb}
-use lib.ListN.{length, get_or, set, take, drop, length-append, get_or-append}
+use lib.Dec.{ltb, eqb}
+use lib.ListN.{length, get_or, take, drop, length-append, get_or-append}
 use lib.Seq.{get_or-append-add}
 use borrow.Author.Tests.{le-leb, lt-leb, ltb-true, ltb-false, eq-eqb, ne_eqb}
-use Rattle.columns.specs.Blocks.{part, part_is}
+use Rattle.columns.specs.Common.{mark}
 use Rattle.columns.proofs.Tests.{by_test}
-use Rattle.columns.proofs.Tabulate.{part_get}
 use Rattle.context.specs.declared.Context.{Context}
 use Rattle.percpu.specs.Cpu.{Cpu}
-use Rattle.percpu.specs.With.{cpu_local_wakeup_list, cpu_ipi_context_wakeup_list}
+use Rattle.wakeup_lists.specs.declared.WakeupList.{WakeupList}
+use Rattle.wakeup_lists.specs.declared.WakeupList.TheVariants.{Local, Ipi}
+use Rattle.wakeup_lists.specs.Lists.{count_place, names, cpu_push}
 use Rattle.wakeup_lists.proofs.Pushed.{local_listed, ipi_listed}
 use Rattle.machine.specs.Machine.{Machine, cpu_at, set_context}
 use Rattle.machine.specs.Encode.{encode, cpu_place}
@@ -22,17 +23,13 @@ use Rattle.machine.specs.Shape.{CpuFits, Fits, Image, Went}
 use Rattle.machine.specs.LookUp.{get_percpu_block}
 use borrow.Rule.Slice.PartMut.{put_mid}
 use Rattle.percpu.specs.Layout.{cpu_words}
-use Rattle.machine.proofs.LookUps.{block_word, IsPresent, present}
+use Rattle.machine.proofs.LookUps.{block_word, present}
 use Rattle.machine.proofs.Places.{lent_is, back_is}
 use Rattle.machine.proofs.Steps.{stepped, fits_cpu}
 use Rattle.answer.specs.declared.Answer.{Answer}
-use Rattle.context_ops.specs.Wakeup.{other_cpu, push_local, push_ipi, wakeup_on}
-use Rattle.context_ops.specs.Reply.{Reply, reply, replied, refuse}
-use Rattle.percpu.specs.Places.{local_count, ipi_count, block_size}
-
--- a count that leaves room, as the code read it behind a place `at`
-pub room_at : (m : List ℕ) (j : ℕ) {at p : ℕ} → at ≡ p → get_or m (at + j) 0 < 64 → get_or m (p + j) 0 < 64
-room_at m j e h = rw e at h
+use Rattle.context_ops.specs.Wakeup.{other_cpu, push_local, push_ipi, push_on, list_for, wakeup_on}
+use Rattle.context_ops.specs.Reply.{reply, replied}
+use Rattle.percpu.specs.Places.{block_size}
 
 -- names stay names with one more
 pub names_more : (n : ℕ) (l : List ℕ) (x : ℕ) → x < n → ((i : ℕ) → i < length l → get_or l i 0 < n) → (i : ℕ) → i < length (l ++ (x ∷ [])) → get_or (l ++ (x ∷ [])) i 0 < n
@@ -46,8 +43,8 @@ names_more n l x h f i g =
 pub length_more : (l : List ℕ) (x : ℕ) → length l < 64 → length (l ++ (x ∷ [])) ≤ 64
 length_more l x h = rw (length-append) (omega arith)
 
-pub fits_local : (n x : ℕ) (p : Cpu) → x < n → length p.local_wakeup_list < 64 → CpuFits n p → CpuFits n (cpu_local_wakeup_list (p.local_wakeup_list ++ (x ∷ [])) p)
-fits_local n x p h g o =
+pub fits_pushed : (list : WakeupList) (n x : ℕ) (p : Cpu) → x < n → length (names list p) < 64 → CpuFits n p → CpuFits n (cpu_push list x p)
+fits_pushed Local n x p h g o =
     record {
       current = o.current;
       sched = o.sched;
@@ -64,9 +61,7 @@ fits_local n x p h g o =
       timers_rise = o.timers_rise;
       remainder = o.remainder;
     }
-
-pub fits_ipi : (n x : ℕ) (p : Cpu) → x < n → length p.ipi_context_wakeup_list < 64 → CpuFits n p → CpuFits n (cpu_ipi_context_wakeup_list (p.ipi_context_wakeup_list ++ (x ∷ [])) p)
-fits_ipi n x p h g o =
+fits_pushed Ipi n x p h g o =
     record {
       current = o.current;
       sched = o.sched;
@@ -84,35 +79,44 @@ fits_ipi n x p h g o =
       remainder = o.remainder;
     }
 
--- the counts in the image
-module _ {c n : ℕ} (m : List ℕ) (k : ℕ) (h : k < c) (M : Machine) (e : m ≡ encode M) (o : Fits c n M) where
-  pub local_counted : get_or m (cpu_place n k + local_count) 0 ≡ length (cpu_at M k).local_wakeup_list
-  local_counted = block_word m k M e o 23 h (omega arith) ∙ (local_listed (cpu_at M k)).count_is
+pub count_below : (list : WakeupList) → count_place list < block_size
+count_below Local = omega arith
+count_below Ipi = omega arith
 
-  pub ipi_counted : get_or m (cpu_place n k + ipi_count) 0 ≡ length (cpu_at M k).ipi_context_wakeup_list
-  ipi_counted = block_word m k M e o 24 h (omega arith) ∙ (ipi_listed (cpu_at M k)).count_is
+-- the CPU whose list is chosen
+pub list_below : {c : ℕ} (k : ℕ) (other : Option ℕ) → k < c → IfSome other (λ t. t < c) → (list_for k other).0 < c
+list_below k None h g = h
+list_below k (Some t) h g = g
+
+-- the count of the chosen list, as the code read it
+pub list_count : (n : ℕ) (m : List ℕ) (k : ℕ) (other : Option ℕ) {w : ℕ × WakeupList} {at count : ℕ} → w ≡ list_for k other → at ≡ cpu_place n w.0 → count ≡ count_place w.1
+    → get_or m (at + count) 0 ≡ get_or m (cpu_place n (list_for k other).0 + count_place (list_for k other).1) 0
+list_count n m k other e p q = rw (p, q) (ap (λ (v : ℕ × WakeupList). get_or m (cpu_place n v.0 + count_place v.1) 0) e)
+
+-- the counts in the image
+module _ {c n : ℕ} (m : List ℕ) (M : Machine) (e : m ≡ encode M) (o : Fits c n M) where
+  pub counted : (list : WakeupList) (k : ℕ) → k < c → get_or m (cpu_place n k + count_place list) 0 ≡ length (names list (cpu_at M k))
+  counted Local k h = block_word m k M e o 23 h (omega arith) ∙ (local_listed (cpu_at M k)).count_is
+  counted Ipi k h = block_word m k M e o 24 h (omega arith) ∙ (ipi_listed (cpu_at M k)).count_is
 
   -- a wake-up that finds no room, and one that is made
-  module _ (x r : ℕ) (q : Context) {at : ℕ} (p : at ≡ cpu_place n k) where
-    pub local_full : {a : Answer} → a ≡ record { refusal = 9; result = 0; interrupt = 0; rule = 0 } → 64 ≤ get_or m (at + local_count) 0
-        → reply a m ≡ replied m (wakeup_on k x r (set_context x q M) None)
+  module _ (k x r : ℕ) (q : Context) where
+    pub no_room : {a : Answer} (other : Option ℕ) → (list_for k other).0 < c → 64 ≤ get_or m (cpu_place n (list_for k other).0 + count_place (list_for k other).1) 0
+        → a ≡ record { refusal = 9; result = 0; interrupt = 0; rule = 0 } → reply a m ≡ replied m (wakeup_on k x r (set_context x q M) other)
     unfolding replied wakeup_on cpu_at
-    local_full z g = rw (le-leb 64 (length (cpu_at M k).local_wakeup_list) (rw (p, local_counted) at g)) (ap (λ (b : Answer). reply b m) z)
+    no_room None h g z = rw (le-leb 64 (length (cpu_at M k).local_wakeup_list) (rw (counted Local k h) at g)) (ap (λ (b : Answer). reply b m) z)
+    no_room (Some t) h g z = rw (le-leb 64 (length (cpu_at M t).ipi_context_wakeup_list) (rw (counted Ipi t h) at g)) (ap (λ (b : Answer). reply b m) z)
 
-    pub local_woken : {m' : List ℕ} → get_or m (at + local_count) 0 < 64 → m' ≡ encode (set_context x q (push_local k x M))
-        → reply (record { refusal = 0; result = r; interrupt = 0; rule = 0 }) m' ≡ replied m (wakeup_on k x r (set_context x q M) None)
-    unfolding replied wakeup_on cpu_at push_local
-    local_woken g z = rw (lt-leb 64 (length (cpu_at M k).local_wakeup_list) (rw (p, local_counted) at g)) (λ i. record { answer = record { refusal = 0; result = r; interrupt = 0; rule = 0 }; image = z i })
-
-    pub ipi_full : {a : Answer} (j : ℕ) → a ≡ record { refusal = 9; result = 0; interrupt = 0; rule = 0 } → 64 ≤ get_or m (at + ipi_count) 0
-        → reply a m ≡ replied m (wakeup_on j x r (set_context x q M) (Some k))
-    unfolding replied wakeup_on cpu_at
-    ipi_full j z g = rw (le-leb 64 (length (cpu_at M k).ipi_context_wakeup_list) (rw (p, ipi_counted) at g)) (ap (λ (b : Answer). reply b m) z)
-
-    pub ipi_woken : {m' : List ℕ} (j : ℕ) → get_or m (at + ipi_count) 0 < 64 → m' ≡ encode (set_context x q (push_ipi k x M))
-        → reply (record { refusal = 0; result = r; interrupt = 1; rule = 0 }) m' ≡ replied m (wakeup_on j x r (set_context x q M) (Some k))
-    unfolding replied wakeup_on cpu_at push_ipi
-    ipi_woken j g z = rw (lt-leb 64 (length (cpu_at M k).ipi_context_wakeup_list) (rw (p, ipi_counted) at g)) (λ i. record { answer = record { refusal = 0; result = r; interrupt = 1; rule = 0 }; image = z i })
+    pub woken : {m' : List ℕ} {w : ℕ × WakeupList} {b : Bool} (other : Option ℕ) → w ≡ list_for k other → b ≡ is_some other → (list_for k other).0 < c
+        → get_or m (cpu_place n (list_for k other).0 + count_place (list_for k other).1) 0 < 64 → m' ≡ encode (set_context x q (push_on w.1 w.0 x M))
+        → reply (record { refusal = 0; result = r; interrupt = mark b; rule = 0 }) m' ≡ replied m (wakeup_on k x r (set_context x q M) other)
+    unfolding replied wakeup_on cpu_at push_local push_ipi
+    woken None v f h g z =
+        let y = rw v at z
+        in rw (lt-leb 64 (length (cpu_at M k).local_wakeup_list) (rw (counted Local k h) at g), f) (λ i. record { answer = record { refusal = 0; result = r; interrupt = 0; rule = 0 }; image = y i })
+    woken (Some t) v f h g z =
+        let y = rw v at z
+        in rw (lt-leb 64 (length (cpu_at M t).ipi_context_wakeup_list) (rw (counted Ipi t h) at g), f) (λ i. record { answer = record { refusal = 0; result = r; interrupt = 1; rule = 0 }; image = y i })
 
 -- the block of CPU k lent, and a name pushed on one of its lists
 module _ {c n : ℕ} {m : List ℕ} (i : Image c n m) (k x name : ℕ) {at : ℕ} (p : at ≡ cpu_place n k) (l : List ℕ) (h : k < c) (b : x < n) (q : name ≡ x) where
@@ -122,25 +126,18 @@ module _ {c n : ℕ} {m : List ℕ} (i : Image c n m) (k x name : ℕ) {at : ℕ
   abbrev back : List ℕ
   back = put_mid at (at + block_size - at) m l
 
-  pub pushed_local : get_or m (cpu_place n k + local_count) 0 < 64
-      → ((p : Cpu) → lent ≡ cpu_words p → l ≡ cpu_words (cpu_local_wakeup_list (p.local_wakeup_list ++ (name ∷ [])) p))
-      → Went c n m back (push_local k x)
-  unfolding push_local
-  pushed_local g f =
+  pub pushed : (list : WakeupList) → get_or m (cpu_place n k + count_place list) 0 < 64 → ((p : Cpu) → lent ≡ cpu_words p → l ≡ cpu_words (cpu_push list name p)) → Went c n m back (push_on list k x)
+  unfolding push_local push_ipi
+  pushed Local g f =
       stepped i
       (λ M e o.
-      let r : length (cpu_at M k).local_wakeup_list < 64 = rw (local_counted m k h M e o) at g
-      in (back_is m k p h M e o _ l (rw q at (f (cpu_at M k) (lent_is m k p h M e o))), fits_cpu M k _ o (fits_local n x (cpu_at M k) b r (o.cpu k h)), refl))
-
-  pub pushed_ipi : get_or m (cpu_place n k + ipi_count) 0 < 64
-      → ((p : Cpu) → lent ≡ cpu_words p → l ≡ cpu_words (cpu_ipi_context_wakeup_list (p.ipi_context_wakeup_list ++ (name ∷ [])) p))
-      → Went c n m back (push_ipi k x)
-  unfolding push_ipi
-  pushed_ipi g f =
+      let r : length (cpu_at M k).local_wakeup_list < 64 = rw (counted m M e o Local k h) at g
+      in (back_is m k p h M e o _ l (rw q at (f (cpu_at M k) (lent_is m k p h M e o))), fits_cpu M k _ o (fits_pushed Local n x (cpu_at M k) b r (o.cpu k h)), refl))
+  pushed Ipi g f =
       stepped i
       (λ M e o.
-      let r : length (cpu_at M k).ipi_context_wakeup_list < 64 = rw (ipi_counted m k h M e o) at g
-      in (back_is m k p h M e o _ l (rw q at (f (cpu_at M k) (lent_is m k p h M e o))), fits_cpu M k _ o (fits_ipi n x (cpu_at M k) b r (o.cpu k h)), refl))
+      let r : length (cpu_at M k).ipi_context_wakeup_list < 64 = rw (counted m M e o Ipi k h) at g
+      in (back_is m k p h M e o _ l (rw q at (f (cpu_at M k) (lent_is m k p h M e o))), fits_cpu M k _ o (fits_pushed Ipi n x (cpu_at M k) b r (o.cpu k h)), refl))
 
 -- the other CPU, as the code finds it; i is its number
 module _ (k w : ℕ) (M : Machine) where
@@ -156,6 +153,7 @@ module _ (k w : ℕ) (M : Machine) where
   unfolding other_cpu
   another_cpu i p z e q g = rw (ne_eqb w 0 z, ne_eqb (w - 1) k (λ y. q (e ∙ y))) g
 
+-- it is below the sizes
 other_below_by : {c n : ℕ} {m : List ℕ} (i : Image c n m) (k w t : ℕ) → Some t ≡ other_cpu k w i.M → t < c
 unfolding other_cpu
 other_below_by {c} i k w t e =
@@ -167,5 +165,6 @@ other_below_by {c} i k w t e =
     below : Some t ≡ get_percpu_block i.M (w - 1) → t < c
     below z = let p = present i.M (w - 1) t z in omega (arith, p.is, p.below, i.fits.cpus)
 
-pub other_below : {c n : ℕ} {m : List ℕ} (i : Image c n m) (k w t : ℕ) (p : Option ℕ) → ((M : Machine) → m ≡ encode M → Fits c n M → p ≡ other_cpu k w M) → p ≡ Some t → t < c
-other_below i k w t p f e = other_below_by i k w t (sym e ∙ f i.M i.eq i.fits)
+pub other_below : {c n : ℕ} {m : List ℕ} (i : Image c n m) (k w : ℕ) (p : Option ℕ) → ((M : Machine) → m ≡ encode M → Fits c n M → p ≡ other_cpu k w M) → IfSome p (λ t. t < c)
+other_below i k w None f = tt
+other_below i k w (Some t) f = other_below_by i k w t (f i.M i.eq i.fits)

@@ -1,5 +1,5 @@
 -- The CPU and the context that a call names: refusals 5 and 6, in the table's order. Assumes nothing.
-use Rattle.std.specs.Prelude.{Bool, true, false, ℕ, eqb, if◌then◌else◌, None, Option, Some, Err, Ok, Result}
+use Rattle.std.specs.Prelude.{ℕ, eqb, if◌then◌else◌, None, Option, Some, Err, Ok, Result}
 use Rattle.machine.specs.Machine.{Machine, context_at}
 use Rattle.machine.specs.LookUp.{look_up, get_percpu_block}
 

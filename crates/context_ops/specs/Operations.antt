@@ -1,5 +1,5 @@
 -- Operations 4 to 7: what each makes of a machine, called on CPU k. Assumes nothing.
-use Rattle.std.specs.Prelude.{Bool, true, false, ℕ, List, [], ◌∷◌, ◌++◌, ltb, length, if◌then◌else◌}
+use Rattle.std.specs.Prelude.{false, ℕ, [], ◌++◌, ltb, length, if◌then◌else◌}
 use Rattle.columns.specs.Common.{mark}
 use Rattle.context.specs.declared.Status.{Status}
 use Rattle.context.specs.declared.Status.TheVariants.{Blocked, Stopped}

@@ -1,7 +1,6 @@
 -- What a call answers, and the image it leaves. Assumes nothing.
-use Rattle.std.specs.Prelude.{Bool, true, false, ℕ, List, if◌then◌else◌, None, Option, Some, Err, Ok, Result}
+use Rattle.std.specs.Prelude.{ℕ, List, if◌then◌else◌, None, Option, Some, Err, Ok, Result}
 use Rattle.columns.specs.Common.{mark}
-use Rattle.machine.specs.Machine.{Machine}
 use Rattle.machine.specs.Encode.{encode}
 use Rattle.answer.specs.declared.Answer.{Answer}
 use Rattle.machine.specs.Outcome.{Outcome}

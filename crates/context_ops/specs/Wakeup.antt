@@ -1,6 +1,8 @@
 -- `wakeup_context`: a context's name goes on the list of its last CPU, or of this one. Assumes nothing.
-use Rattle.std.specs.Prelude.{Bool, true, false, ℕ, ◌-◌, leb, eqb, length, if◌then◌else◌, None, Option, Some}
+use Rattle.std.specs.Prelude.{true, false, ℕ, ◌-◌, leb, eqb, length, if◌then◌else◌, None, Option, Some}
 use Rattle.percpu.specs.Lists.{cpu_push_local, cpu_push_ipi}
+use Rattle.wakeup_lists.specs.declared.WakeupList.{WakeupList}
+use Rattle.wakeup_lists.specs.declared.WakeupList.TheVariants.{Local, Ipi}
 use Rattle.machine.specs.Machine.{Machine, context_at, cpu_at, set_cpu}
 use Rattle.machine.specs.LookUp.{get_percpu_block}
 use Rattle.machine.specs.Outcome.{Outcome}
@@ -19,6 +21,16 @@ push_local k x M =
 unfoldable pub push_ipi : (k x : ℕ) → Machine → Machine
 push_ipi k x M =
     set_cpu k (cpu_push_ipi x (cpu_at M k)) M
+
+-- on either list
+abbrev pub push_on : WakeupList → (k x : ℕ) → Machine → Machine
+push_on Local = push_local
+push_on Ipi = push_ipi
+
+-- the CPU and the list that a name goes on
+abbrev pub list_for : ℕ → Option ℕ → ℕ × WakeupList
+list_for k None = (k, Local)
+list_for k (Some t) = (t, Ipi)
 
 -- on another CPU's list it is a non-local wake-up, with the interrupt
 unfoldable pub wakeup_on : (k x result : ℕ) → Machine → Option ℕ → Outcome

@@ -1,5 +1,5 @@
 // The CPU and the context that a call names: refusals 5 and 6.
-ghost use Rattle.std.specs.Prelude.{◌≡◌, ℕ, ◌<◌};
+ghost use Rattle.std.specs.Prelude.{◌≡◌, ◌<◌};
 ghost use Rattle.machine.specs.Machine.{Machine};
 ghost use Rattle.machine.specs.Encode.{encode};
 ghost use Rattle.machine.specs.Shape.{Image, Fits};
@@ -19,12 +19,10 @@ pub fn resolve(
     requires { Image c n m.now }
     ensures { (M : Machine) → m.now ≡ encode M → Fits c n M → numbered result ≡ named M cpu context }
 {
-    let p = machine::get_percpu_block(m, c, n, cpu);
-    let Some(k) = p else {
+    let Some(k) = machine::get_percpu_block(m, c, n, cpu) else {
         return Err(Refusal::Name);
     };
-    let l = machine::look_up(m, c, n, context);
-    let Some(x) = l else {
+    let Some(x) = machine::look_up(m, c, n, context) else {
         return Err(Refusal::Name);
     };
     let at = machine::context_place(x) + context::places::LOCK;

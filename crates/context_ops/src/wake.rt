@@ -1,109 +1,82 @@
 // Waking a context: its name goes on a wake-up list.
-ghost use Rattle.std.specs.Prelude.{◌≡◌, List, [], ◌∷◌, ◌++◌, ℕ, ◌+◌, ◌*◌, ◌<◌, ◌≤◌, length, get_or, None, Some};
-ghost use Rattle.machine.specs.Machine.{Machine, cpu_at, set_context};
+ghost use Rattle.std.specs.Prelude.{◌≡◌, ◌+◌, ◌<◌, get_or, IfSome};
+ghost use Rattle.machine.specs.Machine.{Machine, set_context};
 ghost use Rattle.machine.specs.Encode.{encode, cpu_place};
 ghost use Rattle.machine.specs.Shape.{ContextFits, Image, Fits, Went};
-ghost use Rattle.context_ops.specs.Wakeup.{other_cpu, push_local, push_ipi, wakeup_on};
+ghost use Rattle.wakeup_lists.specs.Lists.{count_place};
+ghost use Rattle.context_ops.specs.Wakeup.{other_cpu, push_on, list_for, wakeup_on};
 ghost use Rattle.context_ops.specs.Reply.{reply, replied};
-ghost use Rattle.percpu.specs.Places.{local_count, ipi_count};
 
 use crate::Answer;
 use context::Context;
+use machine::CpuPlace;
 use percpu::places;
 use refusal::{Refusal, refused};
+use wakeup_lists::WakeupList;
 
 // The CPU of a record's CPU word, if it is another than k and present.
-pub fn other_cpu(m: &[u64], c: usize, n: usize, k: usize, cpu_id: u64) -> Option<usize>
-    requires { Image c n m.now }
-    ensures { (M : Machine) → m.now ≡ encode M → Fits c n M → result ≡ other_cpu k cpu_id M }
+pub fn other_cpu(m: &[u64], cpu: CpuPlace, cpu_id: u64) -> Option<usize>
+    requires { Image cpu.c cpu.n m.now }
+    ensures { (M : Machine) → m.now ≡ encode M → Fits cpu.c cpu.n M → result ≡ other_cpu cpu.k cpu_id M }
 {
     if cpu_id == 0 {
         return None;
     }
     let home = cpu_id - 1;
-    if numbers::index(home) == k {
+    if numbers::index(home) == cpu.k {
         return None;
     }
-    machine::get_percpu_block(m, c, n, home)
+    machine::get_percpu_block(m, cpu.c, cpu.n, home)
 }
 
-fn push_local(m: &mut [u64], c: usize, n: usize, k: usize, x: usize)
+// The name of context x on a list of CPU t, which has room.
+fn push(m: &mut [u64], c: usize, n: usize, t: usize, list: WakeupList, x: usize)
     requires image { Image c n m.old }
-    requires k_lt_c { (k < c) × (x < n) × (get_or m.old (cpu_place n k + local_count) 0 < 64) }
-    ensures { Went c n m.old m.new (push_local k x) }
+    requires t_lt_c { (t < c) × (x < n) × (get_or m.old (cpu_place n t + count_place list) 0 < 64) }
+    ensures { Went c n m.old m.new (push_on list t x) }
 {
-    let at = machine::cpu_place(n, k);
+    let at = machine::cpu_place(n, t);
     let end = at + places::BLOCK_SIZE;
     let name = numbers::word(x);
-    wakeup_lists::push_local(&mut m[at..end], name);
+    wakeup_lists::push(&mut m[at..end], list, name);
 }
 
-fn push_ipi(m: &mut [u64], c: usize, n: usize, k: usize, x: usize)
-    requires image { Image c n m.old }
-    requires k_lt_c { (k < c) × (x < n) × (get_or m.old (cpu_place n k + ipi_count) 0 < 64) }
-    ensures { Went c n m.old m.new (push_ipi k x) }
+// The CPU and the list that a name goes on: the interrupt list of another CPU, or k's local one.
+fn list_for(k: usize, other: Option<usize>) -> (usize, WakeupList)
+    ensures { result ≡ list_for k other }
 {
-    let at = machine::cpu_place(n, k);
-    let end = at + places::BLOCK_SIZE;
-    let name = numbers::word(x);
-    wakeup_lists::push_ipi(&mut m[at..end], name);
+    match other {
+        Some(t) => (t, WakeupList::Ipi),
+        None => (k, WakeupList::Local),
+    }
 }
 
-// The record q of context x stored, and its name on CPU k's local list.
-pub fn wake_local(
+// The record q of context x stored, and its name on the interrupt list of another CPU, or on this CPU's local list.
+pub fn wakeup_on(
     m: &mut [u64],
-    c: usize,
-    n: usize,
-    k: usize,
+    cpu: CpuPlace,
+    other: Option<usize>,
     x: usize,
     q: Context,
     res: u64,
 ) -> Answer
-    requires image { Image c n m.old }
-    requires k_lt_c { (k < c) × (x < n) }
-    requires context_fits { ContextFits c q }
-    ensures { (M : Machine) → m.old ≡ encode M → Fits c n M → reply result m.new ≡ replied m.old (wakeup_on k x res (set_context x q M) None) }
+    requires image { Image cpu.c cpu.n m.old }
+    requires bounded { x < cpu.n }
+    requires other { IfSome other (λ t. t < cpu.c) }
+    requires context_fits { ContextFits cpu.c q }
+    ensures { (M : Machine) → m.old ≡ encode M → Fits cpu.c cpu.n M → reply result m.new ≡ replied m.old (wakeup_on cpu.k x res (set_context x q M) other) }
 {
-    let at = machine::cpu_place(n, k) + places::LOCAL_COUNT;
+    let (t, list) = list_for(cpu.k, other);
+    let at = machine::cpu_place(cpu.n, t) + list.count();
     if 64 <= m[at] {
         return refused(Refusal::NoRoom);
     }
-    push_local(m, c, n, k, x);
-    machine::store(m, c, n, x, q);
+    push(m, cpu.c, cpu.n, t, list, x);
+    machine::store(m, cpu.c, cpu.n, x, q);
     Answer {
         refusal: 0,
         result: res,
-        interrupt: 0,
-        rule: 0,
-    }
-}
-
-// The same on the interrupt list of another CPU, t.
-pub fn wake_ipi(
-    m: &mut [u64],
-    c: usize,
-    n: usize,
-    k: usize,
-    t: usize,
-    x: usize,
-    q: Context,
-    res: u64,
-) -> Answer
-    requires image { Image c n m.old }
-    requires t_lt_c { (t < c) × (x < n) }
-    requires context_fits { ContextFits c q }
-    ensures { (M : Machine) → m.old ≡ encode M → Fits c n M → reply result m.new ≡ replied m.old (wakeup_on k x res (set_context x q M) (Some t)) }
-{
-    let at = machine::cpu_place(n, t) + places::IPI_COUNT;
-    if 64 <= m[at] {
-        return refused(Refusal::NoRoom);
-    }
-    push_ipi(m, c, n, t, x);
-    machine::store(m, c, n, x, q);
-    Answer {
-        refusal: 0,
-        result: res,
-        interrupt: 1,
+        interrupt: other.is_some() as u64,
         rule: 0,
     }
 }

@@ -60,8 +60,8 @@ fn hand_out(bytes: &mut [u8], image: &mut [u64], cpu: u64, time: u64, s: Slot) -
         return no_cue(woken.refusal);
     }
     let start = board::start_at(bytes, k, i);
-    let first_length = board::first_length_at(bytes, k, i);
-    let second_length = board::second_length_at(bytes, k, i);
+    let first_length = board::length_at(bytes, k, i, 0);
+    let second_length = board::length_at(bytes, k, i, 1);
     board::put_number(bytes, places::HANDED_OUT, numbers::word(i + 1));
     Handed {
         refusal: 0,

@@ -22,10 +22,7 @@ fn rows_fit(b: &[u8], k: usize, i: usize) -> bool
     requires i_lt_k { i < k }
     ensures { result ≡ rows_fit (cue_at k b.now i) }
 {
-    lengths_fit(
-        board::first_length_at(b, k, i),
-        board::second_length_at(b, k, i),
-    )
+    lengths_fit(board::length_at(b, k, i, 0), board::length_at(b, k, i, 1))
 }
 
 // A long row comes before an early start, wherever they are met: a start that is not later is kept in mind.

@@ -58,10 +58,7 @@ pub fn next_due(b: &[u8], time: u64) -> Result<Option<Slot>, Refusal>
 {
     let s = board::sizes_of(b)?;
     cue_line::check_stored(b, s.capacity, s.stored)?;
-    if s.stored <= s.handed_out {
-        return Ok(None);
-    }
-    if time < board::start_at(b, s.capacity, s.handed_out) {
+    if s.stored <= s.handed_out || time < board::start_at(b, s.capacity, s.handed_out) {
         return Ok(None);
     }
     Ok(Some(Slot {

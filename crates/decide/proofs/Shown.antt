@@ -13,7 +13,7 @@ use Rattle.calls.specs.Call.{call}
 use Rattle.calls.proofs.Accepts.{accepts}
 use Rattle.asked.specs.declared.Asked.{Asked}
 use Rattle.asked.specs.OfReply.{refused, BlockInside, asked_of}
-use Rattle.decide.specs.declared.input.Head.{Head}
+use Rattle.operations.specs.declared.arguments.Call.{Call}
 use Rattle.decide.specs.Input.{head_of, image_words, kept}
 use Rattle.decide.specs.Line.{call_line, line}
 
@@ -47,5 +47,5 @@ module _ (s : List ℕ) (over : ℕ) where
 pub first_words : (m : List ℕ) (n : ℕ) → n ≤ length m → length (take (n - 0) m) ≡ n
 first_words m n h = let e : n - 0 ≡ n = omega arith in rw e (length-take n m ∙ omega arith)
 
-pub line_of : {l : Asked} (m n : List ℕ) (h k : Head) → l ≡ call_line m h → m ≡ n → h ≡ k → l ≡ call_line n k
+pub line_of : {l : Asked} (m n : List ℕ) (h k : Call) → l ≡ call_line m h → m ≡ n → h ≡ k → l ≡ call_line n k
 line_of m n h k e f g = e ∙ ap (λ (v : List ℕ). call_line v h) f ∙ ap (call_line n) g

@@ -1,25 +1,16 @@
 -- The words of an input, 64 bits each, lowest byte first. Assumes nothing.
-use Rattle.std.specs.Prelude.{◌≡◌, ℕ, ◌+◌, ◌-◌, ◌*◌, ◌/◌, ◌%◌, ◌^◌, min, List, length, get_or, Option}
+use Rattle.std.specs.Prelude.{◌≡◌, ℕ, ◌+◌, ◌-◌, ◌*◌, ◌/◌, ◌%◌, min, List, length, Option}
 use Rattle.std.specs.Io.KnownBytes.{Consumes}
+use Rattle.le_bytes.specs.LeBytes.{from_le_bytes}
+use Rattle.columns.specs.Blocks.{part}
 use Rattle.columns.specs.Common.{tabulate}
-use Rattle.decide.specs.declared.input.Head.{Head}
+use Rattle.operations.specs.declared.arguments.Call.{Call}
 use Rattle.machine.specs.Encode.{max_image_size}
 
--- the greatest byte, and the greatest number of four bytes
-abbrev pub max_byte : ℕ
-max_byte = 255
+abbrev pub word_at : List ℕ → ℕ → ℕ
+word_at s i = from_le_bytes (part s (8 * i) 8)
 
-abbrev pub max_half : ℕ
-max_half = 2 ^ 32 - 1
-
--- four bytes from place i on
-unfoldable pub half_at : List ℕ → ℕ → ℕ
-half_at s i = get_or s i 0 + 256 * get_or s (i + 1) 0 + 65536 * get_or s (i + 2) 0 + 16777216 * get_or s (i + 3) 0
-
-unfoldable pub word_at : List ℕ → ℕ → ℕ
-word_at s i = half_at s (8 * i) + 4294967296 * half_at s (8 * i + 4)
-
-abbrev pub head_of : List ℕ → Head
+abbrev pub head_of : List ℕ → Call
 head_of s = record { operation = word_at s 0; cpu = word_at s 1; time = word_at s 2; context = word_at s 3 }
 
 -- the first n words of the image, which stands behind the first four words

@@ -4,12 +4,12 @@ use Rattle.image.specs.Refusal.{size_n}
 use Rattle.calls.specs.Call.{call}
 use Rattle.asked.specs.declared.Asked.{Asked}
 use Rattle.asked.specs.OfReply.{refused, asked_of}
-use Rattle.decide.specs.declared.input.Head.{Head}
+use Rattle.operations.specs.declared.arguments.Call.{Call}
 use Rattle.decide.specs.Input.{head_of, image_words, kept}
 
 -- the five numbers of the call
-abbrev pub call_line : List ℕ → Head → Asked
-call_line m h = asked_of (size_n m) h.cpu (call m h.operation h.cpu h.time h.context)
+abbrev pub call_line : List ℕ → Call → Asked
+call_line m q = asked_of (size_n m) q.cpu (call m q.operation q.cpu q.time q.context)
 
 -- s are the input's first bytes, at least as many as the longest image takes or all; over is how many follow, modulo 8
 unfoldable pub line : List ℕ → ℕ → Asked

@@ -2,38 +2,22 @@
 ghost use Rattle.std.specs.Prelude.{◌≡◌, ◌+◌, ◌*◌, ◌≤◌, length};
 ghost use Rattle.decide.specs.Input.{word_at, head_of, image_words, GivesOver};
 
+use operations::Call;
 use std::io::Read;
-
-#[derive(Clone, Copy)]
-pub struct Head {
-    pub operation: u64,
-    pub cpu: u64,
-    pub time: u64,
-    pub context: u64,
-}
 
 fn word(s: &[u8], i: usize) -> u64
     requires { 8 * i + 8 ≤ length s.now }
     ensures { result ≡ word_at s.now i }
 {
     let at = 8 * i;
-    u64::from_le_bytes([
-        s[at],
-        s[at + 1],
-        s[at + 2],
-        s[at + 3],
-        s[at + 4],
-        s[at + 5],
-        s[at + 6],
-        s[at + 7],
-    ])
+    le_bytes::from_le_bytes(&s[at..at + 8])
 }
 
-pub fn load_head(s: &[u8]) -> Head
+pub fn load_head(s: &[u8]) -> Call
     requires { 32 ≤ length s.now }
     ensures { result ≡ head_of s.now }
 {
-    Head {
+    Call {
         operation: word(s, 0),
         cpu: word(s, 1),
         time: word(s, 2),

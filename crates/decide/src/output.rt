@@ -5,15 +5,16 @@ ghost use Rattle.decide.specs.Line.{call_line, line};
 ghost use Rattle.machine.specs.Encode.{max_image_size};
 
 use crate::input;
-use crate::input::Head;
 use asked::Asked;
+use operations::Call;
+use refusal::Refusal;
 
-fn of_call(image: &mut [u64], h: Head) -> Asked
-    ensures { result ≡ call_line image.old h }
+fn of_call(image: &mut [u64], q: Call) -> Asked
+    ensures { result ≡ call_line image.old q }
 {
     let n = asked::contexts(image);
-    let a = ronthuyal::ronthuyal_call(image, h.operation, h.cpu, h.time, h.context);
-    asked::asked_of(image, n, h.cpu, a)
+    let a = ronthuyal::ronthuyal_call(image, q.operation, q.cpu, q.time, q.context);
+    asked::asked_of(image, n, q.cpu, a)
 }
 
 // The image is read into the words lent, all of them.
@@ -31,11 +32,8 @@ pub fn of_input(s: &[u8], over: usize, image: &mut [u64]) -> Asked
     ensures { result ≡ line s.now over }
 {
     let len = s.len();
-    if len < 32 {
-        return asked::refused(1);
-    }
-    if (len % 8 + over) % 8 != 0 {
-        return asked::refused(1);
+    if len < 32 || (len % 8 + over) % 8 != 0 {
+        return asked::refused(Refusal::Size.into());
     }
     let n = (len / 8 - 4).min(machine::MAX_IMAGE_SIZE + 1);
     of_words(s, &mut image[0..n])

@@ -2,7 +2,7 @@
 #![tactic(auto)]
 
 ghost use Rattle.std.specs.Prelude.{◌≡◌};
-ghost use Rattle.entries.specs.Order.{before, sooner, superseded};
+ghost use Rattle.entries.specs.Order.{before, sooner, superseded, timer_key};
 
 #[derive(Clone, Copy)]
 pub struct Key {
@@ -34,8 +34,21 @@ impl Key {
     }
 }
 
+// A timer as a key: with the wake twice, only the context decides between equal wakes.
+impl From<Timer> for Key {
+    ghost from_gives = { λ t k. k ≡ timer_key t };
+
+    fn from(t: Timer) -> Key {
+        Key {
+            vd: t.wake,
+            rem_slice: t.wake,
+            ctxt_id: t.context_ref,
+        }
+    }
+}
+
 impl Timer {
-    // By wake, then by context.
+    // By wake, then by context. No code calls it: timers are looked up as keys. Kept for the edits that turn it (a).
     pub fn sooner(self, other: Timer) -> bool
         ensures { result ≡ sooner self other }
     {

@@ -30,10 +30,10 @@ module _ (M : Machine) (cpu mask : ℕ) where
   unfolding names_refusal
   names_start rest e = ap (λ (y : ℕ). fold (next_name M cpu) 0 (members y)) e
 
-  pub names_next : (first rest x r first' rest' : ℕ) (who : Result (ℕ × ℕ) ℕ) → members rest ≡ x ∷ members rest' → who ≡ named M cpu x → r ≡ name_refusal who → first' ≡ first_check first r
+  pub names_next : (first rest x first' rest' : ℕ) (who : Result (ℕ × ℕ) ℕ) → members rest ≡ x ∷ members rest' → who ≡ named M cpu x → first' ≡ first_check first (name_refusal who)
       → Comes first rest → Comes first' rest'
-  names_next first rest x r first' rest' who s hw hr hf e =
-      let f : first' ≡ next_name M cpu first x = hf ∙ ap (first_check first) (hr ∙ ap name_refusal hw)
+  names_next first rest x first' rest' who s hw hf e =
+      let f : first' ≡ next_name M cpu first x = hf ∙ ap (λ (y : Result (ℕ × ℕ) ℕ). first_check first (name_refusal y)) hw
       in rw f (sym (ap (fold (next_name M cpu) first) s) ∙ e)
 
   pub names_end : (first rest : ℕ) → members rest ≡ [] → Comes first rest → first ≡ names_refusal M cpu (members mask)
@@ -45,9 +45,9 @@ module _ (a b : ℕ) where
   unfolding first_check
   first_none e = rw (eq-eqb a 0 e)
 
-  pub first_only : (a ≡ 0 → ⊥) → b ≡ 0 → a ≡ first_check a b
+  pub first_kept : b ≡ 0 → a ≡ first_check a b
   unfolding first_check
-  first_only e f = rw (ne_eqb a 0 e, eq-eqb b 0 f)
+  first_kept f = by_test (eqb a 0) (λ t. rw t (eqb-true a 0 t ∙ sym f)) (λ t. rw (t, eq-eqb b 0 f))
 
   pub first_less : (a ≡ 0 → ⊥) → (b ≡ 0 → ⊥) → a < b → a ≡ first_check a b
   unfolding first_check

@@ -1,30 +1,30 @@
 -- Where every wake-up list has room for all names of a set, the set is woken. Assumes nothing.
 use Rattle.std.specs.Prelude.{None, Option, Some}
-use mathlib.Core.Path.{◌≡◌, refl, sym, ap, ◌∙◌}
-use mathlib.Core.Bool.{Bool, true, false, ◌||◌}
-use mathlib.Core.List.{List, [], ◌∷◌, ◌++◌}
+use mathlib.Core.Path.{◌≡◌, refl, ◌∙◌}
+use mathlib.Core.Bool.{false}
+use mathlib.Core.List.{List, [], ◌∷◌}
 use Prim.Native.Nat.{ℕ, suc, ◌+◌, ◌<◌, ◌≤◌, max}
 use native.Mathlib.Omega.{arith}
-use lib.Dec.{leb, ltb}
+use lib.Dec.{ltb}
 use lib.ListN.{length, get_or, length-append}
 use borrow.Author.Tests.{lt-leb, ltb-true, ltb-false}
-use Rattle.columns.specs.Common.{fold, keep, tabulate}
+use Rattle.columns.specs.Common.{fold, tabulate}
 use Rattle.columns.proofs.Keep.{length_keep}
 use Rattle.columns.proofs.Tests.{by_test}
 use Rattle.columns.proofs.Tabulate.{get_d_past}
 use Rattle.cpu_set.specs.Set.{contains}
 use Rattle.cpu_set.specs.Members.{members}
-use Rattle.context.specs.Block.{unblocked}
 use Rattle.percpu.specs.Cpu.{Cpu}
 use Rattle.percpu.specs.Places.{local_count, ipi_count}
-use Rattle.machine.specs.Machine.{Machine, cpu_at, set_context, no_cpu}
+use Rattle.machine.specs.Machine.{Machine, cpu_at, no_cpu}
 use Rattle.machine.specs.Encode.{encode, cpu_place}
 use Rattle.machine.specs.Outcome.{Outcome}
 use Rattle.machine.specs.Shape.{Fits, Image}
 use Rattle.machine.proofs.Steps.{get_d_set}
 use Rattle.context_ops.specs.Wakeup.{push_local, push_ipi, wakeup_on, wakeup_context}
 use Rattle.context_ops.specs.Operations.{unblock_context}
-use Rattle.context_ops.proofs.Waking.{local_counted, ipi_counted}
+use Rattle.wakeup_lists.specs.declared.WakeupList.TheVariants.{Local, Ipi}
+use Rattle.context_ops.proofs.Waking.{counted}
 use Rattle.context_ops.proofs.Operated.{counts_small}
 use Rattle.numbers.specs.Limits.{word_range}
 use Rattle.group_ops.specs.Room.{HasRoom}
@@ -94,8 +94,8 @@ module _ {c n : ℕ} (m : List ℕ) (count : ℕ) (M : Machine) (e : m ≡ encod
     where
       here : u ≡ t → HasRoom count (cpu_at M u)
       here z =
-          let f = local_counted m t h M e o in
-          let g = ipi_counted m t h M e o in
+          let f = counted m M e o Local t h in
+          let g = counted m M e o Ipi t h in
           let v : most ≡ max (length (cpu_at M t).local_wakeup_list) (length (cpu_at M t).ipi_context_wakeup_list) = w ∙ rw (p, f, g) in
           rw z (record { local = omega arith; ipi = omega arith })
 

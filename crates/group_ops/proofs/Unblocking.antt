@@ -1,12 +1,11 @@
 -- Unblocking one context, and one context more. Assumes nothing.
-use Rattle.std.specs.Prelude.{if◌then◌else◌, None, Option, Some}
-use mathlib.Core.Path.{◌≡◌, refl, sym, ap, ◌∙◌}
+use Rattle.std.specs.Prelude.{None, Option, Some}
+use mathlib.Core.Path.{◌≡◌, refl}
 use mathlib.Core.Bool.{Bool, true, false, ◌||◌}
 use mathlib.Core.List.{List, [], ◌∷◌}
-use Prim.Native.Nat.{ℕ, ◌+◌, ◌-◌, ◌<◌, ◌≤◌, max}
+use Prim.Native.Nat.{ℕ, ◌-◌, ◌<◌, ◌≤◌, max}
 use native.Mathlib.Omega.{arith}
-use lib.Dec.{leb, eqb}
-use lib.ListN.{length}
+use lib.Dec.{eqb}
 use borrow.Author.Tests.{leb-false}
 use Rattle.columns.specs.Common.{mark, fold}
 use Rattle.columns.proofs.Tests.{by_test}
@@ -14,7 +13,6 @@ use Rattle.context.specs.declared.Context.{Context}
 use Rattle.context.specs.Status.{is_runnable}
 use Rattle.context.specs.Block.{unblocked}
 use Rattle.machine.specs.Machine.{Machine, context_at, cpu_at, set_context}
-use Rattle.machine.specs.Encode.{encode}
 use Rattle.machine.specs.LookUp.{get_percpu_block}
 use Rattle.machine.specs.Outcome.{Outcome}
 use Rattle.machine.specs.Shape.{Fits}
@@ -22,7 +20,8 @@ use Rattle.machine.proofs.LookUps.{present}
 use Rattle.machine.proofs.Steps.{fits_context, fits_cpu}
 use Rattle.context_ops.specs.Wakeup.{other_cpu, push_local, push_ipi, wakeup_on, wakeup_context}
 use Rattle.context_ops.specs.Operations.{unblock_context}
-use Rattle.context_ops.proofs.Waking.{fits_local, fits_ipi}
+use Rattle.wakeup_lists.specs.declared.WakeupList.TheVariants.{Local, Ipi}
+use Rattle.context_ops.proofs.Waking.{fits_pushed}
 use Rattle.context_ops.proofs.Operated.{fits_unblocked}
 use Rattle.group_ops.specs.Group.{also_unblock}
 
@@ -77,9 +76,9 @@ other_below {c} k w t M o e =
 
 woken_fits : {c n : ℕ} (k x r w : ℕ) (M : Machine) (p : Option ℕ) → Fits c n M → k < c → x < n → p ≡ other_cpu k w M → (wakeup_on k x r M p).no_room ≡ false → Fits c n (wakeup_on k x r M p).machine
 unfolding wakeup_on push_local push_ipi
-woken_fits {n = n} k x r w M None o h b e z = fits_cpu M k _ o (fits_local n x (cpu_at M k) b (leb-false 64 _ z) (o.cpu k h))
+woken_fits {n = n} k x r w M None o h b e z = fits_cpu M k _ o (fits_pushed Local n x (cpu_at M k) b (leb-false 64 _ z) (o.cpu k h))
 woken_fits {n = n} k x r w M (Some t) o h b e z =
-    fits_cpu M t _ o (fits_ipi n x (cpu_at M t) b (leb-false 64 _ z) (o.cpu t (other_below k w t M o e)))
+    fits_cpu M t _ o (fits_pushed Ipi n x (cpu_at M t) b (leb-false 64 _ z) (o.cpu t (other_below k w t M o e)))
 
 pub unblock_fits : {c n : ℕ} (k x : ℕ) (M : Machine) → Fits c n M → k < c → x < n → (unblock_context k x M).no_room ≡ false → Fits c n (unblock_context k x M).machine
 unfolding wakeup_context

@@ -1,5 +1,5 @@
 -- `unblock_group`: operation 4 for every context of a set, or for none. Assumes nothing.
-use Rattle.std.specs.Prelude.{◌≡◌, Bool, true, false, ◌||◌, List, ℕ, ◌+◌, ltb, eqb, if◌then◌else◌, None, Option, Some, Err, Ok, Result}
+use Rattle.std.specs.Prelude.{◌≡◌, true, false, ◌||◌, List, ℕ, ◌+◌, ltb, eqb, if◌then◌else◌, None, Option, Some, Err, Ok, Result}
 use Rattle.columns.specs.Common.{mark, fold}
 use Rattle.cpu_set.specs.Members.{members}
 use Rattle.answer.specs.declared.Answer.{Answer}

@@ -1,35 +1,20 @@
 -- The bounds after a call, from what the code has read. Assumes nothing.
 use mathlib.Core.Path.{◌≡◌, refl, ap, ◌∙◌}
-use mathlib.Core.Bool.{Bool, false}
-use Prim.Native.Nat.{ℕ, ◌-◌, ◌%◌, ◌<◌, ◌≤◌}
+use mathlib.Core.Bool.{Bool}
+use Prim.Native.Nat.{ℕ, ◌-◌, ◌<◌, ◌≤◌, min}
 use native.Mathlib.Omega.{arith}
-use lib.Dec.{eqb}
-use borrow.Author.Tests.{lt-ltb, le-ltb, le-leb, lt-leb, eq-eqb, ne_eqb}
+use lib.Dec.{ltb}
+use borrow.Author.Tests.{lt-ltb, le-ltb, le-leb, lt-leb, ltb-true, ltb-false}
+use Rattle.columns.proofs.Tests.{by_test}
 use Rattle.percpu.specs.declared.PercpuBlock.{PercpuBlock}
 use Rattle.machine.specs.Machine.{Machine, cpu_at}
 use Rattle.numbers.specs.Limits.{max_elapsed}
 use Rattle.growth.specs.declared.Bounds.{Bounds}
 use Rattle.growth.specs.Growth.{after_turn, capped, may_steal, call_bounds}
 
-pub capped_over : (e : ℕ) → max_elapsed < e → (max_elapsed ≡ capped e) × (max_elapsed ≤ max_elapsed)
-capped_over e h = (rw (lt-ltb max_elapsed e h) refl, omega arith)
-
-pub capped_in : (e : ℕ) → e ≤ max_elapsed → (e ≡ capped e) × (e ≤ max_elapsed)
-capped_in e h = (rw (le-ltb max_elapsed e h) refl, h)
-
--- the CPU's block, of c
-module _ (c : ℕ) (p : PercpuBlock) where
-  pub alone : c ≤ 1 → false ≡ may_steal c p
-  unfolding may_steal
-  alone h = rw (le-ltb 1 c h) refl
-
-  pub while_idle : 1 < c → p.sched_ctxt ≡ p.idle_ctxt → eqb (p.steal_counter % 2) 0 ≡ may_steal c p
-  unfolding may_steal
-  while_idle h e = rw (lt-ltb 1 c h, eq-eqb p.sched_ctxt p.idle_ctxt e) refl
-
-  pub while_busy : 1 < c → (p.sched_ctxt ≡ p.idle_ctxt → ⊥) → eqb (p.steal_counter % 16) 0 ≡ may_steal c p
-  unfolding may_steal
-  while_busy h e = rw (lt-ltb 1 c h, ne_eqb p.sched_ctxt p.idle_ctxt e) refl
+pub capped_is : (e : ℕ) {r : ℕ} → r ≡ min e max_elapsed → (r ≡ capped e) × (r ≤ max_elapsed)
+capped_is e h =
+    (h ∙ by_test (ltb max_elapsed e) (λ t. rw t (omega (arith, ltb-true max_elapsed e t))) (λ t. rw t (omega (arith, ltb-false max_elapsed e t))), omega (arith, h))
 
 module _ (c : ℕ) (M : Machine) (operation cpu time : ℕ) (b : Bounds) (k : ℕ) (is : k ≡ cpu) where
   pub no_such_cpu : c ≤ k → b ≡ call_bounds c M operation cpu time b

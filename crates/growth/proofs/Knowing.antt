@@ -39,7 +39,7 @@ use Rattle.growth.specs.declared.Bounds.{Bounds}
 use Rattle.growth.specs.Growth.{Within, AtMost, most_ticks, slices, after_theft, after_turn, InRange, may_steal, turn_bounds, call_bounds, Known}
 use Rattle.growth.proofs.Low.{slice_charge}
 use Rattle.growth.proofs.Stealing.{stolen_bound}
-use Rattle.growth.proofs.Deciding.{bounds, within_more}
+use Rattle.growth.proofs.Deciding.{within_more}
 use Rattle.growth.proofs.Turning.{decision_grows}
 use Rattle.growth.proofs.Operations.{block_within, drain_within, unblock_within}
 use Rattle.growth.proofs.Turns.{few_ticks, in_time, turn_told}

@@ -1,23 +1,15 @@
 -- Bounds that are in range, by their test. Assumes nothing.
 use mathlib.Core.Path.{◌≡◌, refl}
 use mathlib.Core.Bool.{Bool, true, false}
-use Prim.Native.Nat.{ℕ, ◌+◌, ◌*◌, ◌<◌, ◌≤◌}
+use Prim.Native.Nat.{ℕ, ◌+◌, ◌*◌, ◌≤◌}
 use native.Mathlib.Omega.{arith}
 use lib.Dec.{leb}
-use borrow.Author.Tests.{leb-true, le-leb, lt-leb}
+use borrow.Author.Tests.{leb-true}
 use Rattle.model.proofs.Cases.{and_both}
 use Rattle.stages.specs.Bounds.{slice_bound}
 use Rattle.numbers.specs.Limits.{max_number}
 use Rattle.growth.specs.declared.Bounds.{Bounds}
 use Rattle.growth.specs.Growth.{most_ticks, slices, after_theft, max_charged, after_turn, InRange, is_in_range}
-
-pub times_over : (b : Bounds) → max_number < b.times → false ≡ is_in_range b
-unfolding is_in_range
-times_over b h = rw (lt-leb b.times max_number h)
-
-pub times_in : (b : Bounds) → b.times ≤ max_number → leb b.virtual_times max_number ≡ is_in_range b
-unfolding is_in_range
-times_in b h = rw (le-leb b.times max_number h)
 
 pub in_range : (b : Bounds) → is_in_range b ≡ true → InRange b
 unfolding is_in_range

@@ -18,6 +18,8 @@ ghost use Rattle.growth.specs.Growth.{
   call_bounds,
 };
 
+use machine::CpuPlace;
+use operations::Call;
 use percpu::PercpuBlock;
 
 // The greatest of the times and counters, and of the virtual times and weights, or more.
@@ -35,6 +37,11 @@ pub const SLICES: u64 = 1 << 35;
 
 // what a theft adds besides, or more
 pub const SLICE_BOUND: u64 = 1 << 30;
+
+// a CPU may steal at every 16th value of its counter, while idle is in charge at every 2nd
+const STEAL_INTERVAL: u64 = 16;
+
+const IDLE_STEAL_INTERVAL: u64 = 2;
 
 // A stolen context's lag is carried over.
 fn after_theft(charged: u64, steals: bool) -> u64
@@ -61,60 +68,44 @@ pub fn after_turn(b: Bounds, time: u64, elapsed: u64, steals: bool) -> Bounds
     }
 }
 
+#[tactic(auto, unfolding(crate::specs::Growth::is_in_range))]
 pub fn is_in_range(b: Bounds) -> bool
     ensures { result ≡ is_in_range b }
 {
-    if numbers::MAX_NUMBER < b.times {
-        return false;
-    }
-    b.virtual_times <= numbers::MAX_NUMBER
+    b.times <= numbers::MAX_NUMBER && b.virtual_times <= numbers::MAX_NUMBER
 }
 
 fn capped(elapsed: u64) -> u64
     ensures { (result ≡ capped elapsed) × (result ≤ max_elapsed) }
 {
-    if numbers::MAX_ELAPSED < elapsed {
-        return numbers::MAX_ELAPSED;
-    }
-    elapsed
+    elapsed.min(numbers::MAX_ELAPSED)
 }
 
 // A decision on the CPU with this block, of c, may be on a stealing turn.
+#[tactic(auto, unfolding(crate::specs::Growth::may_steal))]
 fn may_steal(c: usize, p: PercpuBlock) -> bool
     ensures { result ≡ may_steal c p }
 {
-    if c <= 1 {
-        return false;
-    }
-    if p.sched_ctxt == p.idle_ctxt {
-        return p.steal_counter % 2 == 0;
-    }
-    p.steal_counter % 16 == 0
+    let interval = if p.sched_ctxt == p.idle_ctxt {
+        IDLE_STEAL_INTERVAL
+    } else {
+        STEAL_INTERVAL
+    };
+    1 < c && p.steal_counter % interval == 0
 }
 
-// After the operation of that number, on an image of c CPUs and n contexts.
-pub fn call_bounds(
-    m: &[u64],
-    c: usize,
-    n: usize,
-    operation: u64,
-    cpu: u64,
-    time: u64,
-    b: Bounds,
-) -> Bounds
+// After a call, on an image of c CPUs and n contexts.
+pub fn call_bounds(m: &[u64], c: usize, n: usize, q: Call, b: Bounds) -> Bounds
     requires image { Image c n m.now }
     requires in_range { InRange b }
-    requires time_le_max_number { time ≤ max_number }
-    ensures { (M : Machine) → m.now ≡ encode M → Fits c n M → result ≡ call_bounds c M operation cpu time b }
+    requires time_le_max_number { q.time ≤ max_number }
+    ensures { (M : Machine) → m.now ≡ encode M → Fits c n M → result ≡ call_bounds c M q.operation q.cpu q.time b }
 {
-    let k = numbers::index(cpu);
-    if c <= k {
+    let k = numbers::index(q.cpu);
+    if c <= k || 3 < q.operation {
         return b;
     }
-    if 3 < operation {
-        return b;
-    }
-    let p = stages::load_block(m, c, n, k);
-    let elapsed = capped(time.saturating_sub(p.schedule_time));
-    after_turn(b, time, elapsed, may_steal(c, p))
+    let p = stages::load_block(m, CpuPlace { c, n, k });
+    let elapsed = capped(q.time.saturating_sub(p.schedule_time));
+    after_turn(b, q.time, elapsed, may_steal(c, p))
 }

@@ -10,6 +10,7 @@ ghost use Rattle.stages.specs.Bounds.{t_timed, b_advanced};
 ghost use Rattle.model.specs.Handover.{hand_over};
 
 use context::Context;
+use machine::CpuPlace;
 use percpu::PercpuBlock;
 
 fn give_up(mut q: Context, time: u64, was_idle: bool) -> Context
@@ -33,25 +34,23 @@ fn take(mut q: Context, time: u64) -> Context
     q
 }
 
-fn take_over(m: &mut [u64], c: usize, n: usize, k: usize, time: u64, x: usize, mut b: PercpuBlock)
-    requires image { Image c n m.old }
-    requires k_lt_c { (k < c) × (x < n) }
-    requires block_fits { BlockFits n b }
-    ensures { Staged c n k m.old m.new false (λ (s : State). taken_over time x b s) }
+fn take_over(m: &mut [u64], cpu: CpuPlace, time: u64, x: usize, mut b: PercpuBlock)
+    requires image { Image cpu.c cpu.n m.old }
+    requires bounded { x < cpu.n }
+    requires block_fits { BlockFits cpu.n b }
+    ensures { Staged cpu.c cpu.n cpu.k m.old m.new false (λ (s : State). taken_over time x b s) }
 {
-    let q = machine::load(m, c, n, x);
+    let q = machine::load(m, cpu.c, cpu.n, x);
     let after = take(q, time);
-    stages::store_context(m, c, n, k, x, after);
+    stages::store_context(m, cpu, x, after);
     b.sched_ctxt = numbers::word(x);
-    stages::store_block(m, c, n, k, b);
+    stages::store_block(m, cpu, b);
 }
 
 // From y, whose record is q, to x.
 fn hand_from(
     m: &mut [u64],
-    c: usize,
-    n: usize,
-    k: usize,
+    cpu: CpuPlace,
     time: u64,
     was_idle: bool,
     x: usize,
@@ -59,27 +58,27 @@ fn hand_from(
     b: PercpuBlock,
     q: Context,
 )
-    requires image { Image c n m.old }
-    requires k_lt_c { (k < c) × (x < n) × (y < n) }
-    requires block_fits { BlockFits n b }
-    requires context_fits { ContextFits c q }
+    requires image { Image cpu.c cpu.n m.old }
+    requires bounded { (x < cpu.n) × (y < cpu.n) }
+    requires block_fits { BlockFits cpu.n b }
+    requires context_fits { ContextFits cpu.c q }
     requires sched_cpu_time_bound { (q.sched_cpu_time ≤ t_timed) × (time ≤ max_number) }
-    ensures { Staged c n k m.old m.new false (λ (s : State). handed_by time was_idle x y b q s) }
+    ensures { Staged cpu.c cpu.n cpu.k m.old m.new false (λ (s : State). handed_by time was_idle x y b q s) }
 {
     let after = give_up(q, time, was_idle);
-    stages::store_context(m, c, n, k, y, after);
-    take_over(m, c, n, k, time, x, b);
+    stages::store_context(m, cpu, y, after);
+    take_over(m, cpu, time, x, b);
 }
 
 // `was_idle`: the CPU's state was Idle before the decision.
-pub fn hand_over(m: &mut [u64], c: usize, n: usize, k: usize, time: u64, was_idle: bool, x: usize)
-    requires image { Image c n m.old }
-    requires k_lt_c { (k < c) × (x < n) × (time ≤ max_number) }
-    requires ranged { Ranged c n t_timed b_advanced m.old }
-    ensures { Staged c n k m.old m.new false (λ (s : State). hand_over time was_idle x s) }
+pub fn hand_over(m: &mut [u64], cpu: CpuPlace, time: u64, was_idle: bool, x: usize)
+    requires image { Image cpu.c cpu.n m.old }
+    requires bounded { (x < cpu.n) × (time ≤ max_number) }
+    requires ranged { Ranged cpu.c cpu.n t_timed b_advanced m.old }
+    ensures { Staged cpu.c cpu.n cpu.k m.old m.new false (λ (s : State). hand_over time was_idle x s) }
 {
-    let b = stages::load_block(m, c, n, k);
+    let b = stages::load_block(m, cpu);
     let y = numbers::index(b.sched_ctxt);
-    let q = machine::load(m, c, n, y);
-    hand_from(m, c, n, k, time, was_idle, x, y, b, q);
+    let q = machine::load(m, cpu.c, cpu.n, y);
+    hand_from(m, cpu, time, was_idle, x, y, b, q);
 }

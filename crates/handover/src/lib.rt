@@ -1,5 +1,5 @@
 // The end of `select_next_context`: virtual time advances, a runnable holder that lost goes back to the queue, and the slice changes hands.
-// In every function m is the image of a machine of c CPUs and n contexts, and k is the CPU.
+// In every function m is an image (crate machine says why it stays apart), and cpu the place in it of the CPU that decides.
 #![tactic(auto)]
 
 mod advancing;

@@ -10,6 +10,7 @@ ghost use Rattle.model.specs.Handover.{requeue};
 
 use context::Context;
 use entries::Entry;
+use machine::CpuPlace;
 use stages::NoRoom;
 
 fn entry_of(x: usize, q: Context) -> Entry
@@ -21,47 +22,36 @@ fn entry_of(x: usize, q: Context) -> Entry
     q.entry(name, weight)
 }
 
-fn take_out(m: &mut [u64], c: usize, n: usize, k: usize, q: Context)
-    requires image { Image c n m.old }
-    requires k_lt_c { k < c }
-    ensures { Staged c n k m.old m.new false (λ (s : State). taken_out_by q s) }
+fn take_out(m: &mut [u64], cpu: CpuPlace, q: Context)
+    requires image { Image cpu.c cpu.n m.old }
+    ensures { Staged cpu.c cpu.n cpu.k m.old m.new false (λ (s : State). taken_out_by q s) }
 {
     if q.has_queue_key {
-        let key = q.queue_key();
-        stages::remove_key(m, c, n, k, key);
-        return;
+        stages::remove_key(m, cpu, q.queue_key());
     }
 }
 
 // There may be no room in the queue.
-fn requeue_context(
-    m: &mut [u64],
-    c: usize,
-    n: usize,
-    k: usize,
-    x: usize,
-    q: Context,
-) -> Result<(), NoRoom>
-    requires image { Image c n m.old }
-    requires k_lt_c { (k < c) × (x < n) }
-    requires context_fits { ContextFits c q }
-    ensures { Staged c n k m.old m.new (is_err result) (λ (s : State). requeued_by x q s) }
+fn requeue_context(m: &mut [u64], cpu: CpuPlace, x: usize, q: Context) -> Result<(), NoRoom>
+    requires image { Image cpu.c cpu.n m.old }
+    requires bounded { x < cpu.n }
+    requires context_fits { ContextFits cpu.c q }
+    ensures { Staged cpu.c cpu.n cpu.k m.old m.new (is_err result) (λ (s : State). requeued_by x q s) }
 {
-    take_out(m, c, n, k, q);
+    take_out(m, cpu, q);
     let after = q.with_new_key();
-    stages::store_context(m, c, n, k, x, after);
+    stages::store_context(m, cpu, x, after);
     let e = entry_of(x, q);
-    stages::insert_entry(m, c, n, k, e)
+    stages::insert_entry(m, cpu, e)
 }
 
 // There may be no room in the queue.
-pub fn requeue(m: &mut [u64], c: usize, n: usize, k: usize) -> Result<(), NoRoom>
-    requires image { Image c n m.old }
-    requires k_lt_c { k < c }
-    ensures { Staged c n k m.old m.new (is_err result) (λ (s : State). requeue s) }
+pub fn requeue(m: &mut [u64], cpu: CpuPlace) -> Result<(), NoRoom>
+    requires image { Image cpu.c cpu.n m.old }
+    ensures { Staged cpu.c cpu.n cpu.k m.old m.new (is_err result) (λ (s : State). requeue s) }
 {
-    let b = stages::load_block(m, c, n, k);
+    let b = stages::load_block(m, cpu);
     let x = numbers::index(b.sched_ctxt);
-    let q = machine::load(m, c, n, x);
-    requeue_context(m, c, n, k, x, q)
+    let q = machine::load(m, cpu.c, cpu.n, x);
+    requeue_context(m, cpu, x, q)
 }

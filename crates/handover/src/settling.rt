@@ -7,22 +7,15 @@ ghost use Rattle.handover.specs.Handed.{sent_back_by, settled_by};
 ghost use Rattle.stages.specs.Bounds.{t_timed, b_stolen, max_gain};
 
 use crate::{advancing, requeuing};
+use machine::CpuPlace;
 use stages::NoRoom;
 
-fn send_back(
-    m: &mut [u64],
-    c: usize,
-    n: usize,
-    k: usize,
-    won: bool,
-    runs: bool,
-) -> Result<(), NoRoom>
-    requires image { Image c n m.old }
-    requires k_lt_c { k < c }
-    ensures { Staged c n k m.old m.new (is_err result) (λ (s : State). sent_back_by won runs s) }
+fn send_back(m: &mut [u64], cpu: CpuPlace, won: bool, runs: bool) -> Result<(), NoRoom>
+    requires image { Image cpu.c cpu.n m.old }
+    ensures { Staged cpu.c cpu.n cpu.k m.old m.new (is_err result) (λ (s : State). sent_back_by won runs s) }
 {
     if won && runs {
-        return requeuing::requeue(m, c, n, k);
+        return requeuing::requeue(m, cpu);
     }
     Ok(())
 }
@@ -30,21 +23,18 @@ fn send_back(
 // `won`: a context won; `runs`: the holder is runnable.
 pub fn settle(
     m: &mut [u64],
-    c: usize,
-    n: usize,
-    k: usize,
+    cpu: CpuPlace,
     elapsed_ticks: u64,
     won: bool,
     runs: bool,
 ) -> Result<(), NoRoom>
-    requires image { Image c n m.old }
-    requires k_lt_c { (k < c) × (elapsed_ticks ≤ max_gain) }
-    requires ranged { Ranged c n t_timed b_stolen m.old }
-    ensures { Staged c n k m.old m.new (is_err result) (λ (s : State). settled_by won runs elapsed_ticks s) }
+    requires image { Image cpu.c cpu.n m.old }
+    requires bounded { elapsed_ticks ≤ max_gain }
+    requires ranged { Ranged cpu.c cpu.n t_timed b_stolen m.old }
+    ensures { Staged cpu.c cpu.n cpu.k m.old m.new (is_err result) (λ (s : State). settled_by won runs elapsed_ticks s) }
 {
-    let somebody = numbers::either(won, runs);
-    advancing::advance(m, c, n, k, elapsed_ticks, somebody);
-    send_back(m, c, n, k, won, runs)?;
-    advancing::mark_stealable(m, c, n, k);
+    advancing::advance(m, cpu, elapsed_ticks, won || runs);
+    send_back(m, cpu, won, runs)?;
+    advancing::mark_stealable(m, cpu);
     Ok(())
 }

@@ -1,15 +1,15 @@
 -- Words that share a bound of all ones, taken together by `or`; and with them the ranges of a live record. Assumes nothing.
-use mathlib.Core.Path.{◌≡◌, refl, sym, ap, ◌∙◌}
-use mathlib.Core.Bool.{Bool, true, false, ◌&&◌}
+use mathlib.Core.Path.{◌≡◌, sym, ◌∙◌}
+use mathlib.Core.Bool.{true, ◌&&◌}
 use mathlib.Core.List.{List, [], ◌∷◌}
-use Prim.Native.Nat.{ℕ, zero, suc, ◌+◌, ◌^◌, ◌<◌, ◌≤◌}
+use Prim.Native.Nat.{ℕ, ◌^◌, ◌<◌, ◌≤◌}
 use native.Mathlib.Omega.{arith}
 use lib.Dec.{leb}
 use lib.ListN.{get_or}
-use lib.Bits.{bit_and, bit_or, or_add_and, and_le_l, and_le_r, or_lt}
-use borrow.Author.Tests.{leb-true, leb-false, le-leb, lt-leb}
+use lib.Bits.{bit_or, or_add_and, and_le_l, and_le_r, or_lt}
+use borrow.Author.Tests.{leb-true, le-leb}
 use Rattle.columns.specs.Common.{every, fold, All}
-use Rattle.columns.proofs.Tests.{by_test, and_both, every_at, clash}
+use Rattle.columns.proofs.Tests.{by_test, and_both, clash}
 use Rattle.image_ranges.specs.Ranges.{within, context_most, context_most_to}
 use Rattle.image_ranges.specs.Singles.{single_words}
 use Rattle.image_ranges.proofs.Checked.{within_at}
@@ -71,13 +71,3 @@ module _ (c : ℕ) (w : List ℕ) where
   within_is =
       by_test (within (context_most c) w record_size) (λ e. e ∙ sym (taken e))
       (λ e. by_test (leb marks 1 && (leb numbers max_number && single_words c w)) (λ f. clash (given f) e) (λ f. e ∙ sym f))
-
-  -- as the code goes through them
-  pub marks_out : 1 < marks → false ≡ within (context_most c) w record_size
-  marks_out h = rw (within_is, lt-leb marks 1 h)
-
-  pub numbers_out : marks ≤ 1 → max_number < numbers → false ≡ within (context_most c) w record_size
-  numbers_out h g = rw (within_is, le-leb marks 1 h, lt-leb numbers max_number g)
-
-  pub all_in : {r : Bool} → marks ≤ 1 → numbers ≤ max_number → r ≡ single_words c w → r ≡ within (context_most c) w record_size
-  all_in h g e = rw (within_is, le-leb marks 1 h, le-leb numbers max_number g) e

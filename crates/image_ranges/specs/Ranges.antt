@@ -1,5 +1,5 @@
 -- Document 01's ranges, word by word: refusal 3. Assumes nothing.
-use Rattle.std.specs.Prelude.{Bool, true, false, ◌&&◌, not, ℕ, ◌+◌, ◌-◌, ◌*◌, List, [], ◌∷◌, leb, eqb, get_or, if◌then◌else◌}
+use Rattle.std.specs.Prelude.{Bool, true, ◌&&◌, ℕ, ◌+◌, ◌-◌, ◌*◌, List, [], ◌∷◌, leb, eqb, get_or, if◌then◌else◌}
 use Rattle.columns.specs.Common.{every}
 use Rattle.columns.specs.Blocks.{part}
 use Rattle.percpu.specs.Layout.{counter}

@@ -1,36 +1,22 @@
 // Every word of the CPUs' blocks in its range.
-ghost use Rattle.std.specs.Prelude.{◌≡◌, Bool, true, false, ℕ, ◌+◌, ◌-◌, ◌*◌, ◌<◌, ◌≤◌, length, get_or};
+ghost use Rattle.std.specs.Prelude.{◌≡◌, Bool, true, ◌&&◌, ℕ, ◌+◌, ◌<◌, ◌≤◌, length, get_or};
 ghost use Rattle.columns.specs.Common.{every};
-ghost use Rattle.percpu.specs.Layout.{counter};
-ghost use Rattle.image_ranges.specs.Ranges.{within, zero_words, block_most, array_least, array_most, used, unused, array_in_range, block_in_range, blocks_in_range};
-ghost use Rattle.percpu.specs.Places.{block_size, front_size};
+ghost use Rattle.columns.specs.Blocks.{part};
+ghost use Rattle.image_ranges.specs.Ranges.{within, zero_words, used, unused, array_in_range, block_in_range, blocks_in_range};
+ghost use Rattle.percpu.specs.Places.{block_size, queue_count, timers_count, local_count, ipi_count};
 ghost use Rattle.machine.specs.Encode.{cpu_place};
 
 use numbers::{MAX_ID, MAX_NUMBER, MAX_WORD};
 use percpu::places;
 use weights::{FULL_SLICE, MAX_WEIGHT, MIN_WEIGHT};
 
-const COUNTER: [usize; 10] = [
-    places::QUEUE_COUNT,
-    places::QUEUE_COUNT,
-    places::QUEUE_COUNT,
-    places::QUEUE_COUNT,
-    places::QUEUE_COUNT,
-    places::QUEUE_COUNT,
-    places::TIMERS_COUNT,
-    places::TIMERS_COUNT,
-    places::LOCAL_COUNT,
-    places::IPI_COUNT,
-];
-
-const ARRAY_LEAST: [u64; 10] = [0, 0, 0, 0, MIN_WEIGHT, 0, 0, 0, 0, 0];
-
-pub fn within(table: &[u64], w: &[u64], k: usize) -> bool
-    requires { (k ≤ length table.now) × (k ≤ length w.now) }
-    ensures { result ≡ within table.now w.now k }
+// Each word is at most that of the table at its place.
+pub fn within(table: &[u64], w: &[u64]) -> bool
+    requires { length table.now ≤ length w.now }
+    ensures { result ≡ within table.now w.now (length table.now) }
 {
-    for i in 0..k {
-        if table[i] < w[i] {
+    for (i, most) in table.iter().enumerate() {
+        if *most < w[i] {
             return false;
         }
     }
@@ -52,9 +38,8 @@ fn used(a: &[u64], k: usize, low: u64, high: u64) -> bool
     requires { k ≤ length a.now }
     ensures { result ≡ used a.now k low high }
 {
-    for i in 0..k {
-        let x = a[i];
-        if x < low || high < x {
+    for x in &a[..k] {
+        if *x < low || high < *x {
             return false;
         }
     }
@@ -68,61 +53,55 @@ fn unused(a: &[u64], k: usize) -> bool
     zero_words(&a[k..])
 }
 
-fn counter_of(j: usize) -> usize
-    requires { j < 10 }
-    ensures { (result ≡ get_or counter j 0) × (result < front_size) }
+// The column at a place of a block, of which as many words are used as the word at s says.
+#[tactic(auto, using(crate::proofs::Checked::column_lent))]
+fn column_in_range(b: &[u64], at: usize, s: usize, low: u64, high: u64) -> bool
+    requires { (at + 64 ≤ length b.now) × (s < length b.now) × (get_or b.now s 0 ≤ 64) }
+    ensures { result ≡ (used (part b.now at 64) (get_or b.now s 0) low high && unused (part b.now at 64) (get_or b.now s 0)) }
 {
-    COUNTER[j]
-}
-
-fn array_least(j: usize) -> u64
-    requires { j < 10 }
-    ensures { result ≡ get_or array_least j 0 }
-{
-    ARRAY_LEAST[j]
-}
-
-fn array_in_range(b: &[u64], n: u64, j: usize, high: u64) -> bool
-    requires b_len { length b.now ≡ block_size }
-    requires front_size_value { within (block_most n) b.now front_size ≡ true }
-    requires j_bound { (j < 10) × (high ≡ get_or (array_most n) j 0) }
-    ensures { result ≡ array_in_range n b.now j }
-{
-    let s = counter_of(j);
     let k = numbers::index(b[s]);
-    let at = places::FRONT_SIZE + 64 * j;
-    let end = at + 64;
-    let low = array_least(j);
-    if !used(&b[at..end], k, low, high) {
-        return false;
-    }
-    unused(&b[at..end], k)
+    let end = at + places::ROOM;
+    used(&b[at..end], k, low, high) && unused(&b[at..end], k)
 }
 
-fn arrays_in_range(b: &[u64], n: u64) -> bool
-    requires b_len { length b.now ≡ block_size }
-    requires front_size_value { within (block_most n) b.now front_size ≡ true }
-    requires le_n { 1 ≤ n }
+#[tactic(auto, using(crate::proofs::Checked::columns_are))]
+fn columns_in_range(b: &[u64], n: u64) -> bool
+    requires b_len { (length b.now ≡ block_size) × (1 ≤ n) }
+    requires counts { (get_or b.now queue_count 0 ≤ 64) × (get_or b.now timers_count 0 ≤ 64) × (get_or b.now local_count 0 ≤ 64) × (get_or b.now ipi_count 0 ≤ 64) }
     ensures { result ≡ every (array_in_range n b.now) 10 }
 {
     let last = n - 1;
-    let high = [
-        MAX_NUMBER, FULL_SLICE, MAX_ID, MAX_NUMBER, MAX_WEIGHT, last, MAX_NUMBER, last, last, last,
-    ];
-    for j in 0..10 {
-        if !array_in_range(b, n, j, high[j]) {
-            return false;
-        }
-    }
-    true
+    column_in_range(b, places::KEY_VD, places::QUEUE_COUNT, 0, MAX_NUMBER)
+        && column_in_range(b, places::KEY_REM_SLICE, places::QUEUE_COUNT, 0, FULL_SLICE)
+        && column_in_range(b, places::KEY_CTXT_ID, places::QUEUE_COUNT, 0, MAX_ID)
+        && column_in_range(b, places::ENTRY_VTIME, places::QUEUE_COUNT, 0, MAX_NUMBER)
+        && column_in_range(
+            b,
+            places::ENTRY_WEIGHT,
+            places::QUEUE_COUNT,
+            MIN_WEIGHT,
+            MAX_WEIGHT,
+        )
+        && column_in_range(b, places::ENTRY_CONTEXT_REF, places::QUEUE_COUNT, 0, last)
+        && column_in_range(b, places::TIMER_WAKE, places::TIMERS_COUNT, 0, MAX_NUMBER)
+        && column_in_range(b, places::TIMER_CONTEXT_REF, places::TIMERS_COUNT, 0, last)
+        && column_in_range(b, places::LOCAL_WAKEUP_LIST, places::LOCAL_COUNT, 0, last)
+        && column_in_range(
+            b,
+            places::IPI_CONTEXT_WAKEUP_LIST,
+            places::IPI_COUNT,
+            0,
+            last,
+        )
 }
 
+#[tactic(auto, unfolding(crate::specs::Ranges::block_in_range_to, crate::specs::Ranges::block_most_to))]
 pub fn block_in_range(b: &[u64], n: u64) -> bool
     requires b_len { length b.now ≡ block_size }
     requires le_n { 1 ≤ n }
     ensures { result ≡ block_in_range n b.now }
 {
-    if b[0] == 0 {
+    if b[places::PRESENT] == 0 {
         return zero_words(b);
     }
     let last = n - 1;
@@ -131,13 +110,7 @@ pub fn block_in_range(b: &[u64], n: u64) -> bool
         MAX_NUMBER, MAX_NUMBER, MAX_NUMBER, MAX_NUMBER, MAX_NUMBER, 1, MAX_NUMBER, MAX_NUMBER, 64,
         64, 64, 64,
     ];
-    if !within(&front, b, places::FRONT_SIZE) {
-        return false;
-    }
-    if ticks::MAX_REMAINDER < b[places::REMAINDER] {
-        return false;
-    }
-    arrays_in_range(b, n)
+    within(&front, b) && b[places::REMAINDER] <= ticks::MAX_REMAINDER && columns_in_range(b, n)
 }
 
 pub fn blocks_in_range(m: &[u64], c: usize, n: usize) -> bool

@@ -6,11 +6,11 @@ ghost use Rattle.context.specs.Words.{record_size};
 ghost use Rattle.machine.specs.Encode.{context_place};
 
 use crate::ranges;
-use context::places::RECORD_SIZE;
+use context::places::{self, RECORD_SIZE};
 use numbers::{MAX_ID, MAX_NUMBER, MAX_WORD};
 use weights::FULL_SLICE;
 
-const GONE_MOST: [u64; RECORD_SIZE] = [
+static GONE_MOST: [u64; RECORD_SIZE] = [
     1, MAX_ID, 0, 0, 0, 0, 0, 0, 0, 0, 0, 0, 0, 0, 0, 0, 0, 0, 0, 0, 0, 0, 0, 0, 0, 0,
 ];
 
@@ -19,7 +19,7 @@ fn wake_marked(w: &[u64]) -> bool
     requires { length w.now ≡ record_size }
     ensures { result ≡ wake_marked w.now }
 {
-    w[12] == 1 || w[13] == 0
+    w[places::HAS_WAKE] == 1 || w[places::WAKE] == 0
 }
 
 #[tactic(auto, unfolding(crate::specs::Ranges::key_marked))]
@@ -27,57 +27,62 @@ fn key_marked(w: &[u64]) -> bool
     requires { length w.now ≡ record_size }
     ensures { result ≡ key_marked w.now }
 {
-    w[21] == 1 || (w[22] == 0 && w[23] == 0)
+    w[places::HAS_QUEUE_KEY] == 1
+        || (w[places::QUEUE_KEY_VD] == 0 && w[places::QUEUE_KEY_REM_SLICE] == 0)
 }
 
-// Words with a bound of their own.
+// Words with a bound of their own. An affinity may be any word: its line is that of the definition, which names every word.
 #[tactic(auto, unfolding(crate::specs::Singles::single_words))]
 fn single_words(w: &[u64], c: u64) -> bool
     requires { length w.now ≡ record_size }
     ensures { result ≡ single_words c w.now }
 {
-    w[1] <= MAX_ID
-        && w[2] <= 5
-        && w[5] <= c
-        && w[10] <= MAX_WORD
-        && w[16] <= 39
-        && w[19] <= FULL_SLICE
-        && w[23] <= FULL_SLICE
-        && w[24] <= 2
-        && w[25] <= 2
+    w[places::DEBUG_ID] <= MAX_ID
+        && w[places::STATUS] <= 5
+        && w[places::CPU_ID] <= c
+        && w[places::SCHED_AFFINITY] <= MAX_WORD
+        && w[places::PRIO] <= 39
+        && w[places::REM_SLICE] <= FULL_SLICE
+        && w[places::QUEUE_KEY_REM_SLICE] <= FULL_SLICE
+        && w[places::LOCK] <= 2
+        && w[places::ADDR_SPACE] <= 2
 }
 
 // Words that share a bound of all ones are taken together: none is above it if all of them together are not.
+#[tactic(auto, using(crate::proofs::Together::within_is))]
 fn live_in_range(w: &[u64], c: u64) -> bool
     requires { length w.now ≡ record_size }
     ensures { result ≡ within (context_most c) w.now record_size }
 {
-    let marks = w[0] | w[3] | w[4] | w[11] | w[12] | w[14] | w[15] | w[20] | w[21];
-    if 1 < marks {
-        return false;
-    }
-    let numbers = w[6] | w[7] | w[8] | w[9] | w[13] | w[17] | w[18] | w[22];
-    if MAX_NUMBER < numbers {
-        return false;
-    }
-    single_words(w, c)
+    let marks = w[places::GONE]
+        | w[places::RUNNING]
+        | w[places::CURRENTLY_SCHEDULED]
+        | w[places::INSIDE_SYSCALL]
+        | w[places::HAS_WAKE]
+        | w[places::USERSPACE]
+        | w[places::BEING_SIGKILLED]
+        | w[places::IS_ACTIVE]
+        | w[places::HAS_QUEUE_KEY];
+    let numbers = w[places::SCHEDULE_TIME]
+        | w[places::SWITCH_TIME]
+        | w[places::ACTIVE_CPU_TIME]
+        | w[places::SCHED_CPU_TIME]
+        | w[places::WAKE]
+        | w[places::VTIME]
+        | w[places::VD]
+        | w[places::QUEUE_KEY_VD];
+    marks <= 1 && numbers <= MAX_NUMBER && single_words(w, c)
 }
 
+#[tactic(auto, unfolding(crate::specs::Ranges::context_in_range_to, crate::specs::Ranges::gone_most))]
 fn context_in_range(w: &[u64], c: u64) -> bool
     requires { length w.now ≡ record_size }
     ensures { result ≡ context_in_range c w.now }
 {
-    if w[0] == 1 {
-        let gone = GONE_MOST;
-        return ranges::within(&gone, w, RECORD_SIZE);
+    if w[places::GONE] == 1 {
+        return ranges::within(&GONE_MOST, w);
     }
-    if !live_in_range(w, c) {
-        return false;
-    }
-    if !wake_marked(w) {
-        return false;
-    }
-    key_marked(w)
+    live_in_range(w, c) && wake_marked(w) && key_marked(w)
 }
 
 pub fn contexts_in_range(m: &[u64], c: u64, n: usize) -> bool

@@ -1,16 +1,15 @@
 -- What the tests of the structure say, as the code makes them. Assumes nothing.
-use mathlib.Core.Path.{◌≡◌, refl, sym, ap, ◌∙◌, subst}
-use mathlib.Core.Logic.{◌⊎◌}
-use mathlib.Core.Bool.{Bool, true, false, ◌&&◌, not}
-use Prim.Native.Nat.{ℕ, zero, suc, ◌+◌, ◌-◌, ◌*◌, ◌<◌, ◌≤◌, ◌%◌}
+use mathlib.Core.Path.{◌≡◌, refl, sym, ap, ◌∙◌}
+use mathlib.Core.Bool.{Bool, true, false, not}
+use Prim.Native.Nat.{ℕ, zero, suc, ◌+◌, ◌-◌, ◌<◌, ◌≤◌, ◌%◌}
 use native.Mathlib.Omega.{arith}
-use mathlib.Core.List.{List, [], ◌∷◌}
-use lib.Dec.{ltb, leb, eqb}
+use mathlib.Core.List.{List}
+use lib.Dec.{ltb, eqb}
 use lib.ListN.{length, get_or, set, take, drop}
 use lib.Seq.{get_or-set_same, get_or-set_other}
-use borrow.Author.Tests.{ltb-true, ltb-false, eqb-true, eqb-false, eq-eqb, ne_eqb}
+use borrow.Author.Tests.{ltb-true, ltb-false, eqb-true, eqb-false, ne_eqb}
 use Rattle.columns.specs.Common.{every}
-use Rattle.columns.proofs.Tests.{by_test, every_at}
+use Rattle.columns.proofs.Tests.{by_test, every_at, every_next, clash}
 use Rattle.columns.specs.Blocks.{part, part_is}
 use Rattle.machine.specs.Encode.{cpu_place}
 use Rattle.percpu.specs.Layout.{entry_at, timer_at}
@@ -25,6 +24,10 @@ use Rattle.percpu.specs.Places.{key_ctxt_id_column, timer_wake_column, timer_con
 pub neighbours : {A : Type 0} (t : A → A → Bool) (f : ℕ → A) (i : ℕ) (a z : A) {r v : Bool} → a ≡ f i → z ≡ f (i + 1) → r ≡ t a z → r ≡ v → t (f i) (f (i + 1)) ≡ v
 neighbours t f i a z p q e g = sym (ap (λ (x : _). t x z) p ∙ ap (t (f i)) q) ∙ sym e ∙ g
 
+-- a test that the numbers below i - 1 pass, and i - 1
+pub one_more : (f : ℕ → Bool) (i : ℕ) → 1 ≤ i → every f (i - 1) ≡ true → f (i - 1) ≡ true → every f (i + 1 - 1) ≡ true
+one_more f i h e g = let z : i + 1 - 1 ≡ i - 1 + 1 = omega arith in rw z (every_next f (i - 1) e g)
+
 -- a test that every number below n passes, from each of them
 pub every_all : (f : ℕ → Bool) (n : ℕ) → ((i : ℕ) → i < n → f i ≡ true) → every f n ≡ true
 unfolding every
@@ -32,21 +35,21 @@ every_all f zero h = refl
 every_all f (suc n) h = rw (every_all f n (λ i g. h i (omega arith)), h n (omega arith))
 
 -- where a remainder was not seen yet, the id is new
-pub unseen : (m : List ℕ) (seen : List ℕ) (y id h : ℕ) → id ≡ id_of m y → h ≡ id % 64 → ((x : ℕ) → x < y → get_or seen (id_of m x % 64) 0 ≡ 1) → get_or seen h 0 ≡ 0
+pub unseen : (m : List ℕ) (seen : List Bool) (y id h : ℕ) → id ≡ id_of m y → h ≡ id % 64 → ((x : ℕ) → x < y → get_or seen (id_of m x % 64) false ≡ true) → get_or seen h false ≡ false
     → true ≡ is_new m y
 unfolding is_new
 unseen m seen y id h p q e z =
     sym (every_all (λ (x : ℕ). not (eqb (id_of m x) (id_of m y))) y
     (λ x g. rw (ne_eqb (id_of m x) (id_of m y)
-    (λ s. let t : get_or seen h 0 ≡ 1 = ap (λ (k : ℕ). get_or seen k 0) (q ∙ ap (λ (k : ℕ). k % 64) (p ∙ sym s)) ∙ e x g in absurd (omega arith)))))
+    (λ s. clash (ap (λ (k : ℕ). get_or seen k false) (q ∙ ap (λ (k : ℕ). k % 64) (p ∙ sym s)) ∙ e x g) z))))
 
 -- what was seen, with one more
-pub seen_more : (m : List ℕ) (seen : List ℕ) (y id h : ℕ) → id ≡ id_of m y → h ≡ id % 64 → h < length seen → ((x : ℕ) → x < y → get_or seen (id_of m x % 64) 0 ≡ 1)
-    → (x : ℕ) → x < y + 1 → get_or (set seen h 1) (id_of m x % 64) 0 ≡ 1
+pub seen_more : (m : List ℕ) (seen : List Bool) (y id h : ℕ) → id ≡ id_of m y → h ≡ id % 64 → h < length seen → ((x : ℕ) → x < y → get_or seen (id_of m x % 64) false ≡ true)
+    → (x : ℕ) → x < y + 1 → get_or (set seen h true) (id_of m x % 64) false ≡ true
 seen_more m seen y id h p q l e x g =
     by_test (eqb h (id_of m x % 64))
-    (λ t. rw (← eqb-true h (id_of m x % 64) t) (get_or-set_same seen h 1 0 l))
-    (λ t. get_or-set_other seen h (id_of m x % 64) 1 0 (λ s. eqb-false h (id_of m x % 64) t (sym s))
+    (λ t. rw (← eqb-true h (id_of m x % 64) t) (get_or-set_same seen h true false l))
+    (λ t. get_or-set_other seen h (id_of m x % 64) true false (λ s. eqb-false h (id_of m x % 64) t (sym s))
     ∙ by_test (ltb x y) (λ u. e x (ltb-true x y u))
     (λ u. let v : x ≡ y = omega (arith, ltb-false x y u) in absurd (eqb-false h (id_of m x % 64) t (q ∙ ap (λ (k : ℕ). k % 64) (p ∙ ap (id_of m) (sym v))))))
 

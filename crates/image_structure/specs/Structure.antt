@@ -1,5 +1,5 @@
 -- Document 01's structure of an image whose words are in their ranges: refusal 4. Assumes nothing.
-use Rattle.std.specs.Prelude.{Bool, true, false, ◌&&◌, not, ℕ, ◌+◌, ◌-◌, ◌*◌, List, eqb, get_or, if◌then◌else◌}
+use Rattle.std.specs.Prelude.{Bool, true, ◌&&◌, not, ℕ, ◌+◌, ◌-◌, List, eqb, get_or, if◌then◌else◌}
 use Rattle.columns.specs.Common.{every}
 use Rattle.columns.specs.Blocks.{part}
 use Rattle.entries.specs.Order.{before, sooner}

@@ -32,10 +32,7 @@ fn is_new_if(m: &[u64], y: usize, compare: bool) -> bool
     requires true_value { compare ≡ false → true ≡ is_new m.now y }
     ensures { result ≡ is_new m.now y }
 {
-    if compare {
-        return is_new(m, y);
-    }
-    true
+    !compare || is_new(m, y)
 }
 
 // Ids that leave different remainders differ: only equal remainders are looked at further.
@@ -43,14 +40,14 @@ pub fn ids_differ(m: &[u64], n: usize) -> bool
     requires { (context_place n ≤ length m.now) × (n ≤ 64) }
     ensures { result ≡ ids_differ m.now n }
 {
-    let mut seen = [0u8; 64];
+    let mut seen = [false; 64];
     for y in 0..n {
         let id = id_of(m, y);
         let h = numbers::index(id % 64);
-        if !is_new_if(m, y, seen[h] != 0) {
+        if !is_new_if(m, y, seen[h]) {
             return false;
         }
-        seen[h] = 1;
+        seen[h] = true;
     }
     true
 }

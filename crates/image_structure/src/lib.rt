@@ -30,8 +30,8 @@ fn rises(b: &[u64], keys: KeyColumns, k: usize) -> bool
     ensures { result ≡ rises b.now keys.vd keys.rem_slice keys.ctxt_id k }
 {
     let mut last = keys.key(b, 0);
-    for i in 0..k.saturating_sub(1) {
-        let next = keys.key(b, i + 1);
+    for i in 1..k {
+        let next = keys.key(b, i);
         if !last.before(next) {
             return false;
         }
@@ -40,18 +40,15 @@ fn rises(b: &[u64], keys: KeyColumns, k: usize) -> bool
     true
 }
 
+#[tactic(auto, unfolding(crate::specs::Structure::names_live))]
 fn names_live(m: &[u64], b: &[u64], n: u64) -> bool
     requires n_in_bounds { (context_place n ≤ length m.now) × (1 ≤ n) × (n ≤ 64) × (length b.now ≡ block_size) }
     requires b_value { block_in_range n b.now ≡ true }
     ensures { result ≡ names_live m.now b.now }
 {
-    if !is_live(m, b[places::CURRENT_CTXT]) {
-        return false;
-    }
-    if !is_live(m, b[places::SCHED_CTXT]) {
-        return false;
-    }
-    is_live(m, b[places::IDLE_CTXT])
+    is_live(m, b[places::CURRENT_CTXT])
+        && is_live(m, b[places::SCHED_CTXT])
+        && is_live(m, b[places::IDLE_CTXT])
 }
 
 fn entry_ids(m: &[u64], b: &[u64], n: u64) -> bool
@@ -76,40 +73,29 @@ fn timers_differ(b: &[u64], n: u64) -> bool
     ensures { result ≡ timers_differ b.now }
 {
     let k = numbers::index(b[places::TIMERS_COUNT]);
-    let mut seen = [0u8; 64];
+    let mut seen = [false; 64];
     for i in 0..k {
         let x = numbers::index(b[places::TIMER_CONTEXT_REF + i]);
-        if seen[x] != 0 {
+        if seen[x] {
             return false;
         }
-        seen[x] = 1;
+        seen[x] = true;
     }
     true
 }
 
+#[tactic(auto, using(crate::proofs::Structured::keys_are, crate::proofs::Structured::timers_are), unfolding(crate::specs::Structure::block_structure))]
 fn block_structure(m: &[u64], b: &[u64], n: u64) -> bool
     requires n_in_bounds { (context_place n ≤ length m.now) × (1 ≤ n) × (n ≤ 64) × (length b.now ≡ block_size) }
     requires b_value { block_in_range n b.now ≡ true }
     ensures { result ≡ block_structure m.now b.now }
 {
-    if b[0] == 0 {
-        return true;
-    }
-    if !names_live(m, b, n) {
-        return false;
-    }
-    if !entry_ids(m, b, n) {
-        return false;
-    }
-    let entries = numbers::index(b[places::QUEUE_COUNT]);
-    if !rises(b, QUEUE_KEYS, entries) {
-        return false;
-    }
-    let timers = numbers::index(b[places::TIMERS_COUNT]);
-    if !rises(b, TIMER_KEYS, timers) {
-        return false;
-    }
-    timers_differ(b, n)
+    b[places::PRESENT] == 0
+        || (names_live(m, b, n)
+            && entry_ids(m, b, n)
+            && rises(b, QUEUE_KEYS, numbers::index(b[places::QUEUE_COUNT]))
+            && rises(b, TIMER_KEYS, numbers::index(b[places::TIMERS_COUNT]))
+            && timers_differ(b, n))
 }
 
 pub fn structure(m: &[u64], c: usize, n: usize) -> bool

@@ -8,7 +8,7 @@ pub fn from_le_bytes(b: &[u8]) -> u64
     requires { length b.now ≡ 8 }
     ensures { result ≡ from_le_bytes b.now }
 {
-    u64::from_le_bytes([b[0], b[1], b[2], b[3], b[4], b[5], b[6], b[7]])
+    u64::from_le_bytes(*b.first_chunk().unwrap())
 }
 
 pub fn to_le_bytes(b: &mut [u8], x: u64)

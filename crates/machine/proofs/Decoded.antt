@@ -1,7 +1,6 @@
 -- `decode (encode M) ≡ M`, of a machine whose lists fit into their arrays. Assumes nothing.
-use mathlib.Core.Path.{◌≡◌, refl, sym, ap, ◌∙◌}
-use Prim.Native.Nat.{ℕ, ◌+◌, ◌*◌, ◌<◌, ◌≤◌}
-use mathlib.Core.List.{List}
+use mathlib.Core.Path.{◌≡◌}
+use Prim.Native.Nat.{ℕ, ◌<◌}
 use lib.ListN.{length, get_or}
 use Rattle.columns.specs.Common.{tabulate}
 use Rattle.columns.specs.Blocks.{part}

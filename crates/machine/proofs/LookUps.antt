@@ -1,8 +1,8 @@
 -- Looking up a context or a CPU, from what the code's tests said. Assumes nothing.
-use Rattle.std.specs.Prelude.{None, Option, Some}
+use Rattle.std.specs.Prelude.{None, Some}
 use mathlib.Core.Path.{◌≡◌, refl, sym, ap, ◌∙◌}
 use mathlib.Core.Bool.{Bool, true, false}
-use Prim.Native.Nat.{ℕ, ◌+◌, ◌*◌, ◌<◌, ◌≤◌}
+use Prim.Native.Nat.{ℕ, ◌+◌, ◌<◌, ◌≤◌}
 use native.Mathlib.Omega.{arith}
 use native.Mathlib.Nat.{add-zero}
 use mathlib.Core.List.{List}
@@ -16,10 +16,10 @@ use Rattle.columns.proofs.Tests.{by_test}
 use Rattle.cpu_stats.specs.Words.{stats_words}
 use Rattle.context.specs.Words.{context_words, record_size}
 use Rattle.percpu.specs.Words.{block_words}
-use Rattle.percpu.specs.Layout.{cpu_words, counts}
+use Rattle.percpu.specs.Layout.{cpu_words}
 use Rattle.machine.specs.Machine.{Machine, context_at, cpu_at, no_context}
 use Rattle.machine.specs.Encode.{encode, context_place, cpu_place}
-use Rattle.machine.specs.Shape.{Fits, Image}
+use Rattle.machine.specs.Shape.{Fits}
 use Rattle.machine.specs.LookUp.{look_up, get_percpu_block}
 use Rattle.machine.proofs.Places.{context_part, block_is}
 use Rattle.percpu.specs.Places.{block_size}

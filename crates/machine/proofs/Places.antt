@@ -1,9 +1,9 @@
 -- Where a context's record and a CPU's block stand in the image. Assumes nothing.
 use mathlib.Core.Path.{◌≡◌, refl, sym, ap, ◌∙◌}
-use Prim.Native.Nat.{ℕ, zero, suc, ◌+◌, ◌-◌, ◌*◌, ◌<◌, ◌≤◌}
+use Prim.Native.Nat.{ℕ, ◌+◌, ◌-◌, ◌<◌}
 use native.Mathlib.Omega.{arith}
 use mathlib.Core.List.{List, [], ◌∷◌, ◌++◌, append-nil, append_assoc}
-use lib.ListN.{length, get_or, set, take, drop, length-append, length-set}
+use lib.ListN.{length, get_or, take, drop, length-append, length-set}
 use borrow.Rule.Slice.PartMut.{put_mid}
 use Rattle.columns.specs.Blocks.{cat, length_cat, part, splice, block_part, block_splice, part_is, splice_is}
 use Rattle.context.specs.declared.Context.{Context}

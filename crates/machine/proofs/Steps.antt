@@ -1,11 +1,11 @@
 -- How steps on the image compose, and what keeps a machine fitting. Assumes nothing.
-use mathlib.Core.Path.{◌≡◌, refl, sym, ap, ◌∙◌, subst}
-use Prim.Native.Nat.{ℕ, zero, suc, ◌+◌, ◌*◌, ◌<◌, ◌≤◌}
+use mathlib.Core.Path.{◌≡◌, ap, ◌∙◌}
+use Prim.Native.Nat.{ℕ, zero, suc, ◌≤◌}
 use mathlib.Core.List.{List, [], ◌∷◌}
 use lib.ListN.{length, get_or, set, length-set}
 use Rattle.context.specs.declared.Context.{Context}
 use Rattle.percpu.specs.Cpu.{Cpu}
-use Rattle.machine.specs.Machine.{Machine, context_at, cpu_at, set_context, set_cpu, no_context, no_cpu}
+use Rattle.machine.specs.Machine.{Machine, cpu_at, set_context, set_cpu, no_context, no_cpu}
 use Rattle.machine.specs.Encode.{encode, cpu_place}
 use Rattle.machine.specs.Shape.{ContextFits, CpuFits, Fits, Image, Step}
 use Rattle.machine.proofs.Places.{length_encode}

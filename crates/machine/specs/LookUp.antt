@@ -1,5 +1,5 @@
 -- A context and a CPU by their numbers, any number. Assumes nothing.
-use Rattle.std.specs.Prelude.{Bool, true, false, ◌&&◌, not, ℕ, leb, length, if◌then◌else◌, None, Option, Some}
+use Rattle.std.specs.Prelude.{ℕ, leb, length, if◌then◌else◌, None, Option, Some}
 use Rattle.machine.specs.Machine.{Machine, context_at, cpu_at}
 
 -- not below N, or gone

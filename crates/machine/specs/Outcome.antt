@@ -1,5 +1,5 @@
 -- What a call makes of a machine. Assumes nothing.
-use Rattle.std.specs.Prelude.{Bool, true, false, ℕ}
+use Rattle.std.specs.Prelude.{Bool, false, ℕ}
 use Rattle.machine.specs.Machine.{Machine}
 
 pub record Outcome : Type 0 where

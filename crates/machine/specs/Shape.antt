@@ -2,7 +2,6 @@
 use Rattle.std.specs.Prelude.{◌≡◌, ℕ, ◌<◌, ◌≤◌, List, length, get_or}
 use Rattle.context.specs.declared.Context.{Context}
 use Rattle.entries.specs.declared.Entry.{Entry}
-use Rattle.entries.specs.declared.Timer.{Timer}
 use Rattle.entries.specs.Order.{entry_before, sooner}
 use Rattle.entries.specs.Sorted.{Sorted}
 use Rattle.percpu.specs.Cpu.{Cpu}

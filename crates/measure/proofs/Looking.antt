@@ -1,10 +1,12 @@
 -- Words looked at one after the other, and what the measured parts come to. Assumes nothing.
-use mathlib.Core.Path.{◌≡◌, sym, subst}
+use mathlib.Core.Path.{◌≡◌, sym, subst, ◌∙◌}
 use mathlib.Core.List.{List}
-use Prim.Native.Nat.{ℕ, ◌+◌, ◌≤◌, max}
+use Prim.Native.Nat.{ℕ, ◌+◌, ◌-◌, ◌≤◌, max}
 use native.Mathlib.Omega.{arith}
 use lib.Dec.{ltb}
-use lib.ListN.{get_or}
+use lib.ListN.{length, get_or, take, drop}
+use lib.Seq.{get_or-take, get_or-drop, length-take-le}
+use Rattle.std.proofs.Common.{length-drop}
 use borrow.Author.Tests.{ltb-true, ltb-false}
 use Rattle.columns.proofs.Tests.{by_test}
 use Rattle.machine.specs.Encode.{context_place, cpu_place}
@@ -27,6 +29,20 @@ greatest_next m from i most top r e o =
 
 pub greatest_last : (m : List ℕ) (from i to most top : ℕ) → to ≤ i → Greatest m from i most top → Greatest m from to most top
 greatest_last m from i to most top h o = record { more = o.more; all = record { each = λ j a b. o.all.each j a (omega arith) } }
+
+-- of a slice of m
+pub sliced : (m : List ℕ) (from to most r : ℕ) → from ≤ to → to ≤ length m → Greatest (take (to - from) (drop from m)) 0 (length (take (to - from) (drop from m))) most r → Greatest m from to most r
+sliced m from to most r f t o =
+    let l : length (take (to - from) (drop from m)) ≡ to - from = length-take-le (to - from) (drop from m) (omega (arith, length-drop from m)) in
+    record {
+      more = o.more;
+      all = record {
+        each = λ i a b.
+            let e : get_or (take (to - from) (drop from m)) (i - from) 0 ≡ get_or m (from + (i - from)) 0 = get_or-take (to - from) (drop from m) (i - from) 0 (omega arith) ∙ get_or-drop from m (i - from) 0 in
+            let z : from + (i - from) ≡ i = omega arith in
+            subst (λ (x : ℕ). get_or m x 0 ≤ r) z (subst (λ (x : ℕ). x ≤ r) e (o.all.each (i - from) (omega arith) (omega (arith, l))));
+      };
+    }
 
 -- a larger bound
 over : {m : List ℕ} {from to top : ℕ} (r : ℕ) → top ≤ r → NoneOver m from to top → NoneOver m from to r

@@ -20,14 +20,13 @@ use context::places as record_places;
 use growth::Bounds;
 use percpu::places;
 
-// The greatest of the words from a place up to another, or `most` if that is greater.
-fn greatest(m: &[u64], from: usize, to: usize, most: u64) -> u64
-    requires { to ≤ length m.now }
-    ensures { Greatest m.now from to most result }
+// The greatest of these words, or `most` if that is greater.
+fn greatest(words: &[u64], most: u64) -> u64
+    ensures { Greatest words.now 0 (length words.now) most result }
 {
     let mut top = most;
-    for i in from..to {
-        top = top.max(m[i]);
+    for &word in words {
+        top = top.max(word);
     }
     top
 }
@@ -38,21 +37,15 @@ fn of_record(m: &[u64], at: usize, b: Bounds) -> Bounds
     ensures { RecordMeasured m.now at b result }
 {
     let clock = greatest(
-        m,
-        at + record_places::SCHEDULE_TIME,
-        at + record_places::SCHED_AFFINITY,
+        &m[at + record_places::SCHEDULE_TIME..at + record_places::SCHED_AFFINITY],
         b.times,
     );
     let times = greatest(
-        m,
-        at + record_places::WAKE,
-        at + record_places::USERSPACE,
+        &m[at + record_places::WAKE..at + record_places::USERSPACE],
         clock,
     );
     let virtual_times = greatest(
-        m,
-        at + record_places::VTIME,
-        at + record_places::QUEUE_KEY_REM_SLICE,
+        &m[at + record_places::VTIME..at + record_places::QUEUE_KEY_REM_SLICE],
         b.virtual_times,
     );
     Bounds {
@@ -67,16 +60,12 @@ fn block_times(m: &[u64], at: usize, most: u64) -> u64
     ensures { TimesMeasured m.now at most result }
 {
     let clock = greatest(
-        m,
-        at + places::SCHEDULE_TIME,
-        at + places::BEING_SIGKILLED,
+        &m[at + places::SCHEDULE_TIME..at + places::BEING_SIGKILLED],
         most,
     );
-    let counted = greatest(m, at + places::USER, at + places::QUEUE_LOCKED, clock);
+    let counted = greatest(&m[at + places::USER..at + places::QUEUE_LOCKED], clock);
     greatest(
-        m,
-        at + places::TIMER_WAKE,
-        at + places::TIMER_CONTEXT_REF,
+        &m[at + places::TIMER_WAKE..at + places::TIMER_CONTEXT_REF],
         counted,
     )
 }
@@ -87,14 +76,12 @@ fn block_virtual_times(m: &[u64], at: usize, most: u64) -> u64
     ensures { VirtualTimesMeasured m.now at most result }
 {
     let published = greatest(
-        m,
-        at + places::PUBLISHED_WEIGHT,
-        at + places::STEAL_COUNTER,
+        &m[at + places::PUBLISHED_WEIGHT..at + places::STEAL_COUNTER],
         most,
     );
-    let v = greatest(m, at + places::V, at + places::QUEUE_COUNT, published);
-    let vd = greatest(m, at + places::KEY_VD, at + places::KEY_REM_SLICE, v);
-    greatest(m, at + places::ENTRY_VTIME, at + places::ENTRY_WEIGHT, vd)
+    let v = greatest(&m[at + places::V..at + places::QUEUE_COUNT], published);
+    let vd = greatest(&m[at + places::KEY_VD..at + places::KEY_REM_SLICE], v);
+    greatest(&m[at + places::ENTRY_VTIME..at + places::ENTRY_WEIGHT], vd)
 }
 
 fn records(m: &[u64], n: usize) -> Bounds

@@ -11,7 +11,7 @@ use Rattle.entries.specs.declared.Entry.{Entry}
 use Rattle.percpu.specs.Cpu.{Cpu}
 use Rattle.percpu.specs.Words.{block_of}
 use Rattle.machine.specs.Machine.{no_cpu}
-use Rattle.model.specs.State.{State, at}
+use Rattle.model.specs.State.{State}
 use Rattle.model.specs.Steal.{can_steal_from}
 use Rattle.model.proofs.Cases.{by_test, never}
 use Rattle.model.proofs.Queues.{on}

@@ -15,7 +15,6 @@ use Rattle.model.proofs.Turn.{Turn}
 use Rattle.model.proofs.Lists.{In, all_at}
 use Rattle.model.proofs.Robbed.{StealResult, nothing, robbed}
 use Rattle.model.proofs.Settled.{successor}
-use Rattle.model.proofs.Chosen.{sorted}
 use Rattle.model.proofs.Firsts.{some_none}
 use Rattle.model.proofs.Assembled.{scheduled_machine, J, chose, C, runs, locked, l, stole, kept, awake, c}
 use Rattle.model.proofs.After.{in_charge_is}

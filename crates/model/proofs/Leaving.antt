@@ -12,7 +12,6 @@ use Rattle.context.specs.declared.Context.{Context}
 use Rattle.entries.specs.declared.Entry.{Entry}
 use Rattle.entries.specs.Queue.{queue_remove}
 use Rattle.machine.specs.Machine.{context_at, no_context}
-use Rattle.model.specs.State.{at}
 use Rattle.model.proofs.Cases.{by_test}
 use Rattle.model.proofs.Lists.{In}
 use Rattle.model.proofs.Queues.{Inv, inv_ext, fixed, on, Has, Without}

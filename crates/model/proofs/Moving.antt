@@ -21,7 +21,7 @@ use Rattle.model.proofs.Cases.{by_test, never, pick}
 use Rattle.model.proofs.Lists.{All, In, all_at}
 use Rattle.model.proofs.Sorted.{in_insert}
 use Rattle.model.proofs.Queues.{Inv, fixed, set_view, on, Has, gone_of}
-use Rattle.model.proofs.Moves.{was_in, inv_put, has_put, has_new, put_cases}
+use Rattle.model.proofs.Moves.{inv_put, has_put, has_new, put_cases}
 use Rattle.model.proofs.Before.{roles}
 use Rattle.model.proofs.Dequeued.{Winner}
 use Rattle.model.proofs.Scanned.{Distinct}

@@ -12,7 +12,7 @@ use Rattle.machine.specs.Machine.{Machine, cpu_at}
 use Rattle.model.specs.Steal.{Stealing}
 use Rattle.model.specs.Tidy.{Sound, Tidy, Present}
 use Rattle.model.specs.Schedule.{choose_and_steal}
-use Rattle.model.specs.Demand3.{in_charge, total_weight_here, own_advance, Stole, was_queued}
+use Rattle.model.specs.Demand3.{in_charge, total_weight_here, own_advance, Stole}
 use Rattle.model.proofs.Turn.{Turn}
 use Rattle.model.proofs.Cases.{by_test}
 use Rattle.model.proofs.Lists.{In}

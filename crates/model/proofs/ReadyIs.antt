@@ -15,7 +15,7 @@ use Rattle.runnable.specs.Runnable.{update_runnable}
 use Rattle.percpu.specs.Cpu.{Cpu}
 use Rattle.machine.specs.Machine.{Machine, cpu_at}
 use Rattle.model.specs.State.{State, at, holder, is_idle, prev_runnable}
-use Rattle.model.specs.Scan.{pass, gone, is_ready, by_update, is_eligible, judge}
+use Rattle.model.specs.Scan.{pass, is_ready, by_update, is_eligible, judge}
 use Rattle.model.specs.Choice.{prev_is_eligible}
 use Rattle.model.specs.Tidy.{Sound, Tidy}
 use Rattle.model.specs.Accepted.{can_switch}

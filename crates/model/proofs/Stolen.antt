@@ -10,7 +10,7 @@ use borrow.Author.Tests.{ne_eqb}
 use Rattle.entries.specs.declared.Entry.{Entry}
 use Rattle.entries.specs.Order.{entry_before}
 use Rattle.machine.specs.Machine.{Machine, context_at, cpu_at, no_cpu}
-use Rattle.model.specs.State.{State, at}
+use Rattle.model.specs.State.{State}
 use Rattle.columns.specs.Common.{fold}
 use Rattle.model.specs.Steal.{Stealing, move_entry, after_moving, should_steal, targets, can_steal_from, want, steal_entries, steal_from, steal}
 use Rattle.model.proofs.Cases.{never, pick, or_neither, not_is_false}

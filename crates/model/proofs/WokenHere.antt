@@ -13,7 +13,7 @@ use Rattle.entries.specs.declared.Entry.{Entry}
 use Rattle.entries.specs.declared.Timer.{Timer}
 use Rattle.ticks.specs.declared.Spent.{Spent}
 use Rattle.machine.specs.Machine.{Machine, cpu_at}
-use Rattle.model.specs.State.{State, at, on_cpu, state_of, holder, is_idle}
+use Rattle.model.specs.State.{State, on_cpu, state_of, holder, is_idle}
 use Rattle.model.specs.Wakeup.{Wakeup, can_read, waits_for, is_live_timer, timer_wakeup, local_wakeup, wakeups, drained, woken_by, serve_wakeups}
 use Rattle.model.specs.Turn.{count_switch, times, holder_stopped, charge_holder, before_selection, before_choice}
 use Rattle.model.specs.Tidy.{Sound, Tidy, Live, context}

@@ -1,5 +1,4 @@
 -- A name that opens every definition of a decision, for computing: `unfolding opened`. Assumes nothing.
-use Rattle.std.specs.Prelude.{List}
 use Rattle.columns.specs.Common.{tabulate}
 use Rattle.columns.specs.Blocks.{part, cat, flat}
 use Rattle.columns.specs.Columns.{pad}

@@ -1,6 +1,6 @@
 -- Document 01's words for a machine, its structure, and tidy. Assumes nothing.
-use Rattle.std.specs.Prelude.{◌≡◌, ◌≢◌, Bool, true, false, List, [], ◌∷◌, ℕ, zero, suc, ◌<◌, length}
-use Rattle.columns.specs.Common.{All, In}
+use Rattle.std.specs.Prelude.{◌≡◌, ◌≢◌, true, false, List, [], ◌∷◌, ℕ, zero, suc, ◌<◌, length}
+use Rattle.columns.specs.Common.{In}
 use Rattle.context.specs.declared.Context.{Context}
 use Rattle.context.specs.Status.{is_runnable}
 use Rattle.entries.specs.declared.Entry.{Entry}

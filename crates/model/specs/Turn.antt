@@ -1,12 +1,7 @@
 -- Counting, times, and what the holder pays. Assumes nothing.
-use Rattle.std.specs.Prelude.{Bool, ℕ, ◌+◌, ◌-◌, ◌/◌, if◌then◌else◌}
-use Rattle.columns.specs.Common.{mark}
+use Rattle.std.specs.Prelude.{Bool, ℕ, ◌-◌, ◌/◌, if◌then◌else◌}
 use Rattle.context.specs.Status.{is_runnable}
-use Rattle.cpu_stats.specs.declared.CpuState.{CpuState}
-use Rattle.cpu_stats.specs.declared.CpuState.TheVariants.{Idle, Kernel, User}
-use Rattle.cpu_stats.specs.declared.CpuStats.{CpuStats}
 use Rattle.cpu_stats.specs.State.{is_idle_state}
-use Rattle.cpu_stats.specs.With.{stats_user, stats_kernel, stats_idle, stats_context_switches, stats_syscall_switches}
 use Rattle.ticks.specs.declared.Spent.{Spent}
 use Rattle.ticks.specs.Ticks.{ticks, remainder}
 use Rattle.weights.specs.Weights.{weight}

@@ -1,5 +1,5 @@
 -- Wake-ups: due timers and the local list. Assumes nothing.
-use Rattle.std.specs.Prelude.{Bool, true, not, ◌&&◌, ◌||◌, List, [], ◌++◌, map, ℕ, ◌+◌, max, leb, eqb, if◌then◌else◌, None, Option, Some}
+use Rattle.std.specs.Prelude.{Bool, true, not, ◌&&◌, ◌||◌, List, [], ◌++◌, map, ℕ, ◌+◌, max, eqb, if◌then◌else◌, None, Option, Some}
 use Rattle.columns.specs.Common.{fold, keep}
 use Rattle.context.specs.declared.Context.{Context}
 use Rattle.context.specs.Status.{is_runnable, is_soft_blocked}
@@ -12,7 +12,7 @@ use Rattle.entries.specs.Queue.{queue_remove}
 use Rattle.percpu.specs.Cpu.{Cpu}
 use Rattle.percpu.specs.With.{cpu_total_weight, cpu_published_weight, cpu_timers, cpu_local_wakeup_list, cpu_queue}
 use Rattle.model.specs.State.{State, at, put_context, on_cpu, insert_entry, insert_timer, push_local}
-use Rattle.context.specs.Key.{queue_key, new_key, with_new_key, entry_of}
+use Rattle.context.specs.Key.{queue_key, with_new_key, entry_of}
 use Rattle.entries.specs.Order.{is_due}
 
 -- a wake-up: the context, and the wake of its timer if a timer gave it

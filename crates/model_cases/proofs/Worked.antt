@@ -13,7 +13,7 @@ use Rattle.machine.specs.Machine.{cpu_at}
 use Rattle.model.specs.Opened.{opened}
 use Rattle.model.specs.Schedule.{switch}
 use Rattle.model.specs.Tidy.{Sorted, Sound, Tidy, Agrees, Queued, InCharge, Present, Live, IsContext, context}
-use Rattle.model.specs.Accepted.{Accepted, by_switch, Served, by_timer, by_name, ServesOwn}
+use Rattle.model.specs.Accepted.{Accepted, by_switch, by_timer, by_name, ServesOwn}
 use Rattle.model.specs.Demand3.{Ready, Eligible, Demand3}
 use Rattle.model.proofs.Cases.{never}
 use Rattle.model.proofs.Places.{one_place}

@@ -21,7 +21,7 @@ use Rattle.model.specs.State.{State, state_of, prev_runnable}
 use Rattle.model.specs.Turn.{spent, was_idle, charge_holder, before_selection}
 use Rattle.model.specs.Choice.{Choice, choice, chosen}
 use Rattle.model.specs.SwitchTo.{try_direct_switch_back}
-use Rattle.model.specs.Schedule.{finish, finish_by, scanned, locks, choose_and_steal, selected, select_next_context, picked_as, schedule, switch_as, after_schedule, switch_inner_by, switch_inner, ticked, tick, switch, direct_switch_or, direct_switch_to}
+use Rattle.model.specs.Schedule.{finish_by, scanned, locks, choose_and_steal, selected, select_next_context, picked_as, schedule, switch_as, after_schedule, switch_inner_by, switch_inner, ticked, tick, switch, direct_switch_or, direct_switch_to}
 use Rattle.model.specs.Accepted.{Call, by_tick, by_switch, by_direct_switch, outcome}
 use Rattle.model.proofs.Cases.{by_test, pick}
 use Rattle.model_timers.specs.Timers.{Alone}

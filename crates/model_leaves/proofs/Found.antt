@@ -25,7 +25,7 @@ use Rattle.machine.specs.Machine.{no_cpu}
 use Rattle.image_ranges.specs.Ranges.{within, gone_most, context_most_to, wake_marked, key_marked, context_in_range, context_in_range_to, block_most_to, array_most_to}
 use Rattle.image_ranges.proofs.Checked.{within_at}
 use Rattle.image_ranges.proofs.InRange.{BlockInRange, context_at_most}
-use Rattle.model_leaves.proofs.WellFormed.{gone_context, ContextFormed, present}
+use Rattle.model_leaves.proofs.WellFormed.{gone_context, ContextFormed}
 use Rattle.numbers.specs.Limits.{max_number, max_word}
 use Rattle.weights.specs.Weights.{full_slice}
 

@@ -23,7 +23,7 @@ use Rattle.table.proofs.Rising.{rises}
 use Rattle.machine.specs.Machine.{Machine, context_at, cpu_at, no_context, no_cpu}
 use Rattle.machine.specs.Encode.{encode, context_place, cpu_place}
 use Rattle.machine.proofs.Places.{context_part, cpu_part}
-use Rattle.image_structure.specs.Structure.{id_of, is_live, is_new, ids_differ, names_live, entry_ids, keys_rise, timers_rise, timers_differ, block_structure, structure}
+use Rattle.image_structure.specs.Structure.{id_of, is_live, is_new, ids_differ, names_live, entry_ids, keys_rise, timers_rise, block_structure, structure}
 use Rattle.stages.proofs.Fitting.{of_all}
 use Rattle.model_leaves.proofs.WellFormed.{LiveName, EntryFormed, view, CpuFormed, Room, Stands, absent, present, WellFormed}
 use Rattle.model_timers.specs.Timers.{Alone}

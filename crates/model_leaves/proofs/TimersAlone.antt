@@ -1,6 +1,6 @@
 -- One timer to a context, in an image and in its machine. Assumes nothing.
 use mathlib.Core.Path.{◌≡◌, refl, sym, ap, ◌∙◌, subst}
-use mathlib.Core.Bool.{true, false, not}
+use mathlib.Core.Bool.{true, not}
 use mathlib.Core.List.{List, [], ◌∷◌}
 use mathlib.Core.Logic.{inl, inr}
 use Prim.Native.Nat.{ℕ, zero, suc, ◌<◌, ◌≤◌}
@@ -8,7 +8,7 @@ use native.Mathlib.Omega.{arith}
 use lib.Dec.{eqb, ltb}
 use lib.ListN.{length, get_or}
 use borrow.Author.Tests.{eqb-true, eqb-false, ne_eqb, eq-eqb, ltb-true, ltb-false}
-use Rattle.columns.specs.Common.{every, In}
+use Rattle.columns.specs.Common.{In}
 use Rattle.columns.proofs.Tests.{every_at}
 use Rattle.columns.proofs.Tabulate.{length_tabulate, get_d_tabulate}
 use Rattle.cpu_stats.specs.Words.{stats_words}

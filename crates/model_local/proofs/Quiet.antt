@@ -1,7 +1,7 @@
 -- A switch that is not on a stealing turn, as a function of its CPU's state alone. Assumes nothing.
 use Rattle.std.specs.Prelude.{if◌then◌else◌, None, Option, Some, is_some}
 use mathlib.Core.Path.{◌≡◌, refl, ap, ◌∙◌}
-use mathlib.Core.Bool.{Bool, false, not}
+use mathlib.Core.Bool.{Bool, false}
 use mathlib.Core.List.{List, []}
 use Prim.Native.Nat.{ℕ}
 use lib.Dec.{eqb}

@@ -5,7 +5,7 @@ use mathlib.Core.Bool.{Bool, true, false, not, ◌&&◌}
 use mathlib.Core.List.{List}
 use Prim.Native.Nat.{ℕ, ◌<◌, ◌≤◌}
 use lib.Dec.{eqb, ltb}
-use lib.ListN.{length, set, length-set}
+use lib.ListN.{length, length-set}
 use lib.Seq.{ext_get_or, get_or-set_same, get_or-set_other}
 use borrow.Author.Tests.{ltb-true, ltb-false}
 use Rattle.columns.proofs.Tabulate.{get_d_past}
@@ -18,7 +18,7 @@ use Rattle.machine.specs.Machine.{Machine, context_at, cpu_at, no_context, no_cp
 use Rattle.model.specs.State.{State, at, state_of}
 use Rattle.model.specs.SwitchTo.{direct_switch_by, try_direct_switch_back}
 use Rattle.model.specs.Schedule.{Outcome, switch}
-use Rattle.model.specs.Accepted.{can_switch, decides}
+use Rattle.model.specs.Accepted.{can_switch}
 use Rattle.model.proofs.Cases.{by_test}
 use Rattle.model_local.specs.Names.{names}
 use Rattle.model_local.specs.Local.{with_others, others, Within, Alike, Local}

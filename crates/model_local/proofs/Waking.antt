@@ -4,7 +4,6 @@ use mathlib.Core.Path.{◌≡◌, refl, ap, ◌∙◌}
 use mathlib.Core.Bool.{Bool, true}
 use mathlib.Core.List.{List, [], ◌∷◌, ◌++◌, map}
 use Prim.Native.Nat.{ℕ}
-use lib.ListN.{set}
 use Rattle.columns.specs.Common.{fold, keep, All}
 use Rattle.context.specs.declared.Context.{Context}
 use Rattle.entries.specs.declared.Entry.{Entry}
@@ -18,7 +17,6 @@ use Rattle.model.specs.State.{State, on_cpu, insert_entry}
 use Rattle.model.specs.Wakeup.{Wakeup, is_live_timer, timer_wakeup, local_wakeup, wakeups, stays, drained, put_back, without_old_key, entering, activated, enter, WakeupResult, dropped, locked, woken_only, entered, wakeup_result, wake_as, serve_wakeup, serve_wakeups}
 use Rattle.model.proofs.Cases.{by_test}
 use Rattle.model.proofs.Sorted.{all_remove}
-use Rattle.model_local.specs.Names.{names}
 use Rattle.model_local.specs.Local.{others}
 use Rattle.model_local.proofs.Others.{keep_same, all_keep, all_append, fold_through, fold_holds, at_others, put_others}
 use Rattle.model_local.proofs.Owned.{Owns, OfTimer, OfEntry, OfNumber, with_queue, with_timers, with_list, with_record, with_entry, with_timer, with_name}

@@ -12,7 +12,7 @@ use Rattle.entries.specs.declared.Entry.{Entry}
 use Rattle.machine.specs.Machine.{Machine}
 use Rattle.answer.specs.declared.Rule.{Rule}
 use Rattle.answer.specs.declared.Rule.TheVariants.{FirstEligible, HolderDeadline, HolderSlice, HolderAlone, HolderVtime, HolderLateDeadline, EntryVtime, Stolen, Idle}
-use Rattle.model.specs.State.{State, holder, prev_runnable}
+use Rattle.model.specs.State.{State, prev_runnable}
 use Rattle.model.specs.Choice.{goes_before, prev_is_eligible}
 use Rattle.model.specs.Rule.{rule_against, rule_nobody, rule_by, rule_of}
 use Rattle.model.specs.Demand3.{judged}

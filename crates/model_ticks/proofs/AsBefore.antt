@@ -1,25 +1,22 @@
 -- Where nothing is carried, a call is the source's in every word but the remainder of its CPU, tickets 2 and 4 aside. Assumes nothing.
 use Rattle.std.specs.Prelude.{None, Option, Some}
 use mathlib.Core.Path.{◌≡◌, refl, sym, ap, ◌∙◌, subst}
-use mathlib.Core.Bool.{Bool, true, false}
 use mathlib.Core.List.{List}
 use Prim.Native.Nat.{ℕ, ◌<◌}
 use lib.Dec.{ltb, eqb}
 use lib.ListN.{length}
 use Rattle.ticks.specs.declared.Spent.{Spent}
 use Rattle.ticks.specs.Ticks.{ticks, remainder, tick_interval}
-use Rattle.context.specs.declared.Context.{Context}
 use Rattle.runnable.specs.declared.UpdateResult.{UpdateResult}
 use Rattle.runnable.specs.declared.UpdateResult.TheVariants.{CanSwitch, Skip, Blocked}
-use Rattle.runnable.specs.Runnable.{update_runnable}
 use Rattle.percpu.specs.Cpu.{Cpu}
 use Rattle.percpu.specs.With.{cpu_remainder}
 use Rattle.machine.specs.Machine.{Machine, cpu_at, no_cpu}
 use Rattle.machine.proofs.Steps.{get_d_set}
-use Rattle.model.specs.State.{State, at, on_cpu, put_context, state_of}
+use Rattle.model.specs.State.{State, on_cpu, put_context, state_of}
 use Rattle.model.specs.Turn.{count_switch, elapsed, times, was_idle}
 use Rattle.model.specs.SwitchTo.{switch_to, direct_switch_by, try_direct_switch_back}
-use Rattle.model.specs.Schedule.{Outcome, Selected, finish, finish_by, ticked, selected, picked_as, after_schedule}
+use Rattle.model.specs.Schedule.{Outcome, finish_by, ticked, selected, picked_as, after_schedule}
 use Rattle.model.specs.Accepted.{Call, by_tick, by_switch, by_direct_switch, outcome}
 use Rattle.model.proofs.Cases.{by_test}
 use Rattle.model_timers.specs.Timers.{Alone, Readable}

@@ -24,10 +24,10 @@ use Rattle.model.specs.State.{State, at, on_cpu, put_context, insert_entry, remo
 use Rattle.model.specs.Scan.{Scan, Visit, pass, gone, blocked, no_addr_space, ready, judge, visit, visited, scan_step, scan_start, scan}
 use Rattle.model.specs.Choice.{Choice, prev_is_eligible, nobody, choice_by, choice, ineligible_holder, cleaned_up, taken_out, chosen}
 use Rattle.model.specs.Rule.{rule_nobody, rule_by, rule_of}
-use Rattle.model.specs.Steal.{Stealing, Moving, first_wins, move_entry, after_moving, steal_entries, can_steal_from, want, candidates, steal_from, should_steal, count_steal, targets, steal, mark_stealable}
+use Rattle.model.specs.Steal.{Stealing, Moving, first_wins, move_entry, after_moving, steal_entries, can_steal_from, want, steal_from, should_steal, count_steal, targets, steal, mark_stealable}
 use Rattle.model.specs.Handover.{advance, requeue, settled, next_context, hand_over}
 use Rattle.model.specs.SwitchTo.{switch_to}
-use Rattle.model.specs.Schedule.{Outcome, Selected, Scheduled, finish_by, scanned, locks, choose_and_steal, selected, picked_as, switch_as, after_schedule}
+use Rattle.model.specs.Schedule.{Selected, finish_by, scanned, locks, choose_and_steal, selected, picked_as, switch_as, after_schedule}
 use Rattle.model.proofs.Cases.{by_test}
 use Rattle.model_timers.proofs.Source.{source_holder_stopped, source_charge_holder}
 use Rattle.model_ticks.specs.Turns.{outcome_carrying}

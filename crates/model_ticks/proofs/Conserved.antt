@@ -1,23 +1,20 @@
 -- A decision stores what its conversion leaves over, and nothing else touches a remainder: no part of a tick is lost. Assumes nothing.
-use Rattle.std.specs.Prelude.{if◌then◌else◌}
 use mathlib.Core.Path.{◌≡◌, refl, sym, ap, ◌∙◌, subst}
-use mathlib.Core.Logic.{◌≢◌}
-use mathlib.Core.Bool.{Bool, true, false, ◌&&◌}
-use mathlib.Core.List.{List}
+use mathlib.Core.Bool.{true}
 use Prim.Native.Nat.{ℕ, ◌+◌, ◌-◌, ◌*◌, ◌<◌}
 use native.Mathlib.Omega.{arith}
 use lib.Dec.{eqb}
 use lib.ListN.{length}
 use borrow.Author.Tests.{eqb-true, eqb-false}
 use Rattle.ticks.specs.declared.Spent.{Spent}
-use Rattle.ticks.specs.Ticks.{ticks, remainder, nanos_per_tick, scale}
+use Rattle.ticks.specs.Ticks.{remainder, nanos_per_tick, scale}
 use Rattle.ticks.proofs.Laws.{conserved}
 use Rattle.context.specs.Status.{is_runnable}
 use Rattle.machine.specs.Machine.{Machine, cpu_at}
 use Rattle.model.specs.State.{State, on_cpu, state_of, holder, is_idle}
 use Rattle.model.specs.Wakeup.{wakeups, drained, serve_wakeups}
 use Rattle.model.specs.Turn.{count_switch, elapsed, spent, times, was_idle, holder_stopped, charge_holder, before_selection}
-use Rattle.model.specs.Schedule.{Outcome, select_next_context, schedule, after_schedule}
+use Rattle.model.specs.Schedule.{select_next_context, schedule}
 use Rattle.model.specs.Accepted.{Call, outcome, decides}
 use Rattle.model.proofs.Cases.{by_test, pick}
 use Rattle.model_timers.proofs.Untouched.{Kept, kept, Leaves, charged_leaves}
@@ -25,7 +22,7 @@ use Rattle.model_rules.proofs.Called.{decided_outcome}
 use Rattle.model_weights.proofs.Untouched.{Watched, Untouched}
 use Rattle.model_weights.proofs.Undecided.{undecided}
 use Rattle.model_ticks.specs.Turns.{decision_by, turn_ended, Turned}
-use Rattle.model_ticks.proofs.Measured.{Measure, measure, served_measured}
+use Rattle.model_ticks.proofs.Measured.{Measure, served_measured}
 
 charge_keeps : (n : Spent) (s : State) → (charge_holder n s).cpu.remainder ≡ s.cpu.remainder
 unfolding charge_holder holder_stopped

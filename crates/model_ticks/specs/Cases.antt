@@ -1,6 +1,5 @@
 -- Five switches of an idle CPU, 1 ns apart and from 0 on, by computing. Assumes nothing.
 use Rattle.std.specs.Prelude.{◌≡◌, refl, List, [], ◌∷◌, ℕ, ◌+◌}
-use Rattle.percpu.specs.Cpu.{Cpu}
 use Rattle.percpu.specs.With.{cpu_queue, cpu_queue_len, cpu_total_weight}
 use Rattle.machine.specs.Machine.{Machine, cpu_at}
 use Rattle.model.specs.Schedule.{switch}

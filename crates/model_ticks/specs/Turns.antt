@@ -6,7 +6,7 @@ use Rattle.percpu.specs.With.{cpu_remainder}
 use Rattle.machine.specs.Machine.{Machine, cpu_at, set_cpu}
 use Rattle.model.specs.State.{state_of}
 use Rattle.model.specs.Turn.{elapsed, spent, was_idle, before_selection}
-use Rattle.model.specs.Schedule.{Outcome, Selected, select_next_context, picked_as, after_schedule}
+use Rattle.model.specs.Schedule.{Outcome, select_next_context, picked_as, after_schedule}
 use Rattle.model.specs.Accepted.{Call, decides}
 
 -- the decision whose holder is charged for `turn`, and whose V gains by its ticks

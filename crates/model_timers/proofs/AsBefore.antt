@@ -1,9 +1,9 @@
 -- Where no due timer's context is unreadable and the source leaves one timer to a context, a call is the source's in every word, with the
 -- remainder carried.
 -- Assumes nothing.
-use Rattle.std.specs.Prelude.{if◌then◌else◌, None, Option, Some}
+use Rattle.std.specs.Prelude.{None, Option, Some}
 use mathlib.Core.Path.{◌≡◌, refl, ap, ◌∙◌, subst}
-use mathlib.Core.Bool.{Bool, true, false, not, ◌||◌}
+use mathlib.Core.Bool.{Bool, true, false, not}
 use mathlib.Core.List.{List, [], ◌∷◌}
 use mathlib.Core.Logic.{inl, inr}
 use Prim.Native.Nat.{ℕ, ◌<◌}
@@ -20,11 +20,11 @@ use Rattle.entries.specs.Queue.{timer_insert, without_superseded}
 use Rattle.percpu.specs.Cpu.{Cpu}
 use Rattle.percpu.specs.With.{cpu_timers, cpu_local_wakeup_list}
 use Rattle.machine.specs.Machine.{Machine, cpu_at}
-use Rattle.model.specs.State.{State, at, on_cpu, state_of, holder, is_idle}
+use Rattle.model.specs.State.{State, on_cpu, state_of, holder, is_idle}
 use Rattle.model.specs.Wakeup.{wakeups, is_unreadable, stays, serve_wakeup, serve_wakeups}
 use Rattle.model.specs.Turn.{count_switch, times, spent, was_idle, holder_stopped, charge_holder, before_selection}
 use Rattle.model.specs.SwitchTo.{try_direct_switch_back}
-use Rattle.model.specs.Schedule.{Outcome, Scheduled, Selected, finish, ticked, selected, select_next_context, picked_as, schedule, after_schedule, switch_inner_by, switch_inner, tick, switch, direct_switch_or, direct_switch_to}
+use Rattle.model.specs.Schedule.{Outcome, ticked, selected, select_next_context, picked_as, schedule, after_schedule, switch_inner_by, switch_inner, tick, switch, direct_switch_or, direct_switch_to}
 use Rattle.model.specs.Accepted.{Call, by_tick, by_switch, by_direct_switch, outcome}
 use Rattle.model.proofs.Cases.{by_test, and_both, not_is_true}
 use Rattle.model.proofs.Sorted.{in_inserted}
@@ -32,22 +32,7 @@ use Rattle.model_timers.specs.Timers.{Alone, Readable}
 use Rattle.model_timers.proofs.Untouched.{Kept, kept, charged_leaves}
 use Rattle.model_timers.proofs.Served.{still_in}
 use Rattle.model_timers.proofs.Calls.{wake_timer}
-use Rattle.model_timers.proofs.Source.{
-  carrying_clock,
-  source_drained,
-  source_holder_stopped,
-  source_charge_holder,
-  source_select_next_context,
-  source_serve_wakeups,
-  source_before_selection,
-  source_schedule,
-  source_switch_inner_by,
-  source_switch_inner,
-  source_tick,
-  source_direct_switch_or,
-  source_direct_switch_to,
-  source_outcome,
-}
+use Rattle.model_timers.proofs.Source.{carrying_clock, source_holder_stopped, source_charge_holder, source_select_next_context, source_serve_wakeups, source_before_selection, source_schedule, source_switch_inner_by, source_switch_inner, source_tick, source_direct_switch_or, source_direct_switch_to, source_outcome}
 
 keep_same : {A : Type 0} (f g : A → Bool) (l : List A) → ((a : A) → In a l → f a ≡ g a) → keep f l ≡ keep g l
 keep_same f g [] h = refl

@@ -1,8 +1,8 @@
 -- No timer is lost: what a decision removes was due and could be read, or does not stand for its context's wake. Assumes nothing.
-use mathlib.Core.Path.{◌≡◌, refl, sym, ap, ◌∙◌, subst}
-use mathlib.Core.Bool.{Bool, true, false, not, ◌&&◌, ◌||◌}
+use mathlib.Core.Path.{◌≡◌, sym, ap, ◌∙◌, subst}
+use mathlib.Core.Bool.{true, false, not, ◌&&◌}
 use mathlib.Core.List.{List}
-use mathlib.Core.Logic.{◌⊎◌, ◌≢◌, inl, inr}
+use mathlib.Core.Logic.{◌⊎◌, inl, inr}
 use Prim.Native.Nat.{ℕ, ◌<◌}
 use lib.Dec.{eqb}
 use lib.ListN.{length}
@@ -12,7 +12,7 @@ use Rattle.context.specs.Status.{is_soft_blocked}
 use Rattle.entries.specs.declared.Timer.{Timer}
 use Rattle.entries.specs.Order.{sooner, superseded, is_due}
 use Rattle.entries.specs.Queue.{timer_insert, without_superseded}
-use Rattle.machine.specs.Machine.{Machine, context_at, cpu_at}
+use Rattle.machine.specs.Machine.{Machine, cpu_at}
 use Rattle.model.specs.State.{State, at, state_of}
 use Rattle.model.specs.Wakeup.{is_unreadable, stays, waits_for}
 use Rattle.model.specs.Turn.{before_selection, before_choice}

@@ -4,7 +4,6 @@ use mathlib.Core.Bool.{false, not}
 use mathlib.Core.List.{List}
 use mathlib.Core.Logic.{◌⊎◌, ◌≢◌, inl, inr}
 use Prim.Native.Nat.{ℕ, ◌<◌}
-use lib.Dec.{eqb}
 use lib.ListN.{length}
 use borrow.Author.Tests.{eqb-true, eq-eqb}
 use Rattle.entries.specs.declared.Timer.{Timer}

@@ -1,11 +1,10 @@
 -- The wake-ups of a decision: which timers they leave, and that the holder's record is as it was. Assumes nothing.
 use Rattle.std.specs.Prelude.{None, Option, Some}
-use mathlib.Core.Path.{◌≡◌, refl, sym, ap, ◌∙◌, subst}
-use mathlib.Core.Bool.{true, false}
+use mathlib.Core.Path.{◌≡◌, refl, sym, ◌∙◌, subst}
+use mathlib.Core.Bool.{true}
 use mathlib.Core.List.{List, map}
 use mathlib.Core.Logic.{◌⊎◌, ◌≢◌, inl, inr}
 use Prim.Native.Nat.{ℕ}
-use lib.Dec.{eqb}
 use lib.ListN.{set}
 use lib.Seq.{get_or-set_other}
 use borrow.Author.Tests.{eqb-false}
@@ -17,12 +16,12 @@ use Rattle.entries.specs.Queue.{timer_insert}
 use Rattle.entries.specs.Sorted.{Sorted}
 use Rattle.entries.proofs.Ordered.{same_timer, timers_ordered, sorted_keep}
 use Rattle.machine.specs.Machine.{context_at, no_context}
-use Rattle.model.specs.State.{State, at, on_cpu, put_context}
+use Rattle.model.specs.State.{State, at}
 use Rattle.model.specs.Wakeup.{Wakeup, is_live_timer, timer_wakeup, local_wakeup, wakeups, stays, drained, put_back, enter, wake_as, serve_wakeup, serve_wakeups}
 use Rattle.model.proofs.Cases.{by_test}
 use Rattle.model.proofs.Lists.{In, in_append, in_map, in_keep, keep_in, fold_keeps_in}
 use Rattle.model.proofs.Sorted.{in_inserted, in_insert, still_in_insert, insert_sorted}
-use Rattle.model.proofs.WakeupCases.{Asked, woke, wakeup_cases}
+use Rattle.model.proofs.WakeupCases.{Asked, wakeup_cases}
 
 -- a timer put in leaves every other in the set
 pub still_in : (t u : Timer) (l : List Timer) → In t l → In t (timer_insert u l)

@@ -16,17 +16,15 @@ use Rattle.ticks.specs.declared.Spent.{Spent}
 use Rattle.context.specs.Status.{is_runnable}
 use Rattle.entries.specs.declared.Entry.{Entry}
 use Rattle.entries.specs.declared.Timer.{Timer}
-use Rattle.runnable.specs.declared.UpdateResult.{UpdateResult}
-use Rattle.runnable.specs.declared.UpdateResult.TheVariants.{CanSwitch, Skip, Blocked}
 use Rattle.percpu.specs.Cpu.{Cpu}
 use Rattle.percpu.specs.With.{cpu_v}
 use Rattle.machine.specs.Machine.{cpu_at, no_cpu}
-use Rattle.model.specs.State.{State, at, on_cpu, put_context, holder, prev_runnable}
+use Rattle.model.specs.State.{State, at, on_cpu, holder, prev_runnable}
 use Rattle.model.specs.Scan.{Scan}
 use Rattle.model.specs.Choice.{Choice, choice, cleaned_up, taken_out, chosen}
 use Rattle.model.specs.Steal.{Stealing, Moving, can_steal_from, should_steal, targets, first_wins, move_entry, steal_entries, steal_from, steal}
 use Rattle.model.specs.Handover.{advance, requeue, settled, hand_over}
-use Rattle.model.specs.SwitchTo.{switch_to, direct_switch_by}
+use Rattle.model.specs.SwitchTo.{switch_to}
 use Rattle.model.specs.Schedule.{Outcome, finish_by, scanned, locks, choose_and_steal, selected, picked_as, switch_as, after_schedule}
 use Rattle.model.proofs.Cases.{pick}
 use Rattle.model.proofs.Lists.{fold_keeps}

@@ -4,7 +4,7 @@ use mathlib.Core.Path.{◌≡◌, refl, subst, sym, ap, ◌∙◌}
 use mathlib.Core.Bool.{Bool, true, false, not, ◌&&◌}
 use mathlib.Core.List.{List}
 use mathlib.Core.Logic.{◌⊎◌, inl, inr, ◌≢◌}
-use Prim.Native.Nat.{ℕ, ◌+◌, ◌-◌, ◌<◌}
+use Prim.Native.Nat.{ℕ, ◌+◌, ◌<◌}
 use native.Mathlib.Omega.{arith}
 use lib.Dec.{eqb}
 use lib.ListN.{length, set}
@@ -18,13 +18,12 @@ use Rattle.charging.specs.Charge.{charged, stopped}
 use Rattle.entries.specs.declared.Entry.{Entry}
 use Rattle.machine.specs.Machine.{Machine, context_at, no_context, cpu_at}
 use Rattle.model.specs.State.{State, at, put_context, on_cpu, state_of, holder, is_idle, prev_runnable}
-use Rattle.model.specs.Turn.{times, elapsed, inactive, holder_stopped, charge_holder, before_selection, before_choice}
+use Rattle.model.specs.Turn.{times, inactive, holder_stopped, charge_holder, before_selection, before_choice}
 use Rattle.model.specs.Tidy.{Sound, Tidy, Present, InCharge, Idle, context}
 use Rattle.model.specs.Accepted.{ServesOwn}
 use Rattle.model.proofs.Cases.{by_test, never, pick}
 use Rattle.model.proofs.Queues.{on, set_view}
 use Rattle.model.proofs.Before.{Roles, queues}
-use Rattle.model.proofs.Woken.{Waking}
 use Rattle.model.proofs.Charged.{charged_active, charged_status, holder_out, holder_range, times_waking}
 use Rattle.model_weights.specs.Weighed.{Weighed, Agree}
 use Rattle.model_weights.proofs.Sums.{added, held_weight}

@@ -1,10 +1,10 @@
 -- The choice: what the scan gave up leaves the total, and the winner's weight stays in it.
 use Rattle.std.specs.Prelude.{None, Option, Some}
 use mathlib.Core.Path.{◌≡◌, refl, subst, sym, ap, ◌∙◌}
-use mathlib.Core.Bool.{Bool, true, false}
+use mathlib.Core.Bool.{Bool, true}
 use mathlib.Core.List.{List}
-use mathlib.Core.Logic.{◌⊎◌, inl, inr, ◌≢◌}
-use Prim.Native.Nat.{ℕ, ◌+◌, ◌-◌, ◌<◌}
+use mathlib.Core.Logic.{inl, inr}
+use Prim.Native.Nat.{ℕ, ◌+◌, ◌<◌}
 use native.Mathlib.Omega.{arith}
 use lib.ListN.{length, set}
 use lib.Seq.{get_or-set_same}
@@ -12,10 +12,9 @@ use Rattle.context.specs.declared.Context.{Context}
 use Rattle.context.specs.Key.{queue_key, without_key}
 use Rattle.entries.specs.declared.Entry.{Entry}
 use Rattle.entries.specs.Queue.{queue_remove}
-use Rattle.machine.specs.Machine.{Machine, context_at, no_context, cpu_at}
+use Rattle.machine.specs.Machine.{Machine, context_at, no_context}
 use Rattle.model.specs.State.{State, at, prev_runnable}
-use Rattle.model.specs.Scan.{Scan}
-use Rattle.model.specs.Choice.{choice, cleaned_up, dequeued, ineligible_holder}
+use Rattle.model.specs.Choice.{cleaned_up, dequeued, ineligible_holder}
 use Rattle.model.specs.Schedule.{scanned}
 use Rattle.model.specs.Tidy.{Sound, Tidy, Present}
 use Rattle.model.specs.Accepted.{ServesOwn}
@@ -30,7 +29,7 @@ use Rattle.model.proofs.Judged.{ready_alive}
 use Rattle.model.proofs.Firsts.{some_none, some_some}
 use Rattle.model.proofs.ScanKept.{ready_stays}
 use Rattle.model.proofs.Chosen.{is_waiting, separate}
-use Rattle.model.proofs.Dequeued.{scan_of, choice_of, chosen_state, kept_scan, cleaned, choice_cases}
+use Rattle.model.proofs.Dequeued.{choice_of, chosen_state, kept_scan, cleaned, choice_cases}
 use Rattle.model_weights.specs.Weighed.{Weighed, Agree}
 use Rattle.model_weights.proofs.Sums.{added, added_remove, remove_in}
 use Rattle.model_weights.proofs.Weighing.{Alive, own_weight, Weights, Change, change}

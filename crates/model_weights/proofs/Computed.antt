@@ -1,28 +1,22 @@
 -- A machine of which the tests are computed is sound, tidy and weighed, and the totals agree. Assumes nothing.
-use mathlib.Core.Path.{◌≡◌, refl, subst, sym, ap, ◌∙◌}
+use mathlib.Core.Path.{◌≡◌, refl}
 use mathlib.Core.Bool.{Bool, true, false, not, ◌&&◌, ◌||◌}
 use mathlib.Core.List.{List, [], ◌∷◌}
-use mathlib.Core.Logic.{◌⊎◌, inl, inr, ◌≢◌}
 use Prim.Native.Nat.{ℕ, ◌<◌}
-use lib.Dec.{ltb, leb, eqb}
+use lib.Dec.{ltb, eqb}
 use lib.ListN.{length, get_or-eq_default}
-use borrow.Author.Tests.{eqb-true, eqb-false, eq-eqb, ltb-true, ltb-false}
+use borrow.Author.Tests.{eqb-true, eq-eqb, ltb-true, ltb-false}
 use Rattle.columns.specs.Common.{every, is_empty, In}
 use Rattle.columns.proofs.Tests.{every_at}
 use Rattle.context.specs.declared.Context.{Context}
-use Rattle.context.specs.Status.{is_runnable}
-use Rattle.weights.specs.Weights.{weight}
 use Rattle.entries.specs.declared.Entry.{Entry}
 use Rattle.entries.specs.declared.Timer.{Timer}
-use Rattle.entries.specs.Order.{entry_before}
 use Rattle.percpu.specs.Cpu.{Cpu}
-use Rattle.machine.specs.Machine.{Machine, context_at, cpu_at, no_cpu}
-use Rattle.model.specs.Tidy.{Agrees, Sound, Tidy, Present, Queued, InCharge, Idle, Live, IsContext, Sorted, context}
-use Rattle.model.specs.Accepted.{ServesOwn}
-use Rattle.model.proofs.Cases.{by_test, never, and_both, and_true, or_either, not_is_true}
-use Rattle.model.proofs.Places.{one_place}
+use Rattle.machine.specs.Machine.{Machine, cpu_at, no_cpu}
+use Rattle.model.specs.Tidy.{Agrees, Sound, Present, context}
+use Rattle.model.proofs.Cases.{by_test, never, and_both, not_is_true}
 use Rattle.model.proofs.CpuQueues.{present_in_range}
-use Rattle.model_weights.proofs.Tests.{imp, imp_use, any, any_find, all_of, some_of, all_of_at, some_of_find, rises, rises_sorted, listed_below}
+use Rattle.model_weights.proofs.Tests.{imp, imp_use, any, all_of, some_of, all_of_at, rises, rises_sorted, listed_below}
 
 -- two pairs of numbers are equal
 pairs : (a b c d : ℕ) → (eqb a b && eqb c d) ≡ true → (a ≡ b) × (c ≡ d)

@@ -1,9 +1,9 @@
 -- A machine of which the tests are computed is tidy; so with its weights. Assumes nothing.
-use mathlib.Core.Path.{◌≡◌, refl, subst, sym, ap, ◌∙◌}
+use mathlib.Core.Path.{◌≡◌, refl, subst, ap}
 use mathlib.Core.Bool.{Bool, true, false, not, ◌&&◌, ◌||◌}
 use mathlib.Core.List.{List, [], ◌∷◌}
 use mathlib.Core.Logic.{◌⊎◌, inl, inr, ◌≢◌}
-use Prim.Native.Nat.{ℕ, ◌<◌}
+use Prim.Native.Nat.{ℕ}
 use lib.Dec.{eqb}
 use borrow.Author.Tests.{eqb-true, eq-eqb}
 use Rattle.columns.specs.Common.{every, is_empty, In}
@@ -11,15 +11,15 @@ use Rattle.columns.proofs.Tests.{every_at}
 use Rattle.context.specs.Status.{is_runnable}
 use Rattle.weights.specs.Weights.{weight}
 use Rattle.entries.specs.declared.Entry.{Entry}
-use Rattle.machine.specs.Machine.{Machine, cpu_at}
-use Rattle.model.specs.Tidy.{Sound, Tidy, Present, Queued, InCharge, Idle, Live, IsContext, context}
+use Rattle.machine.specs.Machine.{Machine}
+use Rattle.model.specs.Tidy.{Tidy, Present, Queued, InCharge, Live, context}
 use Rattle.model.specs.Accepted.{ServesOwn}
 use Rattle.model.proofs.Cases.{by_test, never, and_both, and_true, or_either, not_is_true}
 use Rattle.model.proofs.Places.{one_place}
 use Rattle.total_weight.specs.TotalWeight.{total_weight_of}
 use Rattle.model_weights.specs.Weighed.{Active, NotIdle, MayBeActive, queued, runs, stopped, EntryWeight, QueuedActive, InChargeActive, NobodyElse, IdleNotActive, Agree}
 use Rattle.model_weights.proofs.Tests.{imp, imp_use, any, any_find, all_of, some_of, all_of_at, some_of_find}
-use Rattle.model_weights.proofs.Computed.{same_entry, same_is, agrees_test, agrees_is, three, c, n, q, p, on, sched, idle, queued_test, Computed, in_cpus, in_queue, computed_sound}
+use Rattle.model_weights.proofs.Computed.{same_entry, same_is, agrees_is, three, c, n, q, p, on, sched, idle, queued_test, Computed, in_cpus, computed_sound}
 
 -- a test that must hold, against a fact
 no_eq : (a b : ℕ) → not (eqb a b) ≡ true → a ≢ b

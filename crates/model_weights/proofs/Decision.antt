@@ -3,9 +3,8 @@ use Rattle.std.specs.Prelude.{None, Option, Some}
 use mathlib.Core.Path.{◌≡◌, refl, subst, sym, ap, ◌∙◌}
 use mathlib.Core.Bool.{Bool, true, false}
 use mathlib.Core.Logic.{◌⊎◌, inl, inr, ◌≢◌}
-use Prim.Native.Nat.{ℕ, ◌<◌}
+use Prim.Native.Nat.{ℕ}
 use lib.Dec.{eqb}
-use lib.ListN.{length}
 use borrow.Author.Tests.{eqb-true, eqb-false}
 use Rattle.context.specs.Status.{is_runnable}
 use Rattle.weights.specs.Weights.{weight}
@@ -21,10 +20,10 @@ use Rattle.model.proofs.CpuQueues.{queue_list}
 use Rattle.model.proofs.Settled.{successor}
 use Rattle.model.proofs.TidyAfter.{Ending, sched_there, was_present, idle_is, gone_is, count_is, in_queue, present_is}
 use Rattle.model.proofs.Assembled.{scheduled_machine, runs as running, l, in_range, s, is_settled, c, ending}
-use Rattle.model.proofs.After.{tidied, in_charge_is, still_present, queued_after}
+use Rattle.model.proofs.After.{in_charge_is, still_present, queued_after}
 use Rattle.model.proofs.Demand.{call_decides}
 use Rattle.model_weights.specs.Weighed.{Active, NotIdle, MayBeActive, queued, runs, stopped, Weighed, WeighedAlways, Agree}
-use Rattle.model_weights.proofs.Weighing.{Alive, Weights}
+use Rattle.model_weights.proofs.Weighing.{Alive}
 use Rattle.model_weights.proofs.SettledWeights.{Remains}
 use Rattle.model_weights.proofs.EndWeights.{settled_so, marks, prios, still, winner_active, holder_active, idle_unmarked, agrees_after}
 

@@ -2,35 +2,30 @@
 use Rattle.std.specs.Prelude.{if◌then◌else◌, None, Option, Some}
 use mathlib.Core.Path.{◌≡◌, refl, subst, sym, ap, ◌∙◌}
 use mathlib.Core.Bool.{Bool, true, false}
-use mathlib.Core.List.{List}
-use mathlib.Core.Logic.{◌⊎◌, inl, inr, ◌≢◌}
+use mathlib.Core.Logic.{inl, inr, ◌≢◌}
 use Prim.Native.Nat.{ℕ, ◌+◌}
 use lib.Dec.{eqb}
 use lib.ListN.{get_or}
 use borrow.Author.Tests.{eqb-true, eqb-false}
-use Rattle.context.specs.declared.Context.{Context}
 use Rattle.weights.specs.Weights.{weight}
 use Rattle.percpu.specs.Cpu.{Cpu}
-use Rattle.machine.specs.Machine.{Machine, context_at, cpu_at, no_cpu}
-use Rattle.model.specs.State.{State, at, state_of}
-use Rattle.model.specs.Steal.{Stealing}
-use Rattle.model.specs.Tidy.{Sound, Tidy, Present, InCharge, Idle, Live, IsContext, context}
-use Rattle.model.proofs.Cases.{by_test, never}
-use Rattle.model.proofs.Queues.{on}
+use Rattle.machine.specs.Machine.{Machine, cpu_at, no_cpu}
+use Rattle.model.specs.State.{at}
+use Rattle.model.specs.Tidy.{Sound, Tidy, Present, context}
+use Rattle.model.proofs.Cases.{by_test}
 use Rattle.model.proofs.Turn.{Turn}
-use Rattle.model.proofs.CpuQueues.{queue_list}
 use Rattle.model.proofs.Settled.{successor}
-use Rattle.model.proofs.Ended.{Lasting, lasting, Standing, standing}
+use Rattle.model.proofs.Ended.{Lasting, Standing}
 use Rattle.model.proofs.TidyAfter.{Ending, cpu_there, sched_there, was_present}
 use Rattle.model.proofs.Assembled.{scheduled_machine, J, waking, chose, C, chosen_after, runs, locked, l, in_range, kept, roles_are, n, s, is_settled, c, ending}
 use Rattle.model.proofs.After.{in_charge_is, stands, lasts_after}
 use Rattle.model_weights.specs.Weighed.{Weighed, Agree}
 use Rattle.model_weights.proofs.Sums.{added, held_weight, total_is}
-use Rattle.model_weights.proofs.Weighing.{prio_of, own_weight, Weights}
+use Rattle.model_weights.proofs.Weighing.{prio_of, own_weight}
 use Rattle.model_weights.proofs.ChargedWeights.{Fast, Judges, before_judges}
 use Rattle.model_weights.proofs.ChosenWeights.{Chooses, choice_chooses}
 use Rattle.model_weights.proofs.StolenWeights.{Steals, steal_weighs}
-use Rattle.model_weights.proofs.SettledWeights.{Remains, successor_weight, Settles, settled_settles}
+use Rattle.model_weights.proofs.SettledWeights.{successor_weight, Settles, settled_settles}
 
 module _ (turn : Turn) (W : Weighed turn.M) (A : Agree turn.M) where
   abbrev k : ℕ

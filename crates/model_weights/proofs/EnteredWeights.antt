@@ -25,7 +25,7 @@ use Rattle.model.proofs.Queues.{Run, on, on_here, Has, Without, gone_of}
 use Rattle.model.proofs.Moves.{no_key}
 use Rattle.model.proofs.Before.{queues, Free}
 use Rattle.model.proofs.Entering.{Unkeyed, Entered, old_key}
-use Rattle.model.proofs.WakeupCases.{woken_run, woken_fixed, asked, woke, Asked, Enters, enters}
+use Rattle.model.proofs.WakeupCases.{woken_run, woken_fixed, asked, woke, Asked, Enters}
 use Rattle.model.proofs.Woken.{Waking, Named, enters_free, here_only, enter_unkeyed, enter_entered}
 use Rattle.model_weights.specs.Weighed.{Weighed, Agree}
 use Rattle.model_weights.proofs.Sums.{added, added_remove, added_put, entry_in, insert_cases, remove_in, held_weight}

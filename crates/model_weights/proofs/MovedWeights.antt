@@ -7,28 +7,25 @@ use mathlib.Core.Logic.{◌⊎◌, inl, inr, ◌≢◌}
 use Prim.Native.Nat.{ℕ, ◌+◌, ◌-◌, ◌<◌}
 use native.Mathlib.Omega.{arith}
 use lib.ListN.{length, set}
-use lib.Seq.{get_or-set_same}
 use borrow.Author.Tests.{eq-eqb, ne_eqb}
 use Rattle.columns.specs.Common.{fold}
 use Rattle.context.specs.declared.Context.{Context}
 use Rattle.context.specs.Key.{with_new_key, entry_of}
 use Rattle.entries.specs.declared.Entry.{Entry}
-use Rattle.entries.specs.Order.{entry_before}
 use Rattle.entries.specs.Queue.{queue_insert, queue_remove}
-use Rattle.machine.specs.Machine.{Machine, context_at, no_context, cpu_at}
-use Rattle.model.specs.State.{State, at}
+use Rattle.machine.specs.Machine.{Machine, context_at, cpu_at}
+use Rattle.model.specs.State.{at}
 use Rattle.model.specs.Steal.{Moving, moved, first_wins, move_entry}
 use Rattle.model.specs.Tidy.{context}
 use Rattle.model.proofs.Cases.{never, pick}
-use Rattle.model.proofs.Lists.{All, In}
-use Rattle.model.proofs.Sorted.{Sorted}
+use Rattle.model.proofs.Lists.{In}
 use Rattle.model.proofs.Queues.{on, set_view}
 use Rattle.model.proofs.Moves.{has_put, has_new}
 use Rattle.model.proofs.Before.{queues, Free}
 use Rattle.model.proofs.Firsts.{some_none, some_some}
 use Rattle.model.proofs.Leaving.{Left, leaves}
 use Rattle.model.proofs.Scanned.{Distinct}
-use Rattle.model.proofs.Moving.{all_queues, Moved, move_moved}
+use Rattle.model.proofs.Moving.{Moved, move_moved}
 use Rattle.model_weights.proofs.Sums.{added, added_remove, added_put, insert_cases, held_weight}
 use Rattle.model_weights.proofs.Weighing.{Alive, own_weight, Weights, Change, change}
 use Rattle.model_weights.proofs.StartWeights.{not_free}

@@ -1,18 +1,17 @@
 -- Each condition is needed, and as written they are not kept: by computing.
 use mathlib.Core.Path.{◌≡◌, refl}
-use mathlib.Core.Bool.{true, false}
+use mathlib.Core.Bool.{false}
 use Prim.Native.Nat.{ℕ, zero, suc}
 use native.Mathlib.Omega.{arith}
 use Rattle.columns.specs.Common.{every}
 use Rattle.machine.specs.Machine.{Machine}
 use Rattle.model.specs.Opened.{opened}
-use Rattle.model.specs.Tidy.{Sound, Tidy, Idle}
+use Rattle.model.specs.Tidy.{Idle}
 use Rattle.model.specs.Schedule.{switch}
-use Rattle.model.specs.Accepted.{by_switch, outcome}
 use Rattle.model.proofs.Cases.{never}
 use Rattle.total_weight.specs.TotalWeight.{items_of, total_weight_of}
 use Rattle.model_cases.specs.Starred.{idler, worker, start, worked}
-use Rattle.model_weights.specs.Weighed.{EntryWeight, QueuedActive, InChargeActive, NobodyElse, IdleNotActive, Weighed, Agree, Breaks, NotKept}
+use Rattle.model_weights.specs.Weighed.{EntryWeight, QueuedActive, InChargeActive, NobodyElse, IdleNotActive, Breaks, NotKept}
 use Rattle.model_weights.specs.Machines.{heavy, asleep, uncounted, counted_already, idle_counted, blocked_in_charge}
 use Rattle.model_weights.proofs.Computed.{Computed, computed_sound}
 use Rattle.model_weights.proofs.ComputedTidy.{computed_tidy, computed_weight, computed_queued, computed_in_charge, computed_idle, computed_nobody, computed_agree, computed_own}

@@ -1,16 +1,15 @@
 -- Operations 4 to 7 and the group write nothing of what tidy and the weights read.
 use Rattle.std.specs.Prelude.{None, Option, Some}
-use mathlib.Core.Path.{◌≡◌, refl, sym, ap, ◌∙◌}
-use mathlib.Core.List.{List, [], ◌∷◌}
+use mathlib.Core.Path.{◌≡◌, refl}
+use mathlib.Core.List.{List}
 use Prim.Native.Nat.{ℕ}
-use lib.ListN.{length, length-set}
-use Rattle.columns.specs.Common.{fold}
+use lib.ListN.{length-set}
 use Rattle.context.specs.declared.Context.{Context}
 use Rattle.context.specs.Block.{Changed}
 use Rattle.context.specs.declared.Status.{Status}
 use Rattle.context.specs.Status.{is_runnable, is_soft_blocked}
 use Rattle.context.specs.Block.{blocked_as, unblocked}
-use Rattle.machine.specs.Machine.{Machine, context_at, cpu_at, set_context, set_cpu}
+use Rattle.machine.specs.Machine.{Machine, cpu_at, set_context, set_cpu}
 use Rattle.machine.specs.Outcome.{Outcome, finished}
 use Rattle.percpu.specs.Cpu.{Cpu}
 use Rattle.model.specs.Tidy.{context}

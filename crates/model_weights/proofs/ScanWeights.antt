@@ -1,12 +1,12 @@
 -- The scan and the clean-up: the weight that is given up is that of the entries that leave.
 use Rattle.std.specs.Prelude.{if◌then◌else◌, None, Option}
-use mathlib.Core.Path.{◌≡◌, refl, subst, sym, ap, ◌∙◌}
-use mathlib.Core.Bool.{Bool, true, false, ◌&&◌}
+use mathlib.Core.Path.{◌≡◌, refl, sym, ap, ◌∙◌}
+use mathlib.Core.Bool.{true, false, ◌&&◌}
 use mathlib.Core.List.{List, [], ◌∷◌, ◌++◌}
 use mathlib.Core.Logic.{◌⊎◌, inl, inr, ◌≢◌}
-use Prim.Native.Nat.{ℕ, ◌+◌, ◌<◌}
+use Prim.Native.Nat.{ℕ, ◌+◌}
 use native.Mathlib.Omega.{arith}
-use lib.ListN.{length, set}
+use lib.ListN.{set}
 use lib.Seq.{set-get_or}
 use Rattle.columns.specs.Common.{fold}
 use Rattle.context.specs.declared.Context.{Context}
@@ -14,16 +14,15 @@ use Rattle.entries.specs.declared.Entry.{Entry}
 use Rattle.entries.specs.Queue.{queue_remove}
 use Rattle.percpu.specs.Cpu.{Cpu}
 use Rattle.machine.specs.Machine.{context_at, no_context}
-use Rattle.model.specs.Scan.{Scan, Visit, pass, gone, blocked, no_addr_space, ready, is_ready_in, is_eligible, visited, scan_step, scan_start, scan}
+use Rattle.model.specs.Scan.{Scan, gone, blocked, no_addr_space, ready, is_ready_in, is_eligible, visited, scan_step, scan_start, scan}
 use Rattle.model.specs.Choice.{without_keys}
 use Rattle.model.proofs.Cases.{by_test, never, pick}
 use Rattle.model.proofs.Lists.{All, In}
-use Rattle.model.proofs.Sorted.{Sorted}
 use Rattle.model.proofs.Queues.{Inv, on, on_here, Has, gone_of, set_view}
 use Rattle.model.proofs.Moves.{now_out, has_take}
 use Rattle.model.proofs.Judged.{put_to_sleep, judge_cases}
 use Rattle.model.proofs.Scanned.{Distinct, Fresh, beyond, verdict, step_is, step_best, all_fresh, found_stays, start_fresh}
-use Rattle.model.proofs.ScanKept.{left, in_here, Scanning, r, only, own, one_more, step_scanning}
+use Rattle.model.proofs.ScanKept.{in_here, Scanning, r, only, own, one_more, step_scanning}
 use Rattle.model_weights.proofs.Sums.{added, added_remove, remove_in}
 use Rattle.model_weights.proofs.Weighing.{Alive, Weights, Change, change, same_marks}
 

@@ -1,6 +1,6 @@
 -- A runnable holder that lost goes back to the queue with its weight: what is left besides the queue is the weight of who is in charge next.
-use Rattle.std.specs.Prelude.{if◌then◌else◌, None, Option, Some, is_some}
-use mathlib.Core.Path.{◌≡◌, refl, subst, sym, ap, ◌∙◌}
+use Rattle.std.specs.Prelude.{None, Option, Some, is_some}
+use mathlib.Core.Path.{◌≡◌, refl, sym, ap, ◌∙◌}
 use mathlib.Core.Bool.{Bool, true, false, not, ◌&&◌, ◌||◌}
 use mathlib.Core.List.{List}
 use mathlib.Core.Logic.{◌⊎◌, inl, inr, ◌≢◌}
@@ -14,14 +14,14 @@ use Rattle.context.specs.Key.{with_new_key, entry_of}
 use Rattle.weights.specs.Weights.{weight}
 use Rattle.entries.specs.declared.Entry.{Entry}
 use Rattle.entries.specs.Queue.{queue_insert}
-use Rattle.machine.specs.Machine.{Machine, context_at, cpu_at}
+use Rattle.machine.specs.Machine.{Machine, cpu_at}
 use Rattle.model.specs.State.{State, at, on_cpu, holder}
 use Rattle.model.specs.Steal.{Stealing, mark_stealable}
 use Rattle.model.specs.Handover.{advance, requeue, settled}
 use Rattle.model.specs.Tidy.{Sound, Present, InCharge, context}
 use Rattle.model.proofs.Cases.{by_test, never, pick, and_both}
 use Rattle.model.proofs.Lists.{In}
-use Rattle.model.proofs.Queues.{Inv, on, Has, Without, gone_of, set_view}
+use Rattle.model.proofs.Queues.{Inv, on, Without, gone_of, set_view}
 use Rattle.model.proofs.Moves.{no_key, has_put, has_new}
 use Rattle.model.proofs.Before.{Roles, roles, Free}
 use Rattle.model.proofs.CpuQueues.{queue_list}

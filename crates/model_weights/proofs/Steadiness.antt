@@ -1,11 +1,11 @@
 -- Every accepted call inside demand 3's condition keeps tidiness, all conditions and the equality; so does a run of any length.
 use mathlib.Core.Path.{◌≡◌, refl, subst, sym}
-use mathlib.Core.Bool.{true, false}
+use mathlib.Core.Bool.{true}
 use mathlib.Core.List.{List, [], ◌∷◌}
 use Prim.Native.Nat.{ℕ}
 use Rattle.context.specs.declared.Status.TheVariants.{Blocked, Stopped}
 use Rattle.machine.specs.Machine.{Machine}
-use Rattle.model.specs.Tidy.{Sound, Tidy, Present}
+use Rattle.model.specs.Tidy.{Sound, Present}
 use Rattle.model.specs.Accepted.{Call, outcome, decides, ServesOwn}
 use Rattle.model.proofs.Cases.{by_test}
 use Rattle.model.proofs.Turn.{Turn}

@@ -1,27 +1,25 @@
 -- Work stealing: the stored totals of this CPU and of every other stay the weights added up.
-use Rattle.std.specs.Prelude.{None, Option, Some}
-use mathlib.Core.Path.{◌≡◌, refl, subst, sym, ap, ◌∙◌}
-use mathlib.Core.Bool.{Bool, true, false}
-use mathlib.Core.List.{List, [], ◌∷◌}
-use mathlib.Core.Logic.{inl, inr, ◌≢◌}
+use Rattle.std.specs.Prelude.{Option, Some}
+use mathlib.Core.Path.{◌≡◌, subst, sym, ◌∙◌}
+use mathlib.Core.Bool.{Bool, true}
+use mathlib.Core.List.{List, ◌∷◌}
+use mathlib.Core.Logic.{◌≢◌}
 use Prim.Native.Nat.{ℕ, ◌+◌, ◌<◌}
 use lib.Dec.{eqb}
 use lib.ListN.{length, get_or, set}
 use lib.Seq.{get_or-set_same, get_or-set_other}
 use borrow.Author.Tests.{eqb-true, eqb-false}
-use Rattle.columns.specs.Common.{fold}
 use Rattle.entries.specs.declared.Entry.{Entry}
 use Rattle.percpu.specs.Cpu.{Cpu}
-use Rattle.machine.specs.Machine.{Machine, context_at, cpu_at, no_cpu}
-use Rattle.model.specs.State.{State, at, on_cpu}
-use Rattle.model.specs.Steal.{Stealing, Moving, move_entry, published, mark_stealable, after_moving, steal}
+use Rattle.machine.specs.Machine.{Machine, cpu_at, no_cpu}
+use Rattle.model.specs.State.{State, at}
+use Rattle.model.specs.Steal.{Stealing, Moving, published, mark_stealable, steal}
 use Rattle.model.specs.Tidy.{Present, context}
 use Rattle.model.proofs.Cases.{by_test}
-use Rattle.model.proofs.Lists.{In}
 use Rattle.model.proofs.Queues.{Inv, on}
 use Rattle.model.proofs.Before.{queues, Free}
 use Rattle.model.proofs.Dequeued.{Winner}
-use Rattle.model.proofs.CpuQueues.{queue_list, on_on}
+use Rattle.model.proofs.CpuQueues.{queue_list}
 use Rattle.model.proofs.Robbed.{start, m₀, m, lot_live, lot_distinct, lot_starts, own_queue, is_queue, r}
 use Rattle.model.proofs.Stolen.{Lot, robbing, steal_cases}
 use Rattle.model_weights.specs.Weighed.{Agree}

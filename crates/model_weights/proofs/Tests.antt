@@ -5,14 +5,14 @@ use mathlib.Core.List.{List, [], ◌∷◌}
 use mathlib.Core.Logic.{inl, inr}
 use Prim.Native.Nat.{ℕ, zero, suc, ◌<◌}
 use lib.Dec.{ltb}
-use lib.ListN.{length, get_or, get_or-eq_default}
+use lib.ListN.{length, get_or-eq_default}
 use borrow.Author.Tests.{ltb-true, ltb-false}
 use Rattle.entries.specs.declared.Entry.{Entry}
 use Rattle.entries.specs.Order.{entry_before}
 use Rattle.percpu.specs.Cpu.{Cpu}
 use Rattle.machine.specs.Machine.{Machine, cpu_at, no_cpu}
 use Rattle.model.proofs.Cases.{by_test, never, and_both}
-use Rattle.model.proofs.Lists.{All, In, all_in}
+use Rattle.model.proofs.Lists.{In, all_in}
 use Rattle.model.proofs.Sorted.{Sorted}
 
 abbrev pub imp : Bool → Bool → Bool

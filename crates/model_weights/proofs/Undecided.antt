@@ -1,17 +1,13 @@
 -- A call of operations 1 to 3 that decides nothing: an undue tick, a direct switch, a direct switch back.
-use Rattle.std.specs.Prelude.{None, Option, Some}
+use Rattle.std.specs.Prelude.{Option, Some}
 use mathlib.Core.Path.{◌≡◌, refl, subst, sym, ◌∙◌}
 use mathlib.Core.Bool.{Bool, true, false, not, ◌&&◌}
-use mathlib.Core.List.{List}
 use Prim.Native.Nat.{ℕ, ◌+◌}
-use native.Mathlib.Omega.{arith}
-use lib.Dec.{ltb, leb, eqb}
+use lib.Dec.{ltb, eqb}
 use lib.ListN.{length, length-set}
 use borrow.Author.Tests.{ltb-false, le-leb}
 use Rattle.context.specs.declared.Context.{Context}
 use Rattle.context.specs.Status.{is_runnable}
-use Rattle.runnable.specs.declared.UpdateResult.{UpdateResult}
-use Rattle.runnable.specs.declared.UpdateResult.TheVariants.{CanSwitch, Skip, Blocked}
 use Rattle.runnable.specs.Runnable.{update_runnable}
 use Rattle.machine.specs.Machine.{Machine, cpu_at}
 use Rattle.model.specs.State.{State, at, put_context, state_of}
@@ -24,7 +20,7 @@ use Rattle.model.proofs.Queues.{set_view}
 use Rattle.model.proofs.Judged.{Switchable, update_cases}
 use Rattle.model.proofs.Demand.{no_direct_switch}
 use Rattle.model.proofs.Ended.{switch_view, switch_count, switch_standing, switch_sched}
-use Rattle.model_weights.proofs.Untouched.{Seen, seen, Watched, watched, Untouched, cpus_set}
+use Rattle.model_weights.proofs.Untouched.{seen, watched, Untouched, cpus_set}
 
 -- not both
 not_and : (a b : Bool) → (a && not b) ≡ false → a ≡ true → b ≡ true

@@ -1,12 +1,11 @@
 -- A call that writes nothing of what tidy and the weights read keeps them all; it leaves the remainders too.
 use Rattle.std.specs.Prelude.{if◌then◌else◌}
-use mathlib.Core.Path.{◌≡◌, refl, subst, sym, ap, ◌∙◌}
+use mathlib.Core.Path.{◌≡◌, subst, sym, ap, ◌∙◌}
 use mathlib.Core.Bool.{Bool, true, false}
 use mathlib.Core.List.{List}
-use mathlib.Core.Logic.{◌≢◌}
-use Prim.Native.Nat.{ℕ, ◌+◌, ◌<◌}
+use Prim.Native.Nat.{ℕ, ◌+◌}
 use lib.Dec.{eqb, ltb}
-use lib.ListN.{length, get_or, set, length-set}
+use lib.ListN.{length, set}
 use lib.Seq.{get_or-set_same, get_or-set_other, set_out}
 use borrow.Author.Tests.{eqb-true, eqb-false, ltb-true, ltb-false}
 use Rattle.columns.specs.Common.{In}
@@ -15,12 +14,12 @@ use Rattle.context.specs.Status.{is_runnable}
 use Rattle.weights.specs.Weights.{weight}
 use Rattle.entries.specs.declared.Entry.{Entry}
 use Rattle.percpu.specs.Cpu.{Cpu}
-use Rattle.machine.specs.Machine.{Machine, context_at, cpu_at, no_cpu}
-use Rattle.model.specs.Tidy.{At, Tidy, Present, Queued, QueuedAt, InCharge, Idle, Live, IsContext, context}
+use Rattle.machine.specs.Machine.{Machine, cpu_at, no_cpu}
+use Rattle.model.specs.Tidy.{At, Tidy, Present, Queued, QueuedAt, InCharge, Idle, context}
 use Rattle.model.proofs.Cases.{by_test, never}
 use Rattle.model.proofs.Queues.{Run, run, Fixed, fixed, agrees_run}
 use Rattle.model.proofs.Ended.{Standing, standing}
-use Rattle.model_weights.specs.Weighed.{Active, NotIdle, MayBeActive, queued, runs, stopped, Weighed, WeighedAlways, Agree}
+use Rattle.model_weights.specs.Weighed.{Active, NotIdle, MayBeActive, queued, runs, stopped, WeighedAlways, Agree}
 use Rattle.model_weights.proofs.Sums.{added, held_weight, total_is}
 
 -- a view of a record, and of a CPU

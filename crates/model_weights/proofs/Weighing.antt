@@ -1,17 +1,16 @@
 -- Who is active and what entries weigh: what every stage keeps, and how one change keeps it.
-use mathlib.Core.Path.{◌≡◌, refl, subst, sym, ap, ◌∙◌}
+use mathlib.Core.Path.{◌≡◌, subst, sym, ap, ◌∙◌}
 use mathlib.Core.Bool.{true, false}
 use mathlib.Core.List.{List}
 use mathlib.Core.Logic.{◌⊎◌, inl, inr, ◌≢◌}
 use Prim.Native.Nat.{ℕ, ◌<◌}
 use lib.Dec.{eqb}
 use lib.ListN.{length, set}
-use lib.Seq.{get_or-set_same, get_or-set_other}
 use borrow.Author.Tests.{eqb-true, eqb-false}
 use Rattle.context.specs.declared.Context.{Context}
 use Rattle.weights.specs.Weights.{weight}
 use Rattle.entries.specs.declared.Entry.{Entry}
-use Rattle.machine.specs.Machine.{context_at, no_context}
+use Rattle.machine.specs.Machine.{context_at}
 use Rattle.model.proofs.Cases.{by_test}
 use Rattle.model.proofs.Lists.{In}
 use Rattle.model.proofs.Queues.{Fixed, at_set, Has}

@@ -5,7 +5,6 @@ use Rattle.context.specs.declared.Context.{Context}
 use Rattle.context.specs.declared.Status.TheVariants.{Blocked}
 use Rattle.context.specs.Key.{without_key}
 use Rattle.context.specs.With.{with_debug_id, with_status, with_running, with_currently_scheduled, with_has_wake, with_wake, with_is_active}
-use Rattle.entries.specs.declared.Entry.{Entry}
 use Rattle.percpu.specs.Cpu.{Cpu}
 use Rattle.percpu.specs.With.{cpu_queue, cpu_timers, cpu_local_wakeup_list, cpu_total_weight, cpu_queue_len, cpu_current_ctxt, cpu_sched_ctxt, cpu_idle_ctxt}
 use Rattle.machine.specs.Machine.{Machine}

@@ -1,7 +1,7 @@
-// The limits that document 01 sets to the image's numbers, and what Rust has as methods of numbers and truths.
+// The limits that document 01 sets to the image's numbers, and the casts between a word and an index.
 #![tactic(auto)]
 
-ghost use Rattle.std.specs.Prelude.{◌≡◌, ◌&&◌, ◌||◌, ℕ};
+ghost use Rattle.std.specs.Prelude.{◌≡◌};
 
 // the greatest of a number that has no range of its own, and of a call's time
 pub const MAX_NUMBER: u64 = (1 << 62) - 1;
@@ -16,6 +16,7 @@ pub const MAX_WORD: u64 = u64::MAX;
 
 pub const NANOS_PER_MILLISECOND: u64 = 1_000_000;
 
+// Named, for `as` says neither which way it goes nor that nothing is cut off, and From and TryFrom have no total cast of these.
 pub fn index(x: u64) -> usize
     ensures { result ≡ x }
 {
@@ -26,23 +27,4 @@ pub fn word(x: usize) -> u64
     ensures { result ≡ x }
 {
     x as u64
-}
-
-// `&&` and `||` as values: one test to branch on.
-pub fn both(a: bool, b: bool) -> bool
-    ensures { result ≡ (a && b) }
-{
-    if a {
-        return b;
-    }
-    false
-}
-
-pub fn either(a: bool, b: bool) -> bool
-    ensures { result ≡ (a || b) }
-{
-    if a {
-        return true;
-    }
-    b
 }

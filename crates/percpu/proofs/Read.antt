@@ -1,6 +1,6 @@
 -- A CPU's lists and its remainder read from its block, and the CPU found from its words. Assumes nothing.
 use mathlib.Core.Path.{◌≡◌, refl, sym, ap, ◌∙◌}
-use Prim.Native.Nat.{ℕ, zero, suc, ◌+◌, ◌-◌, ◌*◌, ◌<◌, ◌≤◌}
+use Prim.Native.Nat.{ℕ, ◌+◌, ◌*◌, ◌<◌, ◌≤◌}
 use native.Mathlib.Omega.{arith}
 use mathlib.Core.List.{List, [], ◌∷◌, ◌++◌, append_assoc, map}
 use lib.ListN.{length, get_or, set, length-append, length-map}
@@ -8,7 +8,7 @@ use lib.Seq.{get_or_at, set_at}
 use Rattle.columns.specs.Common.{tabulate}
 use Rattle.columns.specs.Blocks.{flat, length_flat, part, col_get}
 use Rattle.columns.proofs.Tabulate.{tabulate_is, get_d_map}
-use Rattle.cpu_stats.specs.Words.{stats_words, stats_of, stats_of_words}
+use Rattle.cpu_stats.specs.Words.{stats_words}
 use Rattle.entries.specs.declared.Entry.{Entry}
 use Rattle.entries.specs.declared.Timer.{Timer}
 use Rattle.percpu.specs.Cpu.{Cpu}

@@ -1,8 +1,8 @@
 -- A block whose counts fit, whose marks are marks and whose unused words are 0 is the words of the CPU found in it. Assumes nothing.
-use mathlib.Core.Path.{◌≡◌, refl, sym, ap, ◌∙◌, subst}
-use Prim.Native.Nat.{ℕ, zero, suc, ◌+◌, ◌-◌, ◌*◌, ◌<◌, ◌≤◌}
+use mathlib.Core.Path.{◌≡◌, refl, sym, ap, ◌∙◌}
+use Prim.Native.Nat.{ℕ, zero, suc, ◌+◌, ◌*◌, ◌<◌, ◌≤◌}
 use native.Mathlib.Omega.{arith}
-use mathlib.Core.List.{List, [], ◌∷◌, ◌++◌, map}
+use mathlib.Core.List.{List, [], ◌++◌, map}
 use lib.ListN.{length, get_or, take, drop, length-take, take-append-drop}
 use lib.Seq.{drop-drop, drop-cons, drop-length, get_or-take}
 use Rattle.columns.specs.Common.{tabulate}
@@ -10,11 +10,10 @@ use Rattle.columns.specs.Columns.{pad}
 use Rattle.columns.specs.Laws.{length_pad}
 use Rattle.columns.specs.Blocks.{flat, part, length_part}
 use Rattle.columns.proofs.Tabulate.{tabulate_is, length_tabulate, map_tabulate, mark_word, part_get, part_part, cat_tabulate, column_is}
-use Rattle.cpu_stats.specs.State.{state_number, state_of, state_forth}
+use Rattle.cpu_stats.specs.State.{state_forth}
 use Rattle.cpu_stats.specs.Words.{stats_words, stats_of}
 use Rattle.entries.specs.declared.Entry.{Entry}
 use Rattle.entries.specs.declared.Timer.{Timer}
-use Rattle.percpu.specs.Cpu.{Cpu}
 use Rattle.percpu.specs.Words.{block_words, block_of}
 use Rattle.percpu.specs.Layout.{cpu_words, cpu_of, entry_at, timer_at, counts, columns, last_words, counter}
 use Rattle.percpu.specs.Places.{front_size, local_wakeup_list_column, ipi_context_wakeup_list_column, remainder_place, block_size}

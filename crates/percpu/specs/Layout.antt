@@ -1,6 +1,6 @@
 -- The words of a CPU's block: its scalars, four counts, ten columns of 64, and the remainder. Assumes nothing.
-use Rattle.std.specs.Prelude.{◌≡◌, refl, ℕ, ◌+◌, ◌*◌, List, [], ◌∷◌, ◌++◌, map, length, get_or}
-use Rattle.std.proofs.Common.{sym, ap, ◌∙◌, length-append}
+use Rattle.std.specs.Prelude.{◌≡◌, ℕ, ◌+◌, List, [], ◌∷◌, ◌++◌, map, length, get_or}
+use Rattle.std.proofs.Common.{length-append}
 use Rattle.columns.specs.Common.{tabulate}
 use Rattle.columns.specs.Blocks.{flat, length_flat}
 use Rattle.entries.specs.declared.Entry.{Entry}

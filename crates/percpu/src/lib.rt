@@ -32,6 +32,7 @@ pub struct PercpuBlock {
     pub total_weight: u64,
 }
 
+// By number: these words have places in a block, not of their own.
 fn load_stats(w: &[u64]) -> CpuStats
     requires { length w.now ≡ stats_size }
     ensures { result ≡ stats_of w.now }
@@ -51,22 +52,22 @@ pub fn load_block(w: &[u64]) -> PercpuBlock
     ensures { result ≡ block_of w.now }
 {
     PercpuBlock {
-        present: w[0] == 1,
-        current_ctxt: w[1],
-        sched_ctxt: w[2],
-        idle_ctxt: w[3],
-        schedule_time: w[4],
-        pit_ticks: w[5],
-        being_sigkilled: w[6] == 1,
-        inside_syscall: w[7] == 1,
-        stealable: w[8] == 1,
-        queue_len: w[9],
-        published_weight: w[10],
-        steal_counter: w[11],
-        stats: load_stats(&w[12..18]),
-        queue_locked: w[18] == 1,
-        v: w[19],
-        total_weight: w[20],
+        present: w[places::PRESENT] == 1,
+        current_ctxt: w[places::CURRENT_CTXT],
+        sched_ctxt: w[places::SCHED_CTXT],
+        idle_ctxt: w[places::IDLE_CTXT],
+        schedule_time: w[places::SCHEDULE_TIME],
+        pit_ticks: w[places::PIT_TICKS],
+        being_sigkilled: w[places::BEING_SIGKILLED] == 1,
+        inside_syscall: w[places::INSIDE_SYSCALL] == 1,
+        stealable: w[places::STEALABLE] == 1,
+        queue_len: w[places::QUEUE_LEN],
+        published_weight: w[places::PUBLISHED_WEIGHT],
+        steal_counter: w[places::STEAL_COUNTER],
+        stats: load_stats(&w[places::STATE..places::QUEUE_LOCKED]),
+        queue_locked: w[places::QUEUE_LOCKED] == 1,
+        v: w[places::V],
+        total_weight: w[places::TOTAL_WEIGHT],
     }
 }
 

@@ -1,4 +1,4 @@
-// Where the words of a block stand, and its size. Written by tools/records.py.
+// Where the words of a block stand, its size, and that of a column. Written by tools/records.py.
 pub const PRESENT: usize = 0;
 
 pub const CURRENT_CTXT: usize = 1;
@@ -78,3 +78,5 @@ pub const COLUMNS_END: usize = 665;
 pub const REMAINDER: usize = 665;
 
 pub const BLOCK_SIZE: usize = 666;
+
+pub const ROOM: usize = 64;

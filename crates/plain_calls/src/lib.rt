@@ -16,6 +16,8 @@ ghost use Rattle.plain_calls.specs.Call.{decide_on, decide, direct_switch_by, pl
 ghost use Rattle.refusal.specs.Number.{refusal_of};
 
 use answer::Answer;
+use machine::CpuPlace;
+use operations::Call;
 use refusal::{Refusal, refused};
 use switch_ops::Decision;
 
@@ -31,34 +33,33 @@ fn accepted(res: u64, rule: u64) -> Answer
 }
 
 // Refusals 6 to 8.
-fn check(m: &[u64], c: usize, n: usize, k: usize, time: u64, d: Decision) -> Result<(), Refusal>
-    requires image { Image c n m.now }
-    requires k_lt_c { (k < c) × (TargetBelow n d) }
-    ensures { (M : Machine) → m.now ≡ encode M → Fits c n M → refusal_of result ≡ refusal (call_of d) M k time }
+fn check(m: &[u64], cpu: CpuPlace, time: u64, d: Decision) -> Result<(), Refusal>
+    requires image { Image cpu.c cpu.n m.now }
+    requires bounded { TargetBelow cpu.n d }
+    ensures { (M : Machine) → m.now ≡ encode M → Fits cpu.c cpu.n M → refusal_of result ≡ refusal (call_of d) M cpu.k time }
 {
     match d {
-        Decision::Tick => admission::check_decision(m, c, n, k, time),
-        Decision::Switch => admission::check_decision(m, c, n, k, time),
-        Decision::DirectSwitchTo(x) => admission::check_direct(m, c, n, k, time, x),
+        Decision::Tick => admission::check_decision(m, cpu, time),
+        Decision::Switch => admission::check_decision(m, cpu, time),
+        Decision::DirectSwitchTo(x) => admission::check_direct(m, cpu, time, x),
     }
 }
 
-// On CPU k, which is present. Nothing is written before it is known that there was room.
-fn decide_on(m: &mut [u64], c: usize, n: usize, k: usize, time: u64, d: Decision) -> Answer
-    requires image { Image c n m.old }
-    requires k_lt_c { (k < c) × (time ≤ max_number) × (TargetBelow n d) }
-    requires ranged { Ranged c n max_number max_number m.old }
-    ensures { (M : Machine) → m.old ≡ encode M → Fits c n M → reply result m.new ≡ decide_on m.old M k time (call_of d) }
+// On a CPU that is present. Nothing is written before it is known that there was room.
+fn decide_on(m: &mut [u64], cpu: CpuPlace, time: u64, d: Decision) -> Answer
+    requires image { Image cpu.c cpu.n m.old }
+    requires bounded { (time ≤ max_number) × (TargetBelow cpu.n d) }
+    requires ranged { Ranged cpu.c cpu.n max_number max_number m.old }
+    ensures { (M : Machine) → m.old ≡ encode M → Fits cpu.c cpu.n M → reply result m.new ≡ decide_on m.old M cpu.k time (call_of d) }
 {
-    if let Err(refusal) = check(m, c, n, k, time, d) {
+    if let Err(refusal) = check(m, cpu, time, d) {
         return refused(refusal);
     }
-    let decided = plain_ops::decide(m, c, n, k, time, d);
-    let state = decided.state;
-    if state.no_room {
+    let decided = plain_ops::decide(m, cpu, time, d);
+    if decided.state.no_room {
         return refused(Refusal::NoRoom);
     }
-    plain_ops::store(m, c, n, k, decided);
+    plain_ops::store(m, cpu, decided);
     accepted(decided.result, decided.rule)
 }
 
@@ -68,9 +69,8 @@ fn decide(m: &mut [u64], c: usize, n: usize, cpu: u64, time: u64, d: Decision) -
     requires ranged { Ranged c n max_number max_number m.old }
     ensures { (M : Machine) → m.old ≡ encode M → Fits c n M → reply result m.new ≡ decide m.old M cpu time (call_of d) }
 {
-    let p = machine::get_percpu_block(m, c, n, cpu);
-    match p {
-        Some(k) => decide_on(m, c, n, k, time, d),
+    match machine::get_percpu_block(m, c, n, cpu) {
+        Some(k) => decide_on(m, CpuPlace { c, n, k }, time, d),
         None => refused(Refusal::Name),
     }
 }
@@ -81,8 +81,7 @@ fn direct_switch_to(m: &mut [u64], c: usize, n: usize, cpu: u64, time: u64, cont
     requires ranged { Ranged c n max_number max_number m.old }
     ensures { (M : Machine) → m.old ≡ encode M → Fits c n M → reply result m.new ≡ direct_switch_by m.old M cpu time (look_up M context) }
 {
-    let l = machine::look_up(m, c, n, context);
-    let Some(x) = l else {
+    let Some(x) = machine::look_up(m, c, n, context) else {
         return refused(Refusal::Name);
     };
     decide(m, c, n, cpu, time, Decision::DirectSwitchTo(x))
@@ -92,8 +91,7 @@ fn direct_switch_to(m: &mut [u64], c: usize, n: usize, cpu: u64, time: u64, cont
 fn tick_call(image: &mut [u64], cpu: u64, time: u64) -> Answer
     ensures { reply result image.new ≡ checked image.old time (λ (M : Machine). decide image.old M cpu time by_tick) }
 {
-    let checked = calls::check(image, time);
-    match checked {
+    match calls::check(image, time) {
         Err(refusal) => refused(refusal),
         Ok((c, n)) => decide(image, c, n, cpu, time, Decision::Tick),
     }
@@ -103,8 +101,7 @@ fn tick_call(image: &mut [u64], cpu: u64, time: u64) -> Answer
 fn switch_call(image: &mut [u64], cpu: u64, time: u64) -> Answer
     ensures { reply result image.new ≡ checked image.old time (λ (M : Machine). decide image.old M cpu time by_switch) }
 {
-    let checked = calls::check(image, time);
-    match checked {
+    match calls::check(image, time) {
         Err(refusal) => refused(refusal),
         Ok((c, n)) => decide(image, c, n, cpu, time, Decision::Switch),
     }
@@ -114,8 +111,7 @@ fn switch_call(image: &mut [u64], cpu: u64, time: u64) -> Answer
 fn direct_switch_call(image: &mut [u64], cpu: u64, time: u64, context: u64) -> Answer
     ensures { reply result image.new ≡ checked image.old time (λ (M : Machine). direct_switch_by image.old M cpu time (look_up M context)) }
 {
-    let checked = calls::check(image, time);
-    match checked {
+    match calls::check(image, time) {
         Err(refusal) => refused(refusal),
         Ok((c, n)) => direct_switch_to(image, c, n, cpu, time, context),
     }
@@ -129,6 +125,14 @@ pub fn call(image: &mut [u64], operation: u64, cpu: u64, time: u64, context: u64
         1 => tick_call(image, cpu, time),
         2 => switch_call(image, cpu, time),
         3 => direct_switch_call(image, cpu, time, context),
-        _ => operations::call(image, operation, cpu, time, context),
+        _ => {
+            let q = Call {
+                operation,
+                cpu,
+                time,
+                context,
+            };
+            operations::call(image, q)
+        }
     }
 }

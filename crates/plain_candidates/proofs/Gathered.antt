@@ -3,12 +3,12 @@ use Rattle.std.specs.Prelude.{if◌then◌else◌, Option}
 use mathlib.Core.Path.{◌≡◌, refl, sym, ap, ◌∙◌, subst}
 use mathlib.Core.Bool.{Bool, true, false, not, ◌&&◌}
 use mathlib.Core.List.{List, [], ◌∷◌, ◌++◌}
-use Prim.Native.Nat.{ℕ, suc, ◌+◌, ◌-◌, ◌/◌, ◌<◌, ◌≤◌, min, max}
+use Prim.Native.Nat.{ℕ, ◌+◌, ◌-◌, ◌/◌, ◌<◌, ◌≤◌, min, max}
 use native.Mathlib.Omega.{arith}
 use lib.Dec.{leb, ltb}
-use lib.ListN.{length, get_or, take, length-append}
+use lib.ListN.{length, take, length-append}
 use lib.Seq.{take_all}
-use borrow.Author.Tests.{eq-eqb, ne_eqb, ltb-true}
+use borrow.Author.Tests.{ltb-true}
 use Rattle.columns.specs.Common.{fold, All}
 use Rattle.context.specs.declared.Context.{Context}
 use Rattle.entries.specs.declared.Entry.{Entry}
@@ -23,7 +23,6 @@ use Rattle.plain_model.specs.Rank.{by_rank}
 use Rattle.plain_model.specs.Steal.{can_be_stolen, take_candidate, candidates}
 use Rattle.plain_lists.specs.Lists.{Queue}
 use Rattle.plain_lists.specs.Lists.{entries_of, Stands}
-use Rattle.plain_lists.proofs.Folds.{fold_next, all_get_d}
 use Rattle.plain_lists.proofs.Listing.{length_items}
 use Rattle.plain_state.specs.declared.Cpu.{Cpu}
 use Rattle.plain_state.specs.declared.State.{State}
@@ -64,29 +63,6 @@ module _ (k : ℕ) (locked : List ℕ) (cs : List Context) (w : Option ℕ) (wan
         stands = g;
       }
 
-  module _ (n : ℕ) (xs : List Entry) (got : Queue) (i : ℕ) (c : Gathering n xs got i) (h : i < length xs) where
-    pub gather_room : got.len < 64
-    gather_room = let u : length xs ≤ 64 = c.many in let l : got.len ≤ i = c.few in omega arith
-
-    module _ (d : Entry) where
-      pub gather_fits : EntryFits n (get_or xs i d)
-      gather_fits = all_get_d (EntryFits n) xs i d h c.fit
-
-      pub gathers : {r : Queue} → Stands r (take_candidate k locked cs w wanted (entries_of got) (get_or xs i d)) → r.len ≤ suc got.len → Gathering n xs r (i + 1)
-      gathers {r} t l =
-          let m : got.len ≤ i = c.few in
-          record {
-            fit = c.fit;
-            many = c.many;
-            few = omega arith;
-            stands = record {
-              sized = t.sized;
-              is =
-                  t.is ∙ ap (λ (z : List Entry). take_candidate k locked cs w wanted z (get_or xs i d)) c.stands.is
-                  ∙ sym (fold_next (take_candidate k locked cs w wanted) [] xs i d h);
-            };
-          }
-
   pub gathered : (n : ℕ) (q turns got : Queue) (xs : List Entry) (i : ℕ) → Gathering n xs got i → length xs ≤ i → Stands turns (by_rank entry_before (entries_of q)) → xs ≡ entries_of turns
       → Stands got (candidates k locked cs w wanted (entries_of q))
   unfolding candidates
@@ -121,16 +97,6 @@ module _ (k : ℕ) (locked : List ℕ) (cs : List Context) (w : Option ℕ) (wan
 module _ (n : ℕ) (s : State) (o : Sound n s) where
   here : length (entries_of s.cpu.queue) ≡ s.cpu.queue.len
   here = length_items s.cpu.queue
-
-  pub idle_load : s.cpu.block.sched_ctxt ≡ s.cpu.block.idle_ctxt → (s.cpu.queue.len ≡ my_load (state_in n s)) × (s.cpu.queue.len ≤ 65)
-  idle_load e =
-      let u : s.cpu.queue.len ≤ 64 = o.queue.used in
-      (rw (eq-eqb s.cpu.block.sched_ctxt s.cpu.block.idle_ctxt e, here) (omega arith), omega arith)
-
-  pub busy_load : (s.cpu.block.sched_ctxt ≡ s.cpu.block.idle_ctxt → ⊥) → (s.cpu.queue.len + 1 ≡ my_load (state_in n s)) × (s.cpu.queue.len + 1 ≤ 65)
-  busy_load e =
-      let u : s.cpu.queue.len ≤ 64 = o.queue.used in
-      (rw (ne_eqb s.cpu.block.sched_ctxt s.cpu.block.idle_ctxt e, here), omega arith)
 
   module _ (v : Cpu) where
     pub can_steal : {load published : ℕ} {a b : Bool} → load ≡ my_load (state_in n s) → published ≡ v.block.queue_len → a ≡ has_enough v.block.stealable published v.block.queue_locked v.queue.len load

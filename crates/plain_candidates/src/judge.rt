@@ -48,40 +48,23 @@ fn is_held(t: Thief, got: Queue, x: usize) -> bool
     t.locked.contains(x) || t.winner == Some(x) || is_taken(got, numbers::word(x))
 }
 
+#[tactic(auto, unfolding(steal_judge::specs::Judged::may_move))]
 fn may_move(q: Context, cpu: u64) -> bool
     requires { cpu < 64 }
     ensures { result ≡ may_move cpu q }
 {
-    if !cpu_set::contains(q.sched_affinity, cpu) {
-        return false;
-    }
-    if !q.status.is_runnable() {
-        return false;
-    }
-    if q.running {
-        return false;
-    }
-    if q.currently_scheduled {
-        return false;
-    }
-    !(q.addr_space == 2)
+    cpu_set::contains(q.sched_affinity, cpu)
+        && q.status.is_runnable()
+        && !q.running
+        && !q.currently_scheduled
+        && q.addr_space != 2
 }
 
 // q is the record of context x.
+#[tactic(auto, unfolding(crate::specs::Stolen::stolen_record))]
 pub fn can_be_stolen(t: Thief, got: Queue, x: usize, q: Context) -> bool
     requires { t.cpu < 64 }
     ensures { result ≡ stolen_record t.cpu (locked_of t.locked) t.winner (entries_of got) x q }
 {
-    if q.gone {
-        return false;
-    }
-    let free = q.lock == 0;
-    if !free {
-        return false;
-    }
-    if is_held(t, got, x) {
-        return false;
-    }
-    let cpu = numbers::word(t.cpu);
-    may_move(q, cpu)
+    !q.gone && q.lock == 0 && !is_held(t, got, x) && may_move(q, numbers::word(t.cpu))
 }

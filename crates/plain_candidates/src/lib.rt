@@ -26,9 +26,7 @@ fn take_candidate(s: State, n: usize, t: Thief, got: Queue, e: Entry) -> Queue
 {
     let x = numbers::index(e.context_ref);
     let q = s.context(n, x);
-    let wanted = got.len < t.want;
-    let b = numbers::both(wanted, judge::can_be_stolen(t, got, x, q));
-    got.push_if(b, e)
+    got.push_if(got.len < t.want && judge::can_be_stolen(t, got, x, q), e)
 }
 
 // The first that can be stolen, each in its turn; later ones are looked at and left.

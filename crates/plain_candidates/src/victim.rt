@@ -17,29 +17,22 @@ fn my_load(s: State, n: usize) -> usize
 {
     let b = s.cpu.block;
     if b.sched_ctxt == b.idle_ctxt {
-        return s.cpu.queue.len;
+        s.cpu.queue.len
+    } else {
+        s.cpu.queue.len + 1
     }
-    s.cpu.queue.len + 1
 }
 
-// The length is tested as published, then as it is.
+// The length is tested as published, without a sum that may wrap, then as it is.
+#[tactic(auto, unfolding(steal_judge::specs::Judged::has_enough))]
 fn has_enough(stealable: bool, published: usize, locked: bool, len: usize, load: usize) -> bool
     requires { (len ≤ 64) × (load ≤ 65) }
     ensures { result ≡ has_enough stealable published locked len load }
 {
-    if !stealable {
-        return false;
-    }
-    // as published + 1 < load + STEAL_THRESHOLD, without a sum that may wrap
-    if published < load + 1 {
-        return false;
-    }
-    if locked {
-        return false;
-    }
-    load + STEAL_THRESHOLD <= len + 1
+    stealable && load < published && !locked && load + STEAL_THRESHOLD <= len + 1
 }
 
+#[tactic(auto, unfolding(model::specs::Steal::can_steal_from))]
 pub fn can_steal_from(s: State, n: usize, v: Cpu) -> bool
     requires { Sound n s }
     ensures { result ≡ can_steal_from (state_in n s) (cpu_in v) }
@@ -47,20 +40,13 @@ pub fn can_steal_from(s: State, n: usize, v: Cpu) -> bool
     let b = v.block;
     let load = my_load(s, n);
     let published = numbers::index(b.queue_len);
-    let enough = has_enough(b.stealable, published, b.queue_locked, v.queue.len, load);
-    numbers::both(b.present, enough)
+    b.present && has_enough(b.stealable, published, b.queue_locked, v.queue.len, load)
 }
 
 fn half_of(there: usize, here: usize) -> usize
     ensures { (result ≡ max 1 (min max_steal ((there - here) / 2))) × (result ≤ 2) }
 {
-    if there < here {
-        return 1;
-    }
-    if (there - here) / 2 < MAX_STEAL {
-        return 1;
-    }
-    MAX_STEAL
+    (there.saturating_sub(here) / 2).min(MAX_STEAL).max(1)
 }
 
 // Half of what it has more, at least one and at most MAX_STEAL.

@@ -30,12 +30,12 @@ fn named(late: Option<Entry>) -> Option<usize>
 }
 
 // An eligible entry, whose record is q: an eligible holder stays for an earlier deadline, or at the same one for more slice.
+#[tactic(auto, unfolding(crate::specs::Table::against))]
 fn against(h: Holder, late: Option<Entry>, e: Entry, q: Context) -> Choice
     ensures { choice_of result ≡ against h late e q }
 {
     let kept = named(late);
-    let sooner = h.vd < q.vd;
-    if numbers::both(h.eligible, sooner) {
+    if h.eligible && h.vd < q.vd {
         return Choice {
             winner: None,
             v: h.v,
@@ -43,10 +43,7 @@ fn against(h: Holder, late: Option<Entry>, e: Entry, q: Context) -> Choice
             rule: Rule::HolderDeadline,
         };
     }
-    let same = h.vd == q.vd;
-    let more = q.rem_slice < h.rem_slice;
-    let longer = numbers::both(same, more);
-    if numbers::both(h.eligible, longer) {
+    if h.eligible && h.vd == q.vd && q.rem_slice < h.rem_slice {
         return Choice {
             winner: None,
             v: h.v,
@@ -63,13 +60,12 @@ fn against(h: Holder, late: Option<Entry>, e: Entry, q: Context) -> Choice
 }
 
 // Nobody is eligible, and e has the least late vtime, which becomes V.
+#[tactic(auto, unfolding(crate::specs::Table::late_entry))]
 fn late_entry(h: Holder, e: Entry) -> Choice
     ensures { choice_of result ≡ late_entry h e }
 {
     let x = numbers::index(e.context_ref);
-    let key = e.key;
-    let earlier = h.vtime <= e.vtime;
-    if numbers::both(h.runnable, earlier) {
+    if h.runnable && h.vtime <= e.vtime {
         return Choice {
             winner: None,
             v: e.vtime,
@@ -77,8 +73,7 @@ fn late_entry(h: Holder, e: Entry) -> Choice
             rule: Rule::HolderVtime,
         };
     }
-    let sooner = h.vd <= key.vd;
-    if numbers::both(h.runnable, sooner) {
+    if h.runnable && h.vd <= e.key.vd {
         return Choice {
             winner: None,
             v: e.vtime,
@@ -95,6 +90,7 @@ fn late_entry(h: Holder, e: Entry) -> Choice
 }
 
 // Nobody is eligible, and no entry is ready.
+#[tactic(auto, unfolding(crate::specs::Table::alone))]
 fn alone(h: Holder) -> Choice
     ensures { choice_of result ≡ alone h }
 {
@@ -115,6 +111,7 @@ fn alone(h: Holder) -> Choice
 }
 
 // No eligible entry was found.
+#[tactic(auto, unfolding(crate::specs::Table::without_entry))]
 fn without_entry(h: Holder, late: Option<Entry>) -> Choice
     ensures { choice_of result ≡ without_entry h late }
 {

@@ -1,63 +1,30 @@
 -- The end of a decision, and a switch without one, in the code's words. Assumes nothing.
 use mathlib.Core.Path.{◌≡◌, sym, ap, ◌∙◌, subst}
-use mathlib.Core.Bool.{true, false}
+use mathlib.Core.Bool.{true}
 use mathlib.Core.List.{List}
-use Prim.Native.Nat.{ℕ, ◌<◌, ◌≤◌}
-use native.Mathlib.Omega.{arith}
+use Prim.Native.Nat.{ℕ}
 use lib.Dec.{eqb}
-use borrow.Author.Tests.{eq-eqb, ne_eqb}
-use Rattle.cpu_stats.specs.declared.CpuState.TheVariants.{Idle}
-use Rattle.cpu_stats.specs.declared.CpuStats.{CpuStats}
-use Rattle.cpu_stats.specs.With.{stats_state}
-use Rattle.percpu.specs.declared.PercpuBlock.{PercpuBlock}
 use Rattle.percpu.specs.Cpu.{Cpu}
-use Rattle.percpu.specs.With.{block_stats, cpu_block}
 use Rattle.machine.specs.Outcome.{Outcome}
 use Rattle.answer.specs.declared.SwitchResult.TheVariants.{Switched, AllContextsIdle}
 use Rattle.answer.specs.Number.{result_number, rule_number}
 use Rattle.model.specs.State as model
-use Rattle.model.specs.State.{on_cpu}
-use Rattle.model.specs.SwitchTo.{switch_to, try_direct_switch_back}
+use Rattle.model.specs.SwitchTo.{try_direct_switch_back}
 use Rattle.model.specs.Schedule.{Scheduled, finish_by, finish, switch_as, after_schedule}
 use Rattle.model.proofs.Cases.{pick, never}
 use Rattle.model.proofs.NoRoom.{Full, switch_to_full}
-use Rattle.stages.specs.Stage.{StateBelow}
-use Rattle.stages.specs.Bounds.{t_handed, b_advanced}
-use Rattle.stages.proofs.Kept.{state_more}
-use Rattle.plain_model.specs.State.{placed}
 use Rattle.plain_model.specs.Schedule.{schedule, switch_inner_by, switch_inner}
 use Rattle.plain_state.specs.declared.State.{State}
-use Rattle.plain_state.specs.States.{state_in, Sound, Became, Tracks}
-use Rattle.plain_state.proofs.Tracking.{became_tracks}
-use Rattle.plain_turn.specs.Turns.{CanBegin}
-use Rattle.plain_handover.proofs.Settling.{became_as, is_itself}
+use Rattle.plain_state.specs.States.{state_in, Became, Tracks}
 use Rattle.std.specs.Prelude.{None, Some, Option}
 use Rattle.std.proofs.Common.{refl}
 use Rattle.plain_switch.specs.Direct.{Switches}
 use Rattle.plain_steal.specs.declared.cpus.Cpus.{Cpus}
 use Rattle.plain_steal.specs.Stealing.{cpus_in, CpusSound}
 use Rattle.plain_schedule.specs.declared.Next.{Next}
-use Rattle.plain_schedule.specs.Next.{NextTracks, NextFits, next_in}
+use Rattle.plain_schedule.specs.Next.{NextTracks, next_in}
 use Rattle.plain_decide.specs.declared.switching.Decided.{Decided}
-use Rattle.plain_decide.specs.Decided.{DecidedTracks, CpusHere, marked_idle, switched_to}
-
-pub below_four : {n c k : ℕ} {cpus : Cpus} → CpusHere n c k cpus → k < 4
-below_four {c = c} a =
-    let u : c ≤ 4 = a.all.few in
-    omega (arith, a.here)
-
--- the CPU is marked Idle
-pub idle_marked : (n : ℕ) (s : State) {t : CpuStats} {r : State} → t ≡ stats_state Idle s.cpu.block.stats
-    → Became n r (on_cpu (cpu_block (block_stats t s.cpu.block)) (state_in n s)) → Became n r (marked_idle (state_in n s))
-idle_marked n s e b = became_as (ap (λ (z : CpuStats). on_cpu (cpu_block (block_stats z s.cpu.block)) (state_in n s)) e) b
-
--- x may be the current context
-module _ (n k time x : ℕ) (s : State) {w : ℕ} (e : w ≡ x) where
-  pub is_current : Sound n s → s.cpu.block.current_ctxt ≡ w → Tracks n s (switched_to k time x (state_in n s))
-  is_current o h = rw (eq-eqb s.cpu.block.current_ctxt x (h ∙ e)) (became_tracks (is_itself o))
-
-  pub not_current : {r : State} → (s.cpu.block.current_ctxt ≡ w → ⊥) → Tracks n r (switch_to k time x (state_in n s)) → Tracks n r (switched_to k time x (state_in n s))
-  not_current h t = rw (ne_eqb s.cpu.block.current_ctxt x (λ z. h (z ∙ sym e))) t
+use Rattle.plain_decide.specs.Decided.{DecidedTracks, marked_idle, switched_to}
 
 -- by who was picked
 module _ (n c k time : ℕ) (m : Next) (a : CpusSound c m.cpus) {u : ℕ} (hu : u ≡ rule_number m.rule) where
@@ -90,9 +57,6 @@ module _ (n c k time : ℕ) (m : Next) (a : CpusSound c m.cpus) {u : ℕ} (hu : 
   unfolding after_schedule
   got_slice {x} {t} {r} h b e = subst (λ (w : Option ℕ). DecidedTracks n c k (record { state = t; cpus = m.cpus; result = r; rule = u }) (ends w)) (sym h) (ends_switched x b e)
 
-pub slice_named : {n t b x : ℕ} {m : Next} → NextFits n t b m → m.context ≡ Some x → x < n
-slice_named {x = x} f e = f.named x e
-
 -- no room was found before
 as_full : (k time rule : ℕ) (s : model.State) (cpus : List Cpu) (o : Option ℕ) → Full s → (switch_as k time rule s cpus o).no_room ≡ true
 unfolding switch_as
@@ -110,10 +74,6 @@ module _ (n c k time : ℕ) (s : State) (cpus : Cpus) {m : Next} (hm : NextTrack
   no_decision h =
       let f : (after_schedule k time (schedule k time (cpus_in c cpus) (state_in n s))).no_room ≡ true = after_full k time (schedule k time (cpus_in c cpus) (state_in n s)) (sym hm.room ∙ h) in
       record { sound = hm.sound; cpus = hm.cpus; room = h ∙ sym f; is = λ z. never f z }
-
-  pub decided : {r : Decided} → m.state.no_room ≡ false → DecidedTracks n c k r (after_schedule k time (next_in n c m))
-      → DecidedTracks n c k r (after_schedule k time (schedule k time (cpus_in c cpus) (state_in n s)))
-  decided {r} h t = subst (λ (d : Scheduled). DecidedTracks n c k r (after_schedule k time d)) (hm.is (sym hm.room ∙ h)) t
 
 -- a direct switch gives the outcome
 pub directly : {n c : ℕ} (k : ℕ) {cpus : Cpus} → CpusSound c cpus → {t : State} {S : model.State} {r : Decided} → Tracks n t S
@@ -145,6 +105,3 @@ module _ (n c k time : ℕ) (s : State) (cpus : Cpus) where
       → DecidedTracks n c k r (after_schedule k time (schedule k time (cpus_in c cpus) (state_in n s))) → DecidedTracks n c k r (switch_inner k time (cpus_in c cpus) (state_in n s))
   unfolding switch_inner
   not_back w t = not_back_by (try_direct_switch_back k time (state_in n s)) w t
-
-pub back_below : {n time : ℕ} {S : model.State} → CanBegin n time S → StateBelow n t_handed b_advanced (placed S)
-back_below a = state_more (omega arith) (omega arith) a.below

@@ -19,7 +19,7 @@ use answer::SwitchResult;
 use cpu_stats::CpuState;
 use plain_schedule::Next;
 use plain_state::State;
-use plain_steal::Cpus;
+use plain_steal::{Caller, Cpus};
 
 // The state, every CPU (this one as it was), the number of what the switch came to and that of its rule, 0 where nothing was decided.
 // Where an insertion found no room, these say nothing.
@@ -37,8 +37,8 @@ pub fn switched(state: State, cpus: Cpus) -> Decided
     ensures { result ≡ record { state = state; cpus = cpus; result = result_number Switched; rule = 0 } }
 {
     Decided {
-        state: state,
-        cpus: cpus,
+        state,
+        cpus,
         result: u64::from(SwitchResult::Switched),
         rule: 0,
     }
@@ -53,33 +53,33 @@ fn mark_idle(s: State, n: usize) -> State
     plain_handover::with_block(s, n, b)
 }
 
-fn switch_unless_current(s: State, n: usize, k: usize, time: u64, x: usize) -> State
-    requires sound { (Sound n s) × (StateFits n (state_in n s)) × (x < n) × (k < 4) × (time ≤ max_number) }
-    requires state_below { StateBelow n t_handed b_advanced (placed (state_in n s)) }
-    ensures { Tracks n result (switched_to k time x (state_in n s)) }
+fn switch_unless_current(s: State, by: Caller, x: usize) -> State
+    requires sound { (Sound by.n s) × (StateFits by.n (state_in by.n s)) × (x < by.n) × (by.k < 4) × (by.time ≤ max_number) }
+    requires state_below { StateBelow by.n t_handed b_advanced (placed (state_in by.n s)) }
+    ensures { Tracks by.n result (switched_to by.k by.time x (state_in by.n s)) }
 {
-    let b = s.cpu.block;
-    if b.current_ctxt == numbers::word(x) {
-        return s;
+    if s.cpu.block.current_ctxt == numbers::word(x) {
+        s
+    } else {
+        plain_switch::switch_to(s, by.n, by.k, by.time, x)
     }
-    plain_switch::switch_to(s, n, k, time, x)
 }
 
 // Keeping the holder is AllContextsIdle and marks the CPU Idle, though the holder may run.
-fn switch_as(next: Next, n: usize, c: usize, k: usize, time: u64) -> Decided
-    requires sound { (Sound n next.state) × (CpusSound c next.cpus) × (k < 4) × (time ≤ max_number) }
-    requires next_fits { NextFits n t_handed b_advanced next }
-    ensures { DecidedTracks n c k result (after_schedule k time (next_in n c next)) }
+fn switch_as(next: Next, by: Caller) -> Decided
+    requires sound { (Sound by.n next.state) × (CpusSound by.c next.cpus) × (by.k < 4) × (by.time ≤ max_number) }
+    requires next_fits { NextFits by.n t_handed b_advanced next }
+    ensures { DecidedTracks by.n by.c by.k result (after_schedule by.k by.time (next_in by.n by.c next)) }
 {
     match next.context {
         None => Decided {
-            state: mark_idle(next.state, n),
+            state: mark_idle(next.state, by.n),
             cpus: next.cpus,
             result: u64::from(SwitchResult::AllContextsIdle),
             rule: u64::from(next.rule),
         },
         Some(x) => Decided {
-            state: switch_unless_current(next.state, n, k, time, x),
+            state: switch_unless_current(next.state, by, x),
             cpus: next.cpus,
             result: u64::from(SwitchResult::Switched),
             rule: u64::from(next.rule),
@@ -87,32 +87,31 @@ fn switch_as(next: Next, n: usize, c: usize, k: usize, time: u64) -> Decided
     }
 }
 
-fn decide(s: State, n: usize, c: usize, k: usize, time: u64, cpus: Cpus) -> Decided
-    requires sound { (Sound n s) × (s.no_room ≡ false) × (time ≤ max_number) }
-    requires can_begin { (CanBegin n time (state_in n s)) × (CpusHere n c k cpus) }
-    ensures { DecidedTracks n c k result (after_schedule k time (schedule k time (cpus_in c cpus) (state_in n s))) }
+fn decide(s: State, by: Caller, cpus: Cpus) -> Decided
+    requires sound { (Sound by.n s) × (s.no_room ≡ false) × (by.time ≤ max_number) }
+    requires can_begin { (CanBegin by.n by.time (state_in by.n s)) × (CpusHere by.n by.c by.k cpus) }
+    ensures { DecidedTracks by.n by.c by.k result (after_schedule by.k by.time (schedule by.k by.time (cpus_in by.c cpus) (state_in by.n s))) }
 {
-    let next = plain_schedule::schedule(s, n, c, k, time, cpus);
-    let state = next.state;
-    let others = next.cpus;
-    if state.no_room {
-        return Decided {
-            state: state,
-            cpus: others,
+    let next = plain_schedule::schedule(s, by, cpus);
+    if next.state.no_room {
+        Decided {
+            state: next.state,
+            cpus: next.cpus,
             result: 0,
             rule: 0,
-        };
+        }
+    } else {
+        switch_as(next, by)
     }
-    switch_as(next, n, c, k, time)
 }
 
-pub fn switch_inner(s: State, n: usize, c: usize, k: usize, time: u64, cpus: Cpus) -> Decided
-    requires sound { (Sound n s) × (s.no_room ≡ false) × (time ≤ max_number) }
-    requires can_begin { (CanBegin n time (state_in n s)) × (CpusHere n c k cpus) }
-    ensures { DecidedTracks n c k result (switch_inner k time (cpus_in c cpus) (state_in n s)) }
+pub fn switch_inner(s: State, by: Caller, cpus: Cpus) -> Decided
+    requires sound { (Sound by.n s) × (s.no_room ≡ false) × (by.time ≤ max_number) }
+    requires can_begin { (CanBegin by.n by.time (state_in by.n s)) × (CpusHere by.n by.c by.k cpus) }
+    ensures { DecidedTracks by.n by.c by.k result (switch_inner by.k by.time (cpus_in by.c cpus) (state_in by.n s)) }
 {
-    match plain_switch::try_direct_switch_back(s, n, k, time) {
+    match plain_switch::try_direct_switch_back(s, by.n, by.k, by.time) {
         Some(state) => switched(state, cpus),
-        None => decide(s, n, c, k, time, cpus),
+        None => decide(s, by, cpus),
     }
 }

@@ -24,12 +24,8 @@ fn advanced(mut b: PercpuBlock, elapsed_ticks: u64, somebody: bool) -> PercpuBlo
     requires { (b.v ≤ b_stolen) × (elapsed_ticks ≤ max_gain) }
     ensures { result ≡ advanced_by somebody elapsed_ticks b }
 {
-    if somebody {
-        if b.total_weight == 0 {
-            return b;
-        }
-        b.v = b.v + elapsed_ticks / b.total_weight;
-        return b;
+    if somebody && b.total_weight != 0 {
+        b.v += elapsed_ticks / b.total_weight;
     }
     b
 }
@@ -40,8 +36,7 @@ pub fn advance(s: State, n: usize, elapsed_ticks: u64, somebody: bool) -> State
     requires v_le_b_stolen { (s.cpu.block.v ≤ b_stolen) × (elapsed_ticks ≤ max_gain) }
     ensures { Became n result (advance_by somebody elapsed_ticks (state_in n s)) }
 {
-    let after = advanced(s.cpu.block, elapsed_ticks, somebody);
-    with_block(s, n, after)
+    with_block(s, n, advanced(s.cpu.block, elapsed_ticks, somebody))
 }
 
 // Another CPU may steal where the queue has an entry.

@@ -20,11 +20,9 @@ fn give_up(mut q: Context, time: u64, was_idle: bool) -> Context
     ensures { result ≡ given_up time was_idle q }
 {
     q.currently_scheduled = false;
-    if was_idle {
-        return q;
+    if !was_idle {
+        q.sched_cpu_time += time.saturating_sub(q.schedule_time);
     }
-    let elapsed = time.saturating_sub(q.schedule_time);
-    q.sched_cpu_time = q.sched_cpu_time + elapsed;
     q
 }
 
@@ -40,9 +38,7 @@ fn take_over(s: State, n: usize, time: u64, x: usize) -> State
     requires { (Sound n s) × (x < n) }
     ensures { Became n result (taken_over time x (state_in n s)) }
 {
-    let q = s.context(n, x);
-    let after = take(q, time);
-    let t = s.put_context(n, x, after);
+    let t = s.put_context(n, x, take(s.context(n, x), time));
     let mut b = s.cpu.block;
     b.sched_ctxt = numbers::word(x);
     advancing::with_block(t, n, b)
@@ -55,8 +51,6 @@ pub fn hand_over(s: State, n: usize, time: u64, was_idle: bool, x: usize) -> Sta
     ensures { Became n result (hand_over time was_idle x (state_in n s)) }
 {
     let y = numbers::index(s.cpu.block.sched_ctxt);
-    let q = s.context(n, y);
-    let after = give_up(q, time, was_idle);
-    let t = s.put_context(n, y, after);
+    let t = s.put_context(n, y, give_up(s.context(n, y), time, was_idle));
     take_over(t, n, time, x)
 }

@@ -24,10 +24,11 @@ fn send_back(s: State, n: usize, won: bool, runs: bool) -> State
     requires { (Sound n s) × (HolderFits n (state_in n s)) }
     ensures { Tracks n result (sent_back won runs (state_in n s)) }
 {
-    if numbers::both(won, runs) {
-        return requeuing::requeue(s, n);
+    if won && runs {
+        requeuing::requeue(s, n)
+    } else {
+        s
     }
-    s
 }
 
 // After the stealing. `runs`: the holder is runnable; `winner`: who won, if anybody.
@@ -37,27 +38,25 @@ pub fn settle(s: State, n: usize, runs: bool, winner: Option<usize>, elapsed_tic
     ensures { Tracks n result (settled runs elapsed_ticks (stealing_of (state_in n s) winner)) }
 {
     let won = winner.is_some();
-    let somebody = numbers::either(won, runs);
-    let t = advancing::advance(s, n, elapsed_ticks, somebody);
-    let u = send_back(t, n, won, runs);
-    advancing::mark_stealable(u, n)
+    let t = advancing::advance(s, n, elapsed_ticks, won || runs);
+    advancing::mark_stealable(send_back(t, n, won, runs), n)
 }
 
 // Nobody won: a runnable holder keeps the slice, and so does the idle context.
+#[tactic(auto, unfolding(model::specs::Handover::next_context))]
 fn without_winner(s: State, n: usize, runs: bool) -> Option<usize>
     ensures { result ≡ next_context runs None (state_in n s) }
 {
-    if runs {
-        return None;
-    }
     let b = s.cpu.block;
-    if b.sched_ctxt == b.idle_ctxt {
-        return None;
+    if runs || b.sched_ctxt == b.idle_ctxt {
+        None
+    } else {
+        Some(numbers::index(b.idle_ctxt))
     }
-    Some(numbers::index(b.idle_ctxt))
 }
 
 // Who gets the slice. Nobody as an answer: the holder keeps it.
+#[tactic(auto, unfolding(model::specs::Handover::next_context))]
 pub fn next_context(s: State, n: usize, runs: bool, winner: Option<usize>) -> Option<usize>
     ensures { result ≡ next_context runs winner (state_in n s) }
 {

@@ -14,9 +14,7 @@ fn entry_of(x: usize, q: Context) -> Entry
     requires { q.prio < 40 }
     ensures { result ≡ entry_of x (weight q.prio) q }
 {
-    let weight = weights::weight_of(q.prio);
-    let name = numbers::word(x);
-    q.entry(name, weight)
+    q.entry(numbers::word(x), weights::weight_of(q.prio))
 }
 
 // Its old key leaves.
@@ -25,10 +23,10 @@ fn take_out(s: State, n: usize, q: Context) -> State
     ensures { Became n result (taken_out_by q (state_in n s)) }
 {
     if q.has_queue_key {
-        let key = q.queue_key();
-        return s.remove_key(n, key);
+        s.remove_key(n, q.queue_key())
+    } else {
+        s
     }
-    s
 }
 
 // q is the record of context x.
@@ -36,11 +34,9 @@ fn requeue_context(s: State, n: usize, x: usize, q: Context) -> State
     requires { (Sound n s) × (x < n) × (q.prio < 40) }
     ensures { Tracks n result (requeued_by x q (state_in n s)) }
 {
-    let t = take_out(s, n, q);
-    let after = q.with_new_key();
-    let u = t.put_context(n, x, after);
-    let e = entry_of(x, q);
-    u.insert_entry(n, e)
+    take_out(s, n, q)
+        .put_context(n, x, q.with_new_key())
+        .insert_entry(n, entry_of(x, q))
 }
 
 pub fn requeue(s: State, n: usize) -> State
@@ -48,6 +44,5 @@ pub fn requeue(s: State, n: usize) -> State
     ensures { Tracks n result (requeue (state_in n s)) }
 {
     let x = numbers::index(s.cpu.block.sched_ctxt);
-    let q = s.context(n, x);
-    requeue_context(s, n, x, q)
+    requeue_context(s, n, x, s.context(n, x))
 }

@@ -10,7 +10,7 @@ use Rattle.entries.specs.declared.Entry.{Entry}
 use Rattle.entries.specs.Order.{entry_before}
 use Rattle.percpu.specs.Cpu.{Cpu}
 use Rattle.machine.specs.Machine.{context_at}
-use Rattle.model.specs.Scan.{Scan, Visit, pass, gone, blocked, no_addr_space, ready, judge, visit, visited, scan_step, scan_start, scan}
+use Rattle.model.specs.Scan.{Scan, Visit, pass, gone, blocked, no_addr_space, ready, judge, visit, visited, scan_step, scan}
 use Rattle.plain_model.specs.Rank.{by_rank}
 use Rattle.plain_model.specs.State.{placed_cpu}
 use Rattle.plain_model.specs.Scan as plain

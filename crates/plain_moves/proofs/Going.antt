@@ -1,11 +1,10 @@
 -- Entries moved one after the other. Assumes nothing.
-use mathlib.Core.Path.{◌≡◌, refl, sym, ap, ◌∙◌, subst}
-use mathlib.Core.Bool.{Bool, false}
+use mathlib.Core.Path.{◌≡◌, sym, ◌∙◌, subst}
+use mathlib.Core.Bool.{Bool}
 use mathlib.Core.List.{List}
 use Prim.Native.Nat.{ℕ, ◌+◌, ◌*◌, ◌<◌, ◌≤◌}
 use native.Mathlib.Omega.{arith}
 use lib.ListN.{length, get_or, take}
-use lib.Seq.{take_all}
 use Rattle.columns.specs.Common.{fold, All}
 use Rattle.context.specs.declared.Context.{Context}
 use Rattle.context.specs.Key.{with_new_key}
@@ -14,19 +13,14 @@ use Rattle.machine.specs.Machine.{context_at, no_context}
 use Rattle.machine.specs.Shape.{EntryFits}
 use Rattle.machine.proofs.Steps.{get_d_set}
 use Rattle.weights.specs.Weights.{full_slice, max_weight}
-use Rattle.model.specs.State as model
 use Rattle.model.specs.Steal as model_steal
 use Rattle.model.specs.Steal.{moved, first_wins}
 use Rattle.model.proofs.Cases.{by_test, never}
 use Rattle.plain_model.specs.Steal.{move_entry}
-use Rattle.plain_lists.specs.Lists.{Queue}
-use Rattle.plain_lists.specs.Lists.{entries_of}
-use Rattle.plain_lists.proofs.Listing.{length_items}
-use Rattle.plain_state.specs.States.{state_in, Sound}
 use Rattle.plain_lists.proofs.Folds.{fold_next, all_get_d}
 use Rattle.stages.specs.Bounds.{b_charged}
 use Rattle.plain_moves.specs.declared.Moving.{Moving}
-use Rattle.plain_moves.specs.Moves.{CpuSound, moving_in, MovingTracks, Movable, MovedBelow, stolen_record}
+use Rattle.plain_moves.specs.Moves.{moving_in, MovingTracks, MovedBelow, stolen_record}
 use Rattle.plain_moves.proofs.Moved.{move_stays}
 
 -- what one move adds
@@ -71,15 +65,6 @@ module _ (n i : ℕ) (runs : Bool) (M : model_steal.Moving) (e : Entry) (f : Ent
         slice = λ y l. get_d_set M.state.contexts x y (with_new_key q) no_context (λ (c : Context). c.rem_slice ≤ full_slice) (o.slice x f.name) (o.slice y l);
       }))
 
-pub movable : (n i : ℕ) (s : model.State) → i < 2 → MovedBelow n i s → Movable n s
-movable n i s h o =
-    record {
-      v = o.v;
-      total_weight = let a : s.cpu.block.total_weight ≤ b_charged + max_weight * i = o.total_weight in omega arith;
-      vtime = λ x l. let a : (context_at s.contexts x).vtime ≤ b_charged * (i + 1) = o.vtime x l in omega arith;
-      slice = o.slice;
-    }
-
 -- a move after what may have found no room
 pub moves_then : (n : ℕ) (runs : Bool) (e : Entry) {m r : Moving} {M : model_steal.Moving} → MovingTracks n m M → MovingTracks n r (move_entry runs (moving_in n m) e) → MovingTracks n r (move_entry runs M e)
 moves_then n runs e {m} {r} {M} a b =
@@ -100,19 +85,7 @@ pub record Going (n : ℕ) (runs : Bool) (M : model_steal.Moving) (xs : List Ent
   pub below : MovedBelow n i (fold (move_entry runs) M (take i xs)).state
   pub tracks : MovingTracks n m (fold (move_entry runs) M (take i xs))
 
-pub goes : (n : ℕ) (runs : Bool) (es : Queue) (xs : List Entry) (m : Moving) → xs ≡ entries_of es → Sound n m.state → CpuSound m.victim → es.len ≤ 2 → All (EntryFits n) (entries_of es)
-    → MovedBelow n 0 (state_in n m.state) → Going n runs (moving_in n m) xs m 0
-goes n runs es xs m e o v h f b =
-    let l : length xs ≡ es.len = ap length e ∙ length_items es in
-    record { few = omega arith; fit = rw e f; below = b; tracks = record { state = o; victim = v; room = refl; is = λ k. refl } }
-
 module _ (n : ℕ) (runs : Bool) (M : model_steal.Moving) (xs : List Entry) (m : Moving) (i : ℕ) (c : Going n runs M xs m i) (h : i < length xs) where
-  pub can_move : m.state.no_room ≡ false → Movable n (state_in n m.state)
-  can_move z =
-      let l : length xs ≤ 2 = c.few in
-      let y : moving_in n m ≡ fold (move_entry runs) M (take i xs) = c.tracks.is (sym c.tracks.room ∙ z) in
-      subst (λ (a : model_steal.Moving). Movable n a.state) (sym y) (movable n i (fold (move_entry runs) M (take i xs)).state (omega arith) c.below)
-
   module _ (d : Entry) where
     pub goes_fits : EntryFits n (get_or xs i d)
     goes_fits = all_get_d (EntryFits n) xs i d h c.fit
@@ -127,6 +100,3 @@ module _ (n : ℕ) (runs : Bool) (M : model_steal.Moving) (xs : List Entry) (m :
           below = subst (λ (a : model_steal.Moving). MovedBelow n (i + 1) a.state) y (move_adds n i runs N (get_or xs i d) goes_fits c.below);
           tracks = subst (λ (a : model_steal.Moving). MovingTracks n r a) y (moves_then n runs (get_or xs i d) c.tracks t);
         }
-
-pub gone_through : (n : ℕ) (runs : Bool) (M : model_steal.Moving) (xs : List Entry) (m : Moving) (i : ℕ) → Going n runs M xs m i → length xs ≤ i → MovingTracks n m (fold (move_entry runs) M xs)
-gone_through n runs M xs m i c h = subst (λ (l : List Entry). MovingTracks n m (fold (move_entry runs) M l)) (take_all i xs h) c.tracks

@@ -56,7 +56,7 @@ fn add_weight(s: State, n: usize, weight: u64) -> State
     ensures { Became n result (heavier weight (state_in n s)) }
 {
     let mut b = s.cpu.block;
-    b.total_weight = b.total_weight + weight;
+    b.total_weight += weight;
     plain_handover::with_block(s, n, b)
 }
 
@@ -65,21 +65,15 @@ fn queue_in(s: State, n: usize, x: usize, q: Context, weight: u64) -> State
     requires { (Sound n s) × (x < n) }
     ensures { Tracks n result (insert_entry (entry_of x weight q) (put_context x (with_new_key q) (state_in n s))) }
 {
-    let after = q.with_new_key();
-    let t = s.put_context(n, x, after);
-    let name = numbers::word(x);
-    let e = q.entry(name, weight);
-    t.insert_entry(n, e)
+    s.put_context(n, x, q.with_new_key())
+        .insert_entry(n, q.entry(numbers::word(x), weight))
 }
 
 // The first stolen wins where nobody else runs.
 fn first_wins(runs: bool, w: Option<usize>) -> bool
     ensures { result ≡ first_wins runs w }
 {
-    match w {
-        None => !runs,
-        Some(_) => false,
-    }
+    w.is_none() && !runs
 }
 
 // The entry leaves the victim, and its weight comes here.
@@ -100,16 +94,16 @@ fn take_in(m: Moving, n: usize, runs: bool, x: usize, q: Context, weight: u64) -
     ensures { MovingTracks n result (taken_in runs x q weight (moving_in n m)) }
 {
     if first_wins(runs, m.winner) {
-        return Moving {
+        Moving {
             state: m.state.put_context(n, x, q),
-            victim: m.victim,
             winner: Some(x),
-        };
-    }
-    Moving {
-        state: queue_in(m.state, n, x, q, weight),
-        victim: m.victim,
-        winner: m.winner,
+            ..m
+        }
+    } else {
+        Moving {
+            state: queue_in(m.state, n, x, q, weight),
+            ..m
+        }
     }
 }
 

@@ -1,31 +1,21 @@
 -- The words that are written stand for the machine decided on, every list placed. Assumes nothing.
 use mathlib.Core.Path.{◌≡◌, refl, ap, ◌∙◌}
 use mathlib.Core.List.{List, [], ◌∷◌, map}
-use Prim.Native.Nat.{ℕ, zero, suc, ◌≤◌}
+use Prim.Native.Nat.{ℕ, ◌≤◌}
 use native.Mathlib.Omega.{arith}
 use lib.ListN.{length, take, set}
 use lib.Seq.{length-take-le}
-use Rattle.columns.specs.Common.{All}
 use Rattle.percpu.specs.Cpu.{Cpu}
 use Rattle.machine.specs.Machine.{Machine}
 use Rattle.machine.specs.Encode.{encode}
 use Rattle.plain_model.specs.State.{placed_cpu, placed_machine}
 use Rattle.plain_state.specs.declared.Cpu as code
-use Rattle.plain_state.specs.declared.State.{State}
-use Rattle.plain_state.specs.States.{cpu_in, CpuSound, Sound}
+use Rattle.plain_state.specs.States.{cpu_in, Sound}
 use Rattle.plain_words.specs.Stored.{ImageSized, Encoded, placed_in, with_contexts, with_cpus}
 use Rattle.plain_steal.specs.declared.cpus.Cpus.{Cpus}
 use Rattle.plain_steal.specs.Stealing.{cpus_in, CpusBecame}
 use Rattle.plain_decide.specs.declared.switching.Decided.{Decided}
 use Rattle.plain_decide.specs.Decided.{decided_in}
-
-pub cpu_sound : {n : ℕ} {s : State} → Sound n s → CpuSound s.cpu
-cpu_sound o = record { queue = o.queue; timers = o.timers; local = o.local; ipi = o.ipi; flat = o.flat }
-
-pub all_taken : (c : ℕ) (l : List code.Cpu) → All CpuSound l → All CpuSound (take c l)
-all_taken zero l a = tt
-all_taken (suc c) [] a = tt
-all_taken (suc c) (p ∷ l) a = (a.0, all_taken c l a.1)
 
 placed_all : (l : List code.Cpu) → map placed_in l ≡ map placed_cpu (map cpu_in l)
 placed_all [] = refl

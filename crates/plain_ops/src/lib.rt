@@ -1,5 +1,5 @@
 // Operations 1 to 3 of the plain engine on an image that refusals 1 to 8 let pass: read, decided by value, built afresh.
-// In every function m is the image of a machine of c CPUs and n contexts, and k a CPU of it.
+// In every function m is an image (crate machine says why it stays apart), and cpu the place in it of a CPU.
 #![tactic(auto)]
 
 ghost use Rattle.std.specs.Prelude.{◌≡◌, ◌<◌};
@@ -15,65 +15,63 @@ ghost use Rattle.plain_words.specs.Stored.{ImageSized, Encoded};
 ghost use Rattle.plain_decide.specs.Decided.{decided_in, DecidedTracks};
 ghost use Rattle.plain_ops.specs.Loaded.{LoadedOf, Callable};
 
+use machine::CpuPlace;
 use plain_decide::Decided;
 use plain_state::State;
-use plain_steal::Cpus;
+use plain_steal::{Caller, Cpus};
 use switch_ops::Decision;
 
-// CPU k's state, and every CPU.
+// The CPU's state, and every CPU.
 #[derive(Clone, Copy)]
 pub struct Loaded {
     pub state: State,
     pub cpus: Cpus,
 }
 
-fn load(m: &[u64], c: usize, n: usize, k: usize) -> Loaded
-    requires image { Image c n m.now }
-    requires k_lt_c { k < c }
-    ensures { LoadedOf c n k m.now result }
+fn load(m: &[u64], cpu: CpuPlace) -> Loaded
+    requires image { Image cpu.c cpu.n m.now }
+    ensures { LoadedOf cpu.c cpu.n cpu.k m.now result }
 {
-    let contexts = plain_words::load_contexts(m, c, n);
-    let all = plain_words::load_cpus(m, c, n);
+    // the check takes no array straight from a call
+    let contexts = plain_words::load_contexts(m, cpu.c, cpu.n);
+    let all = plain_words::load_cpus(m, cpu.c, cpu.n);
     let cpus = Cpus { cpus: all };
-    let cpu = cpus.cpu(c, k);
     let state = State {
-        contexts: contexts,
-        cpu: cpu,
+        contexts,
+        cpu: cpus.cpu(cpu.c, cpu.k),
         no_room: false,
     };
-    Loaded {
-        state: state,
-        cpus: cpus,
-    }
+    Loaded { state, cpus }
 }
 
-pub fn decide(m: &[u64], c: usize, n: usize, k: usize, time: u64, d: Decision) -> Decided
-    requires image { Image c n m.now }
-    requires callable { Callable c n k time d m.now }
-    ensures { (M : Machine) → m.now ≡ encode M → Fits c n M → DecidedTracks n c k result (outcome_before (call_of d) k time M) }
+pub fn decide(m: &[u64], cpu: CpuPlace, time: u64, d: Decision) -> Decided
+    requires image { Image cpu.c cpu.n m.now }
+    requires callable { Callable cpu.c cpu.n cpu.k time d m.now }
+    ensures { (M : Machine) → m.now ≡ encode M → Fits cpu.c cpu.n M → DecidedTracks cpu.n cpu.c cpu.k result (outcome_before (call_of d) cpu.k time M) }
 {
-    let loaded = load(m, c, n, k);
+    let loaded = load(m, cpu);
     let s = loaded.state;
     let cpus = loaded.cpus;
+    let by = Caller {
+        n: cpu.n,
+        c: cpu.c,
+        k: cpu.k,
+        time,
+    };
     match d {
-        Decision::Tick => plain_decide::tick(s, n, c, k, time, cpus),
-        Decision::Switch => plain_decide::switch(s, n, c, k, time, cpus),
-        Decision::DirectSwitchTo(x) => plain_decide::direct_switch_to(s, n, c, k, time, x, cpus),
+        Decision::Tick => plain_decide::tick(s, by, cpus),
+        Decision::Switch => plain_decide::switch(s, by, cpus),
+        Decision::DirectSwitchTo(x) => plain_decide::direct_switch_to(s, by, x, cpus),
     }
 }
 
 // Every list is placed.
-pub fn store(m: &mut [u64], c: usize, n: usize, k: usize, d: Decided)
-    requires image_sized { ImageSized c n m.old }
-    requires sound { (Sound n d.state) × (CpusSound c d.cpus) × (k < c) }
-    ensures { Encoded c n m.old m.new (λ (M : Machine). placed_machine (decided_in n c k d).machine) }
+pub fn store(m: &mut [u64], cpu: CpuPlace, d: Decided)
+    requires image_sized { ImageSized cpu.c cpu.n m.old }
+    requires sound { (Sound cpu.n d.state) × (CpusSound cpu.c d.cpus) × (cpu.k < cpu.c) }
+    ensures { Encoded cpu.c cpu.n m.old m.new (λ (M : Machine). placed_machine (decided_in cpu.n cpu.c cpu.k d).machine) }
 {
-    let state = d.state;
-    let others = d.cpus;
-    let cpu = state.cpu;
-    let contexts = state.contexts;
-    let cpus = others.put(c, k, cpu);
-    let all = cpus.cpus;
-    plain_words::store::store_contexts(m, c, n, contexts);
-    plain_words::store::store_cpus(m, c, n, all);
+    let cpus = d.cpus.put(cpu.c, cpu.k, d.state.cpu);
+    plain_words::store::store_contexts(m, cpu.c, cpu.n, d.state.contexts);
+    plain_words::store::store_cpus(m, cpu.c, cpu.n, cpus.cpus);
 }

@@ -1,33 +1,22 @@
 -- The scan's records, and what leaves. Assumes nothing.
-use Rattle.std.specs.Prelude.{if◌then◌else◌, Option, Some, is_some}
+use Rattle.std.specs.Prelude.{if◌then◌else◌}
 use mathlib.Core.Path.{◌≡◌, refl, sym, ap, ◌∙◌}
-use mathlib.Core.Bool.{Bool, true, false, not, ◌&&◌}
-use mathlib.Core.List.{List, [], ◌∷◌, ◌++◌, map}
-use Prim.Native.Nat.{ℕ, suc, ◌+◌, ◌<◌, ◌≤◌}
+use mathlib.Core.Bool.{Bool, true, false}
+use Prim.Native.Nat.{ℕ, ◌≤◌}
 use native.Mathlib.Omega.{arith}
-use lib.ListN.{length, get_or, set, length-set}
+use lib.ListN.{set, length-set}
 use Rattle.context.specs.declared.Context.{Context}
 use Rattle.entries.specs.declared.Entry.{Entry}
-use Rattle.machine.specs.Machine.{no_context}
-use borrow.Author.Tests.{le-leb, lt-leb}
 use Rattle.plain_model.specs.Scan.{stored, given_up, taken, looked_at, scan_step}
 use Rattle.select_judge.specs.declared.Visit.{Visit}
 use Rattle.select_judge.specs.declared.Visit.TheVariants.{Pass, Gone, Blocked, NoAddrSpace, Ready}
-use Rattle.plain_lists.specs.Lists.{Queue}
-use Rattle.plain_lists.proofs.Arrays.{read_front, take_set}
-use Rattle.plain_lists.specs.Lists.{entries_of, Stands}
+use Rattle.plain_lists.proofs.Arrays.{take_set}
 use Rattle.plain_scan.specs.declared.Scan.{Scan}
 use Rattle.plain_scan.specs.Scanned.{scan_of, record_in, passed_over, Sound, Grows}
 use Rattle.select_judge.specs.declared.Scanner.{Scanner}
-use Rattle.select_judge.specs.Values.{BestBelow, visit_of, scanner_cpu}
+use Rattle.select_judge.specs.Values.{visit_of, scanner_cpu}
 use Rattle.model.specs.Scan as model
-use Rattle.model.specs.Scan.{above, below, is_of, judge, ineligible_min_vtime, is_eligible}
-
-pub record_is : (n : ℕ) (s : Scan) (x : ℕ) (d : Context) → Sound n s → x < n → get_or s.contexts x d ≡ record_in n s x
-record_is n s x d o h =
-    let a : length s.contexts ≡ 64 = o.contexts in
-    let b : n ≤ 64 = o.few in
-    read_front s.contexts n x d no_context h (omega arith)
+use Rattle.model.specs.Scan.{judge}
 
 pub stored_is : (n : ℕ) (s : Scan) (e : Entry) (x : ℕ) (q : Context) → Sound n s → x ≡ e.context_ref
     → (scan_of n (record { contexts = set s.contexts x q; eligible_best = s.eligible_best; ineligible_best = s.ineligible_best; weight_change = s.weight_change; leaving = s.leaving }) ≡ stored e q (scan_of n s))
@@ -40,70 +29,6 @@ stored_is n s e x q o h = (
     weight = omega arith;
   },
 )
-
-map_behind : (l : List Entry) (e : Entry) → map (λ (f : Entry). f.key) (l ++ (e ∷ [])) ≡ map (λ (f : Entry). f.key) l ++ (e.key ∷ [])
-map_behind [] e = refl
-map_behind (x ∷ l) e = ap (λ (z : List _). x.key ∷ z) (map_behind l e)
-
-pub given_up_is : (n : ℕ) (s : Scan) (e : Entry) (w : ℕ) {q : Queue} → Sound n s → Stands q (entries_of s.leaving ++ (e ∷ [])) → q.len ≡ suc s.leaving.len
-    → (scan_of n (record { contexts = s.contexts; eligible_best = s.eligible_best; ineligible_best = s.ineligible_best; weight_change = s.weight_change + w; leaving = q }) ≡ given_up w e (scan_of n s))
-    × Grows n 1 w s (record { contexts = s.contexts; eligible_best = s.eligible_best; ineligible_best = s.ineligible_best; weight_change = s.weight_change + w; leaving = q })
-given_up_is n s e w {q} o t h = (
-  rw (t.is, map_behind (entries_of s.leaving) e),
-  record { sound = record { contexts = o.contexts; few = o.few; leaving = t.sized; best = o.best; late = o.late }; leaving = omega arith; weight = omega arith },
-)
-
--- three flags, from what the code's tests said
-module _ (n : ℕ) (t : Scanner) (s : Scan) (e : Entry) where
-  abbrev found : Bool
-  found = is_some s.eligible_best
-
-  abbrev late : Bool
-  late = above (ineligible_min_vtime s.ineligible_best t.ineligible_holder) e.vtime && not (is_eligible (scanner_cpu t) e)
-
-  abbrev same : Bool
-  same = is_of s.ineligible_best e.context_ref
-
-  pub over_found : {r : Bool} → r ≡ found → r ≡ true → true ≡ passed_over n t s e
-  unfolding passed_over
-  over_found p q = rw (sym p ∙ q)
-
-  module _ {r : Bool} (p : r ≡ found) (q : r ≡ false) where
-    pub over_late : {u : Bool} → u ≡ late → u ≡ true → true ≡ passed_over n t s e
-    unfolding passed_over
-    over_late f g = rw (sym p ∙ q, sym f ∙ g)
-
-    module _ {u : Bool} (f : u ≡ late) (g : u ≡ false) where
-      pub over_locked : {v : Bool} (c : Context) → c ≡ record_in n s e.context_ref → v ≡ same → v ≡ true → not c.gone ≡ passed_over n t s e
-      unfolding passed_over
-      over_locked c k a b = rw (sym p ∙ q, sym f ∙ g, sym a ∙ b, k)
-
-      pub not_over : {v : Bool} → v ≡ same → v ≡ false → false ≡ passed_over n t s e
-      unfolding passed_over
-      not_over a b = rw (sym p ∙ q, sym f ∙ g, sym a ∙ b)
-
--- a ready entry
-module _ (n : ℕ) (t : Scanner) (e : Entry) (s : Scan) (o : Sound n s) (b : e.context_ref < n) where
-  abbrev after : (Option Entry) → (Option Entry) → Scan
-  after best late = record { contexts = s.contexts; eligible_best = best; ineligible_best = late; weight_change = s.weight_change; leaving = s.leaving }
-
-  abbrev Taken : Scan → Type 0
-  Taken r = (scan_of n r ≡ taken t.cpu_id t.time (scanner_cpu t) t.ineligible_holder e (scan_of n s)) × Grows n 0 0 s r
-
-  kept : (best late : (Option Entry)) → BestBelow n best → BestBelow n late → Grows n 0 0 s (after best late)
-  kept best late x y = record { sound = record { contexts = o.contexts; few = o.few; leaving = o.leaving; best = x; late = y }; leaving = omega arith; weight = omega arith }
-
-  pub taken_eligible : e.vtime ≤ t.v → Taken (after (Some e) s.ineligible_best)
-  taken_eligible h = (rw (le-leb e.vtime t.v h), kept (Some e) s.ineligible_best b o.late)
-
-  abbrev earlier : Bool
-  earlier = below (ineligible_min_vtime s.ineligible_best t.ineligible_holder) e.vtime
-
-  pub taken_late : {u : Bool} → t.v < e.vtime → u ≡ earlier → u ≡ true → Taken (after s.eligible_best (Some e))
-  taken_late h p q = (rw (lt-leb e.vtime t.v h, sym p ∙ q), kept s.eligible_best (Some e) o.best b)
-
-  pub taken_not : {u : Bool} → t.v < e.vtime → u ≡ earlier → u ≡ false → Taken s
-  taken_not h p q = (rw (lt-leb e.vtime t.v h, sym p ∙ q), kept s.eligible_best s.ineligible_best o.best o.late)
 
 -- an entry that is looked at
 module _ (n : ℕ) (t : Scanner) (e : Entry) (s : Scan) where

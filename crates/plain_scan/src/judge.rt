@@ -53,20 +53,14 @@ fn is_after(late: Option<Entry>, h: Option<u64>, v: u64) -> bool
 pub fn is_later(t: Scanner, late: Option<Entry>, e: Entry) -> bool
     ensures { result ≡ (above (ineligible_min_vtime late t.ineligible_holder) e.vtime && not (is_eligible (scanner_cpu t) e)) }
 {
-    let h = t.ineligible_holder;
-    let after = is_after(late, h, e.vtime);
-    let eligible = e.vtime <= t.v;
-    numbers::both(after, !eligible)
+    is_after(late, t.ineligible_holder, e.vtime) && t.v < e.vtime
 }
 
 // An entry was found.
 pub fn is_over(best: Option<Entry>) -> bool
     ensures { result ≡ is_some best }
 {
-    match best {
-        None => false,
-        Some(_) => true,
-    }
+    best.is_some()
 }
 
 // The best late entry so far keeps the lock of context x.
@@ -83,10 +77,7 @@ pub fn locks(late: Option<Entry>, x: u64) -> bool
 pub fn weight_of(active: bool, weight: u64) -> u64
     ensures { (result ≡ if active then weight else 0) × (result ≤ weight) }
 {
-    if active {
-        return weight;
-    }
-    0
+    if active { weight } else { 0 }
 }
 
 // A blocked context leaves the queue: no slice, not active, no key.
@@ -107,14 +98,16 @@ fn by_update(q: Context, u: UpdateResult) -> Visit
         UpdateResult::Blocked => Visit::Blocked(stopped(q)),
         UpdateResult::CanSwitch(a) => {
             if q.addr_space == 2 {
-                return Visit::NoAddrSpace(a);
+                Visit::NoAddrSpace(a)
+            } else {
+                Visit::Ready(a)
             }
-            Visit::Ready(a)
         }
     }
 }
 
 // What an entry is to the scan, whose context's record is q.
+#[tactic(auto, unfolding(model::specs::Scan::judge))]
 pub fn visit(t: Scanner, q: Context, e: Entry) -> Visit
     requires { t.cpu_id < 64 }
     ensures { visit_of result ≡ judge t.cpu_id t.time (scanner_cpu t) q e }
@@ -123,12 +116,11 @@ pub fn visit(t: Scanner, q: Context, e: Entry) -> Visit
     if q.gone {
         return Visit::Gone;
     }
-    if numbers::either(x == t.idle_ctxt, x == t.sched_ctxt) {
+    if x == t.idle_ctxt || x == t.sched_ctxt || q.lock != 0 {
         return Visit::Pass;
     }
-    if q.lock != 0 {
-        return Visit::Pass;
-    }
-    let u = runnable::update_runnable(q, t.cpu_id, t.time, false, x == t.current_ctxt);
-    by_update(q, u)
+    by_update(
+        q,
+        runnable::update_runnable(q, t.cpu_id, t.time, false, x == t.current_ctxt),
+    )
 }

@@ -41,22 +41,14 @@ impl Scan {
     }
 
     // One of three flags is set: an eligible entry was found, this one is too late, or its context's lock is taken.
+    #[tactic(auto, unfolding(crate::specs::Scanned::passed_over))]
     fn passes_over(self, n: usize, t: Scanner, e: Entry, q: Context) -> bool
         requires { q ≡ record_in n self e.context_ref }
         ensures { result ≡ passed_over n t self e }
     {
-        let best = self.eligible_best;
-        let late = self.ineligible_best;
-        if judge::is_over(best) {
-            return true;
-        }
-        if judge::is_later(t, late, e) {
-            return true;
-        }
-        if judge::locks(late, e.context_ref) {
-            return !q.gone;
-        }
-        false
+        judge::is_over(self.eligible_best)
+            || judge::is_later(t, self.ineligible_best, e)
+            || judge::locks(self.ineligible_best, e.context_ref) && !q.gone
     }
 
     // Its record as it was judged.
@@ -87,11 +79,8 @@ impl Scan {
     {
         if e.vtime <= t.v {
             self.eligible_best = Some(e);
-            return self;
-        }
-        if judge::is_earlier(self.ineligible_best, t.ineligible_holder, e.vtime) {
+        } else if judge::is_earlier(self.ineligible_best, t.ineligible_holder, e.vtime) {
             self.ineligible_best = Some(e);
-            return self;
         }
         self
     }

@@ -1,19 +1,13 @@
 -- The choice and the stealing, in the code's words. Assumes nothing.
 use Rattle.std.specs.Prelude.{None, Option, Some, is_some, option_to_list}
 use mathlib.Core.Path.{◌≡◌, refl, sym, ap, ◌∙◌, subst}
-use mathlib.Core.Bool.{Bool, true, false, ◌&&◌}
+use mathlib.Core.Bool.{Bool, false}
 use mathlib.Core.List.{◌∷◌}
-use Prim.Native.Nat.{ℕ, ◌<◌, ◌≤◌}
+use Prim.Native.Nat.{ℕ, ◌<◌}
 use native.Mathlib.Omega.{arith}
-use lib.Dec.{eqb}
-use borrow.Author.Tests.{eq-eqb, ne_eqb}
-use Rattle.context.specs.declared.Context.{Context}
-use Rattle.context.specs.Status.{is_runnable}
 use Rattle.answer.specs.declared.Rule.{Rule}
-use Rattle.answer.specs.declared.Rule.TheVariants.{Stolen, Idle}
-use Rattle.answer.specs.Number.{rule_number}
 use Rattle.model.specs.State as model
-use Rattle.model.specs.State.{at, prev_runnable}
+use Rattle.model.specs.State.{prev_runnable}
 use Rattle.model.specs.Steal as model_steal
 use Rattle.stages.specs.Stage.{StateBelow}
 use Rattle.stages.specs.Bounds.{t_timed, b_charged, b_stolen}
@@ -37,26 +31,6 @@ use Rattle.plain_schedule.specs.Next.{CanChoose, NextTracks, NextFits, stolen}
 use Rattle.plain_schedule.proofs.Full.{chosen_room}
 use Rattle.plain_schedule.proofs.Fitted.{chosen_fits, chosen_below, cpus_ranged}
 
--- whether the holder is runnable
-module _ (n : ℕ) (s : State) where
-  pub runs_idle : s.cpu.block.sched_ctxt ≡ s.cpu.block.idle_ctxt → false ≡ prev_runnable (state_in n s)
-  runs_idle e = rw (eq-eqb s.cpu.block.sched_ctxt s.cpu.block.idle_ctxt e)
-
-  pub runs_by : {x : ℕ} {q : Context} {r : Bool} → (s.cpu.block.sched_ctxt ≡ s.cpu.block.idle_ctxt → ⊥) → x ≡ s.cpu.block.sched_ctxt → q ≡ at (state_in n s) x
-      → r ≡ is_runnable q.status → r ≡ prev_runnable (state_in n s)
-  runs_by d h e f = rw (ne_eqb s.cpu.block.sched_ctxt s.cpu.block.idle_ctxt d) (f ∙ ap (λ (z : Context). is_runnable z.status) (e ∙ ap (at (state_in n s)) h))
-
--- the rule, once it is known whether somebody was stolen
-module _ (rule : Rule) (stole : Bool) {a b : ℕ} {z : Bool} (ha : a ≡ rule_number rule) (hb : b ≡ rule_number Idle) (hz : z ≡ (eqb a b && stole)) where
-  same : z ≡ (eqb (rule_number rule) (rule_number Idle) && stole)
-  same = hz ∙ (λ i. eqb (ha i) (hb i) && stole)
-
-  pub by_theft : z ≡ true → Stolen ≡ rule_after stole rule
-  by_theft t = let y : (eqb (rule_number rule) (rule_number Idle) && stole) ≡ true = sym same ∙ t in rw y
-
-  pub as_chosen : z ≡ false → rule ≡ rule_after stole rule
-  as_chosen t = let y : (eqb (rule_number rule) (rule_number Idle) && stole) ≡ false = sym same ∙ t in rw y
-
 some_is : (w : Option ℕ) → is_some w ≡ is_some w
 some_is None = refl
 some_is (Some x) = refl
@@ -64,11 +38,6 @@ some_is (Some x) = refl
 named : (n : ℕ) (w : Option ℕ) → WinnerBelow n w → (x : ℕ) → w ≡ Some x → x < n
 named n None b x e = let z : ◌≡◌ {A = ℕ} 0 1 = cc in absurd (omega arith)
 named n (Some y) b x e = let z : y ≡ x = cc in subst (λ (j : ℕ). j < n) z b
-
-pub few : {n c k : ℕ} {s : State} {cpus : Cpus} → CanChoose n c k s cpus → k < 64
-few {c = c} a =
-    let u : c ≤ 4 = a.all.few in
-    omega (arith, a.here)
 
 -- t: the state after the choice; w: the choice
 module _ (n c k time : ℕ) (s : State) (cpus : Cpus) (a : CanChoose n c k s cpus) (w : Choice) {t : State}

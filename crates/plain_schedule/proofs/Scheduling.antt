@@ -16,7 +16,7 @@ use Rattle.model.specs.Handover.{next_context, hand_over}
 use Rattle.model.specs.Schedule.{Selected, Scheduled, picked_as}
 use Rattle.model.proofs.Cases.{never}
 use Rattle.stages.specs.Stage.{StateBelow}
-use Rattle.stages.specs.Bounds.{t_timed, t_handed, b_stolen, b_advanced, max_gain}
+use Rattle.stages.specs.Bounds.{t_timed, t_handed, b_stolen, b_advanced}
 use Rattle.stages.proofs.Kept.{state_more}
 use Rattle.plain_model.specs.State.{placed}
 use Rattle.plain_model.specs.Turn.{before_choice}
@@ -34,7 +34,7 @@ use Rattle.plain_handover.proofs.Fitted.{settled_fits, settled_below, next_below
 use Rattle.plain_steal.specs.declared.cpus.Cpus.{Cpus}
 use Rattle.plain_steal.specs.Stealing.{cpus_in, CpusSound}
 use Rattle.plain_schedule.specs.declared.Next.{Next}
-use Rattle.plain_schedule.specs.Next.{CpusReady, CanChoose, NextTracks, NextFits, next_in, stolen, of_selected}
+use Rattle.plain_schedule.specs.Next.{NextTracks, NextFits, next_in, stolen, of_selected}
 use Rattle.plain_schedule.proofs.Full.{Full, settled_full, selected_full, picked_full}
 
 -- what comes after an insertion that found no room does not matter
@@ -49,9 +49,6 @@ module _ (n c k time : ℕ) (s : State) (cpus : Cpus) (e : Spent) {runs : Bool} 
   not_settled h = without_room hm.sound hm.cpus h (settled_full (prev_runnable (state_in n s)) e.ticks (choose_and_steal k time (cpus_in c cpus) (state_in n s)) (sym hm.room ∙ h))
 
   module _ (fm : m.state.no_room ≡ false → NextFits n t_timed b_stolen m) (h : m.state.no_room ≡ false) where
-    pub settle_asks : e.ticks ≤ max_ticks → record { sound : (Sound n m.state) × (StateFits n (state_in n m.state)) × (e.ticks ≤ max_gain); state_below : StateBelow n t_timed b_stolen (placed (state_in n m.state)) }
-    settle_asks l = record { sound = (hm.sound, (fm h).fits, omega arith); state_below = (fm h).below }
-
     -- t: V has advanced, and a holder that lost is back in the queue; w: who gets the slice
     module _ {t : State} {w : Option ℕ} (ht : Tracks n t (settled runs e.ticks (stealing_of (state_in n m.state) m.context)))
         (hw : w ≡ next_context runs m.context (state_in n t)) where
@@ -144,9 +141,6 @@ module _ (n c k time : ℕ) (s : State) (cpus : Cpus) (a : CpusSound c cpus) {r 
       (selected_full k time (spent time (state_in n s).cpu) (cpus_in c cpus) (before_choice time (state_in n s)) (sym e.tracks.room ∙ h)))
 
   module _ (h : r.state.no_room ≡ false) where
-    pub can_choose : CpusReady n (cpus_in c cpus) → k < c → CanChoose n c k r.state cpus
-    can_choose z l = record { sound = e.tracks.sound; room = h; fits = e.fits h; below = e.below h; all = a; others = z; here = l }
-
     -- m: who gets the slice
     module _ {m : Next} (hm : NextTracks n c m (of_selected (selected k time r.spent (cpus_in c cpus) (state_in n r.state)))) where
       turned : NextTracks n c m (of_selected ends)

@@ -1,5 +1,4 @@
 // A decision of the plain engine, by value: the turn, the choice, the stealing and the hand-over.
-// In every function k is the CPU that decides, of c CPUs and n contexts.
 #![tactic(auto)]
 
 ghost use Rattle.std.specs.Prelude.{◌≡◌, false, ◌<◌, ◌≤◌};
@@ -18,7 +17,7 @@ ghost use Rattle.plain_schedule.specs.Next.{CpusReady, CanChoose, NextTracks, Ne
 use answer::Rule;
 use plain_candidates::Locked;
 use plain_state::State;
-use plain_steal::Cpus;
+use plain_steal::{Caller, Cpus, Theft};
 use ticks::Spent;
 
 // The state, every CPU (this one as it was), who won or gets the slice (nobody: the holder keeps it), and by which rule.
@@ -36,12 +35,8 @@ fn prev_runnable(s: State, n: usize) -> bool
     ensures { result ≡ prev_runnable (state_in n s) }
 {
     let b = s.cpu.block;
-    if b.sched_ctxt == b.idle_ctxt {
-        return false;
-    }
-    let x = numbers::index(b.sched_ctxt);
-    let q = s.context(n, x);
-    q.status.is_runnable()
+    let q = s.context(n, numbers::index(b.sched_ctxt));
+    b.sched_ctxt != b.idle_ctxt && q.status.is_runnable()
 }
 
 // Where nobody waited, the one who won was stolen.
@@ -49,33 +44,27 @@ fn rule_after(stole: bool, rule: Rule) -> Rule
     ensures { result ≡ rule_after stole rule }
 {
     if stole && rule == Rule::Idle {
-        return Rule::Stolen;
+        Rule::Stolen
+    } else {
+        rule
     }
-    rule
 }
 
 // The holder stays locked, and so does the best late entry's context.
-fn choose_and_steal(
-    s: State,
-    n: usize,
-    c: usize,
-    k: usize,
-    time: u64,
-    runs: bool,
-    cpus: Cpus,
-) -> Next
-    requires can_choose { CanChoose n c k s cpus }
-    requires runs_value { runs ≡ prev_runnable (state_in n s) }
-    ensures next_tracks { NextTracks n c result (stolen k time (cpus_in c cpus) (state_in n s)) }
-    ensures next_fits { result.state.no_room ≡ false → NextFits n t_timed b_stolen result }
+fn choose_and_steal(s: State, by: Caller, runs: bool, cpus: Cpus) -> Next
+    requires can_choose { CanChoose by.n by.c by.k s cpus }
+    requires runs_value { runs ≡ prev_runnable (state_in by.n s) }
+    ensures next_tracks { NextTracks by.n by.c result (stolen by.k by.time (cpus_in by.c cpus) (state_in by.n s)) }
+    ensures next_fits { result.state.no_room ≡ false → NextFits by.n t_timed b_stolen result }
 {
-    let selected = plain_select::select(s, n, k, time);
+    let selected = plain_select::select(s, by.n, by.k, by.time);
     let choice = selected.choice;
     let locked = Locked {
         sched_ctxt: numbers::index(s.cpu.block.sched_ctxt),
         best: choice.locked,
     };
-    let moved = plain_steal::steal(selected.state, n, c, k, runs, locked, cpus, choice.winner);
+    let theft = Theft { runs, locked };
+    let moved = plain_steal::steal(selected.state, by, theft, cpus, choice.winner);
     Next {
         state: moved.state,
         cpus: moved.cpus,
@@ -85,38 +74,37 @@ fn choose_and_steal(
 }
 
 // After the holder is charged.
-fn selected(s: State, n: usize, c: usize, k: usize, time: u64, spent: Spent, cpus: Cpus) -> Next
-    requires can_choose { CanChoose n c k s cpus }
+fn selected(s: State, by: Caller, spent: Spent, cpus: Cpus) -> Next
+    requires can_choose { CanChoose by.n by.c by.k s cpus }
     requires ticks_le_max_ticks { spent.ticks ≤ max_ticks }
-    ensures next_tracks { NextTracks n c result (of_selected (selected k time spent (cpus_in c cpus) (state_in n s))) }
-    ensures next_fits { result.state.no_room ≡ false → NextFits n t_timed b_advanced result }
+    ensures next_tracks { NextTracks by.n by.c result (of_selected (selected by.k by.time spent (cpus_in by.c cpus) (state_in by.n s))) }
+    ensures next_fits { result.state.no_room ≡ false → NextFits by.n t_timed b_advanced result }
 {
-    let runs = prev_runnable(s, n);
-    let moved = choose_and_steal(s, n, c, k, time, runs, cpus);
-    let after = moved.state;
-    if after.no_room {
+    let runs = prev_runnable(s, by.n);
+    let moved = choose_and_steal(s, by, runs, cpus);
+    if moved.state.no_room {
         return moved;
     }
-    let state = plain_handover::settle(after, n, runs, moved.context, spent.ticks);
+    let state = plain_handover::settle(moved.state, by.n, runs, moved.context, spent.ticks);
     Next {
         state,
         cpus: moved.cpus,
-        context: plain_handover::next_context(state, n, runs, moved.context),
+        context: plain_handover::next_context(state, by.n, runs, moved.context),
         rule: moved.rule,
     }
 }
 
 // `was_idle`: the CPU's state was Idle before the decision.
-fn hand_over(next: Next, n: usize, c: usize, time: u64, was_idle: bool) -> Next
-    requires sound { (Sound n next.state) × (CpusSound c next.cpus) × (time ≤ max_number) }
-    requires next_fits { NextFits n t_timed b_advanced next }
-    ensures next_tracks { NextTracks n c result (picked_as time was_idle next.rule (cpus_in c next.cpus) next.context (state_in n next.state)) }
-    ensures next_fits_2 { NextFits n t_handed b_advanced result }
+fn hand_over(next: Next, by: Caller, was_idle: bool) -> Next
+    requires sound { (Sound by.n next.state) × (CpusSound by.c next.cpus) × (by.time ≤ max_number) }
+    requires next_fits { NextFits by.n t_timed b_advanced next }
+    ensures next_tracks { NextTracks by.n by.c result (picked_as by.time was_idle next.rule (cpus_in by.c next.cpus) next.context (state_in by.n next.state)) }
+    ensures next_fits_2 { NextFits by.n t_handed b_advanced result }
 {
     match next.context {
         None => next,
         Some(x) => Next {
-            state: plain_handover::hand_over(next.state, n, time, was_idle, x),
+            state: plain_handover::hand_over(next.state, by.n, by.time, was_idle, x),
             cpus: next.cpus,
             context: Some(x),
             rule: next.rule,
@@ -125,28 +113,25 @@ fn hand_over(next: Next, n: usize, c: usize, time: u64, was_idle: bool) -> Next
 }
 
 // Where an insertion found no room, who is named says nothing.
-pub fn schedule(s: State, n: usize, c: usize, k: usize, time: u64, cpus: Cpus) -> Next
-    requires sound { (Sound n s) × (s.no_room ≡ false) × (time ≤ max_number) }
-    requires can_begin { CanBegin n time (state_in n s) }
-    requires cpus_sound { (CpusSound c cpus) × (CpusReady n (cpus_in c cpus)) × (k < c) }
-    ensures next_tracks { NextTracks n c result (schedule k time (cpus_in c cpus) (state_in n s)) }
-    ensures next_fits { result.state.no_room ≡ false → NextFits n t_handed b_advanced result }
+pub fn schedule(s: State, by: Caller, cpus: Cpus) -> Next
+    requires sound { (Sound by.n s) × (s.no_room ≡ false) × (by.time ≤ max_number) }
+    requires can_begin { CanBegin by.n by.time (state_in by.n s) }
+    requires cpus_sound { (CpusSound by.c cpus) × (CpusReady by.n (cpus_in by.c cpus)) × (by.k < by.c) }
+    ensures next_tracks { NextTracks by.n by.c result (schedule by.k by.time (cpus_in by.c cpus) (state_in by.n s)) }
+    ensures next_fits { result.state.no_room ≡ false → NextFits by.n t_handed b_advanced result }
 {
-    let turned = plain_turn::before_choice(s, n, time);
-    let state = turned.state;
-    let spent = turned.spent;
-    if state.no_room {
+    let turned = plain_turn::before_choice(s, by.n, by.time);
+    if turned.state.no_room {
         return Next {
-            state,
+            state: turned.state,
             cpus,
             context: None,
             rule: Rule::Idle,
         };
     }
-    let next = selected(state, n, c, k, time, spent, cpus);
-    let after = next.state;
-    if after.no_room {
+    let next = selected(turned.state, by, turned.spent, cpus);
+    if next.state.no_room {
         return next;
     }
-    hand_over(next, n, c, time, turned.was_idle)
+    hand_over(next, by, turned.was_idle)
 }

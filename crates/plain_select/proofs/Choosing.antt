@@ -1,9 +1,8 @@
 -- The choice of what the scan found, and the whole of it. Assumes nothing.
 use Rattle.std.specs.Prelude.{None, Option, Some}
-use mathlib.Core.Path.{◌≡◌, refl, sym, ap, ◌∙◌}
+use mathlib.Core.Path.{◌≡◌, refl, ap, ◌∙◌}
 use mathlib.Core.Bool.{◌&&◌}
 use Prim.Native.Nat.{ℕ, ◌<◌}
-use native.Mathlib.Omega.{arith}
 use lib.Dec.{ltb, leb, eqb}
 use Rattle.context.specs.declared.Context.{Context}
 use Rattle.entries.specs.declared.Entry.{Entry}
@@ -13,25 +12,12 @@ use Rattle.select_judge.specs.declared.Holder.{Holder}
 use Rattle.select_judge.specs.Values.{BestBelow, WinnerBelow}
 use Rattle.select_judge.specs.Holding.{Holding}
 use Rattle.plain_model.specs.Choice as plain
-use Rattle.plain_model.specs.Schedule.{scanned}
-use Rattle.plain_state.specs.declared.State.{State}
-use Rattle.plain_state.specs.States.{state_in, Became}
 use Rattle.plain_choice.specs.declared.Choice.{Choice}
 use Rattle.plain_choice.specs.Table.{choice_of, against, late_entry, alone, nobody, without_entry, choice}
 use Rattle.plain_choice.proofs.Ruling.{is_choice}
 use Rattle.plain_scan.specs.declared.Scan.{Scan}
 use Rattle.plain_scan.specs.Scanned as scans
 use Rattle.plain_select.specs.Started.{BestContext}
-
-pub nobody_best : BestContext None 0
-nobody_best = record { below = λ n h b. h; is = λ e h. let z : ◌≡◌ {A = ℕ} 0 1 = cc in absurd (omega arith) }
-
-pub found_best : (best : (Option Entry)) (e : Entry) {x : ℕ} → best ≡ Some e → x ≡ e.context_ref → BestContext best x
-found_best best e {x} p y =
-    record {
-      below = λ n h b. let c : BestBelow n (Some e) = rw p at b in rw y c;
-      is = λ f h. let q : Some e ≡ Some f = sym p ∙ h in y ∙ (let z : e ≡ f = cc in ap (λ (g : Entry). g.context_ref) z);
-    }
 
 -- whoever wins is one of the entries found
 Below : ℕ → Option ℕ → Type 0
@@ -87,8 +73,3 @@ module _ (n : ℕ) (f : Scan) (h : Holder) (o : scans.Sound n f) (q : Context) (
       (λ d m. k ∙ ap (scans.record_in n f) (b.is d m))
 
 -- the scan, the choice and the clean-up together
-pub selected_all : (n k time : ℕ) (s t : State) (f : Scan) (w : Choice) → scans.scan_of n f ≡ scanned k time (state_in n s) → choice_of w ≡ plain.choice (state_in n s) (scans.scan_of n f)
-    → Became n t (plain.chosen (choice_of w) (scans.scan_of n f) (state_in n s)) → WinnerBelow n w.winner
-    → record { choice_value : choice_of w ≡ plain.choice (state_in n s) (scanned k time (state_in n s)); became : Became n t (plain.chosen (plain.choice (state_in n s) (scanned k time (state_in n s))) (scanned k time (state_in n s)) (state_in n s)); winner_below : WinnerBelow n w.winner }
-selected_all n k time s t f w a b c d =
-    let e : choice_of w ≡ plain.choice (state_in n s) (scanned k time (state_in n s)) = b ∙ ap (plain.choice (state_in n s)) a in record { choice_value = e; became = record { sound = c.sound; is = c.is ∙ (λ i. plain.chosen (e i) (a i) (state_in n s)) }; winner_below = d }

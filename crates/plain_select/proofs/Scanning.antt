@@ -1,16 +1,14 @@
 -- The scan of the state's queue, from its parts. Assumes nothing.
-use Rattle.std.specs.Prelude.{None, Option}
+use Rattle.std.specs.Prelude.{Option}
 use mathlib.Core.Path.{◌≡◌, refl, ap, ◌∙◌}
-use mathlib.Core.List.{List, [], map}
+use mathlib.Core.List.{List}
 use Prim.Native.Nat.{ℕ}
 use lib.ListN.{take}
 use Rattle.columns.specs.Common.{fold}
 use Rattle.context.specs.declared.Context.{Context}
 use Rattle.entries.specs.declared.Entry.{Entry}
 use Rattle.entries.specs.Order.{entry_before}
-use Rattle.percpu.specs.declared.PercpuBlock.{PercpuBlock}
 use Rattle.percpu.specs.Cpu.{Cpu}
-use Rattle.model.specs.State as model
 use Rattle.model.specs.Scan as kernel
 use Rattle.model.specs.Scan.{judge}
 use Rattle.model.specs.Choice.{ineligible_holder}
@@ -20,37 +18,12 @@ use Rattle.select_judge.specs.Holding.{Scanning}
 use Rattle.plain_model.specs.Rank.{by_rank}
 use Rattle.plain_model.specs.Scan.{looked_at, scan_step, scan}
 use Rattle.plain_model.specs.Schedule.{scanned}
-use Rattle.plain_lists.specs.Lists.{Queue}
-use Rattle.plain_lists.specs.Lists.{entries_of, Stands}
+use Rattle.plain_lists.specs.Lists.{entries_of}
 use Rattle.plain_state.specs.declared.State.{State}
-use Rattle.plain_state.specs.States.{state_in, Sound}
+use Rattle.plain_state.specs.States.{state_in}
 use Rattle.plain_scan.specs.declared.Scan.{Scan}
 use Rattle.plain_scan.specs.Scanned as scans
 use Rattle.plain_select.specs.Started.{Started}
-
-pub scanning : (k time : ℕ) (b : PercpuBlock) (late : Option ℕ) {x : ℕ} → x ≡ k → (s : model.State) → b ≡ s.cpu.block → late ≡ ineligible_holder s
-    → Scanning k time (record { cpu_id = x; time = time; idle_ctxt = b.idle_ctxt; sched_ctxt = b.sched_ctxt; current_ctxt = b.current_ctxt; v = b.v; ineligible_holder = late }) s
-scanning k time b late e s hb hl =
-    record {
-      cpu_id = e;
-      time_is = refl;
-      idle = ap (λ (y : PercpuBlock). y.idle_ctxt) hb;
-      sched = ap (λ (y : PercpuBlock). y.sched_ctxt) hb;
-      current = ap (λ (y : PercpuBlock). y.current_ctxt) hb;
-      v = ap (λ (y : PercpuBlock). y.v) hb;
-      ineligible = hl;
-    }
-
-pub started : (n : ℕ) (s : State) {q : Queue} → Sound n s → Stands q [] → q.len ≡ 0
-    → Started n s (record { contexts = s.contexts; eligible_best = None; ineligible_best = None; weight_change = 0; leaving = q })
-started n s {q} o t l =
-    record {
-      sound = record { contexts = o.contexts; few = o.few; leaving = t.sized; best = tt; late = tt };
-      is =
-          ap (λ (z : List Entry). record { contexts = take n s.contexts; eligible_best = None; ineligible_best = None; weight_change = 0; contexts_to_remove = map (λ (e : Entry). e.key) z }) t.is;
-      none_leave = l;
-      no_weight = refl;
-    }
 
 -- the scan goes by no more of the CPU than the code has
 scan_with : (k time : ℕ) (p : Cpu) (h : Option ℕ) (cs : List Context) (q : List Entry)

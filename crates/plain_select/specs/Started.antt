@@ -13,6 +13,6 @@ pub record Started (n : ℕ) (s : State) (r : Scan) : Type 0 where
   pub no_weight : r.weight_change ≡ 0
 
 -- x is the context of the best entry, if there is one
-pub record BestContext (best : (Option Entry)) (x : ℕ) : Type 0 where
+pub record BestContext (best : Option Entry) (x : ℕ) : Type 0 where
   pub below : (n : ℕ) → 0 < n → BestBelow n best → x < n
   pub is : (e : Entry) → best ≡ Some e → x ≡ e.context_ref

@@ -33,6 +33,7 @@ fn cleaned_up(mut s: State, n: usize, f: Scan) -> State
 {
     let q = without_keys(s.cpu.queue, f.leaving);
     let total = s.cpu.block.total_weight.saturating_sub(f.weight_change);
+    // the check takes no array straight from another's field
     let contexts = f.contexts;
     s.contexts = contexts;
     s.cpu.queue = q;
@@ -58,11 +59,11 @@ fn dequeued(s: State, n: usize, x: usize) -> State
 {
     let q = s.context(n, x);
     if q.has_queue_key {
-        let k = q.queue_key();
-        let t = s.put_context(n, x, q.without_key());
-        return t.remove_key(n, k);
+        s.put_context(n, x, q.without_key())
+            .remove_key(n, q.queue_key())
+    } else {
+        s
     }
-    s
 }
 
 // The winner's key leaves the queue.
@@ -81,7 +82,6 @@ pub fn chosen(s: State, n: usize, w: Choice, f: Scan) -> State
     requires { (Sound n s) × (scans.Sound n f) × (WinnerBelow n w.winner) }
     ensures { Became n result (chosen (choice_of w) (scans.scan_of n f) (state_in n s)) }
 {
-    let t = cleaned_up(s, n, f);
-    let u = with_v(t, n, w.v);
-    taken_out(u, n, w.winner)
+    let t = with_v(cleaned_up(s, n, f), n, w.v);
+    taken_out(t, n, w.winner)
 }

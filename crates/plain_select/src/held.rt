@@ -13,14 +13,10 @@ use select_judge::Holder;
 pub fn holder_in(b: PercpuBlock, q: Context) -> Holder
     ensures { (s : State) → b ≡ s.cpu.block → q ≡ holder s → Holding result s }
 {
-    let idle = b.sched_ctxt == b.idle_ctxt;
-    let runs = q.status.is_runnable();
-    let runnable = numbers::both(!idle, runs);
-    let on_time = q.vtime <= b.v;
-    let eligible = numbers::both(runnable, on_time);
+    let runnable = b.sched_ctxt != b.idle_ctxt && q.status.is_runnable();
     Holder {
         runnable,
-        eligible,
+        eligible: runnable && q.vtime <= b.v,
         vtime: q.vtime,
         vd: q.vd,
         rem_slice: q.rem_slice,
@@ -32,8 +28,9 @@ pub fn holder_in(b: PercpuBlock, q: Context) -> Holder
 pub fn late_holder(h: Holder) -> Option<u64>
     ensures { (s : State) → Holding h s → result ≡ ineligible_holder s }
 {
-    if numbers::both(h.runnable, !h.eligible) {
-        return Some(h.vtime);
+    if h.runnable && !h.eligible {
+        Some(h.vtime)
+    } else {
+        None
     }
-    None
 }

@@ -37,16 +37,14 @@ fn scanner(k: usize, time: u64, b: PercpuBlock, h: Holder) -> Scanner
     ensures scanning { (s : model.State) → b ≡ s.cpu.block → Holding h s → Scanning k time result s }
     ensures cpu_id_value { result.cpu_id ≡ k }
 {
-    let cpu_id = numbers::word(k);
-    let late = held::late_holder(h);
     Scanner {
-        cpu_id,
+        cpu_id: numbers::word(k),
         time,
         idle_ctxt: b.idle_ctxt,
         sched_ctxt: b.sched_ctxt,
         current_ctxt: b.current_ctxt,
         v: b.v,
-        ineligible_holder: late,
+        ineligible_holder: held::late_holder(h),
     }
 }
 
@@ -55,6 +53,7 @@ fn start(s: State, n: usize) -> Scan
     requires { Sound n s }
     ensures { Started n s result }
 {
+    // the check takes no array straight from another's field
     let contexts = s.contexts;
     Scan {
         contexts,
@@ -72,8 +71,7 @@ pub fn scan(s: State, n: usize, k: usize, time: u64, h: Holder) -> Scan
     ensures { (scans.scan_of n result ≡ scanned k time (state_in n s)) × (scans.Sound n result) }
 {
     let t = scanner(k, time, s.cpu.block, h);
-    let f = start(s, n);
-    f.run(n, t, s.cpu.queue)
+    start(s, n).run(n, t, s.cpu.queue)
 }
 
 // The holder as the choice sees it.
@@ -83,8 +81,7 @@ fn holder(s: State, n: usize) -> Holder
 {
     let b = s.cpu.block;
     let x = numbers::index(b.sched_ctxt);
-    let q = s.context(n, x);
-    held::holder_in(b, q)
+    held::holder_in(b, s.context(n, x))
 }
 
 // The context of the eligible entry; any number if there is none.
@@ -103,11 +100,8 @@ fn choose(f: Scan, n: usize, h: Holder) -> Choice
     ensures result_value { (s : model.State) → Holding h s → choice_of result ≡ choice s (scans.scan_of n f) }
     ensures winner_below { WinnerBelow n result.winner }
 {
-    let best = f.eligible_best;
-    let late = f.ineligible_best;
-    let x = best_context(best);
-    let q = f.record(n, x);
-    plain_choice::choose(h, best, late, q)
+    let q = f.record(n, best_context(f.eligible_best));
+    plain_choice::choose(h, f.eligible_best, f.ineligible_best, q)
 }
 
 // The scan, the choice and the clean-up: who wins, and the state after it.
@@ -121,9 +115,8 @@ pub fn select(s: State, n: usize, k: usize, time: u64) -> Selected
     let h = holder(s, n);
     let f = scan(s, n, k, time, h);
     let w = choose(f, n, h);
-    let t = cleanup::chosen(s, n, w, f);
     Selected {
-        state: t,
+        state: cleanup::chosen(s, n, w, f),
         choice: w,
     }
 }

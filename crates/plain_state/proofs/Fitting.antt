@@ -4,7 +4,7 @@ use mathlib.Core.Bool.{Bool, not}
 use mathlib.Core.List.{[], ◌∷◌, ◌++◌}
 use Prim.Native.Nat.{ℕ, ◌<◌, ◌≤◌}
 use lib.ListN.{length, length-set, length-map}
-use Rattle.columns.specs.Common.{All, keep}
+use Rattle.columns.specs.Common.{keep}
 use Rattle.columns.proofs.Keep.{all_keep}
 use Rattle.context.specs.declared.Context.{Context}
 use Rattle.entries.specs.declared.Key.{Key}
@@ -22,10 +22,9 @@ use Rattle.machine.specs.Shape.{ContextFits, EntryFits, CpuFits}
 use Rattle.machine.proofs.Steps.{get_d_set}
 use Rattle.model.specs.State.{State, put_context, on_cpu, push_local}
 use Rattle.stages.specs.Read.{BlockFits}
-use Rattle.stages.specs.Stage.{StateBelow}
-use Rattle.stages.proofs.Fitting.{all_of, of_all}
+use Rattle.stages.proofs.Fitting.{of_all}
 use Rattle.plain_model.specs.Rank.{by_rank, put_in}
-use Rattle.plain_model.specs.State.{insert_entry, insert_timer, insert_newest_timer, queue_without, remove_key, placed, placed_cpu}
+use Rattle.plain_model.specs.State.{insert_entry, insert_timer, insert_newest_timer, queue_without, remove_key, placed_cpu}
 use Rattle.plain_model.proofs.Ranked.{by_rank_sorted, keep_differs, length_by_rank}
 use Rattle.plain_model.proofs.Placing.{put_in_differs, leave_out_differs}
 use Rattle.plain_lists.specs.Lists.{entries_of}
@@ -34,7 +33,7 @@ use Rattle.plain_state.specs.States.{Names}
 use Rattle.plain_state.specs.declared.State as code
 use Rattle.plain_state.specs.States.{list_of, timer_of, state_in, Sound}
 use Rattle.plain_state.specs.Fits.{CpuFitsInAnyOrder, StateFits}
-pub use Rattle.plain_state.proofs.Parts.{all_behind, all_left, all_put, all_placed, placed_all, queue_fits, timers_fit, local_fits, block_fits, remainder_fits}
+pub use Rattle.plain_state.proofs.Parts.{all_behind, all_left, all_put, all_placed, queue_fits, timers_fit, local_fits, block_fits, remainder_fits}
 
 -- the steps of a decision
 module _ {n : ℕ} (s : State) (f : StateFits n s) where
@@ -129,14 +128,3 @@ sound_fits {n} s o f =
     let t : s.cpu.timers.len ≤ 64 = o.timers.used in
     placed_fits (state_in n s).cpu f.cpu (rw (length_items s.cpu.queue) q)
     (rw (length-map (entries_of s.cpu.timers) timer_of, length_items s.cpu.timers) t) (names_few s.cpu.local) (names_few s.cpu.ipi)
-
--- what the bounds of the placed state say of the lists in any order; of contexts and block they say the same
-module _ {n t b : ℕ} (s : State) (o : StateBelow n t b (placed s)) where
-  pub vtimes_below : All (λ (e : Entry). e.vtime ≤ b) s.cpu.queue
-  vtimes_below = placed_all (λ (e : Entry). e.vtime ≤ b) entries_ordered s.cpu.queue (all_of (λ (e : Entry). e.vtime ≤ b) no_entry (by_rank entry_before s.cpu.queue) o.cpu.entry_vtime)
-
-  pub deadlines_below : All (λ (e : Entry). e.key.vd ≤ b) s.cpu.queue
-  deadlines_below = placed_all (λ (e : Entry). e.key.vd ≤ b) entries_ordered s.cpu.queue (all_of (λ (e : Entry). e.key.vd ≤ b) no_entry (by_rank entry_before s.cpu.queue) o.cpu.entry_vd)
-
-  pub wakes_below : All (λ (u : Timer). u.wake ≤ t) s.cpu.timers
-  wakes_below = placed_all (λ (u : Timer). u.wake ≤ t) timers_ordered s.cpu.timers (all_of (λ (u : Timer). u.wake ≤ t) no_timer (by_rank sooner s.cpu.timers) o.cpu.timer_wake)

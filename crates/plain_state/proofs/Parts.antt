@@ -16,7 +16,7 @@ use Rattle.machine.specs.Shape.{EntryFits}
 use Rattle.model.proofs.Lists.{all_at, all_in}
 use Rattle.stages.specs.Read.{BlockFits}
 use Rattle.plain_model.specs.Rank.{by_rank, other_key, leave_out, put_in, Differ}
-use Rattle.plain_model.proofs.Ranked.{in_by_rank, by_rank_in}
+use Rattle.plain_model.proofs.Ranked.{in_by_rank}
 use Rattle.plain_state.specs.Fits.{CpuFitsInAnyOrder}
 
 -- what holds of all items holds of them in any order, with one more, and with some left out
@@ -37,9 +37,6 @@ module _ {A : Type 0} (P : A → Type 0) where
   module _ {lt : A → A → Bool} (o : IsOrder lt) where
     pub all_placed : (l : List A) → All P l → All P (by_rank lt l)
     all_placed l h = all_in P (by_rank lt l) (λ a i. all_at P l h a (in_by_rank o l a i))
-
-    pub placed_all : (l : List A) → All P (by_rank lt l) → All P l
-    placed_all l h = all_in P l (λ a i. all_at P (by_rank lt l) h a (by_rank_in o l a i))
 
 -- a CPU with another part
 module _ {n : ℕ} (p : Cpu) (o : CpuFitsInAnyOrder n p) where

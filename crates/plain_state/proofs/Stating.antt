@@ -3,42 +3,29 @@ use Rattle.std.specs.Prelude.{if◌then◌else◌}
 use mathlib.Core.Path.{◌≡◌, refl, sym, ap, ◌∙◌, subst}
 use mathlib.Core.Bool.{Bool, true, false, ◌||◌}
 use mathlib.Core.List.{List, [], ◌∷◌, ◌++◌, map}
-use mathlib.Core.Logic.{◌≢◌}
 use lib.Dec.{ltb}
-use borrow.Author.Tests.{le-ltb}
 use Rattle.columns.specs.Common.{keep, All}
 use Rattle.columns.proofs.Keep.{all_keep}
 use Rattle.columns.proofs.Tests.{never}
-use Prim.Native.Nat.{ℕ, ◌+◌, ◌<◌, ◌≤◌}
-use native.Mathlib.Omega.{arith}
-use lib.ListN.{length, get_or, take, set, length-set, length-map, length-append}
+use Prim.Native.Nat.{ℕ}
+use lib.ListN.{length, take, set, length-set, length-map}
 use Rattle.context.specs.declared.Context.{Context}
-use Rattle.entries.specs.declared.Key.{Key}
 use Rattle.entries.specs.declared.Entry.{Entry}
 use Rattle.entries.specs.declared.Timer.{Timer}
 use Rattle.entries.specs.Order.{before, entry_before, sooner}
 use Rattle.entries.specs.Queue.{without_superseded}
-use Rattle.machine.specs.Machine.{no_context}
-use Rattle.percpu.specs.With.{block_queue_len, cpu_timers}
+use Rattle.percpu.specs.With.{cpu_timers}
 use Rattle.model.specs.State as model
-use Rattle.model.specs.State.{at, put_context, push_local, too_many}
+use Rattle.model.specs.State.{put_context, too_many}
 use Rattle.plain_model.specs.Rank.{other_key, leave_out, put_in}
-use Rattle.plain_model.specs.State.{insert_entry, insert_timer, insert_newest_timer, remove_key, queue_without}
+use Rattle.plain_model.specs.State.{insert_timer, insert_newest_timer}
 use Rattle.plain_lists.specs.Lists.{Queue}
 use Rattle.plain_lists.specs.Lists.{entries_of, Stands}
-use Rattle.plain_lists.proofs.Arrays.{read_front, take_set}
-use Rattle.plain_lists.proofs.Listing.{length_items, sized}
-use Rattle.plain_state.specs.States.{Names}
+use Rattle.plain_lists.proofs.Arrays.{take_set}
 use Rattle.plain_state.specs.declared.State.{State}
-use Rattle.plain_state.specs.States.{list_of, timer_of, stands_beside, cpu_in, state_in, queue_put, timers_put, Sound, Became, Tracks}
+use Rattle.plain_state.specs.States.{timer_of, stands_beside, cpu_in, state_in, timers_put, Sound, Became, Tracks}
 
 module _ (n : ℕ) (s : State) (o : Sound n s) where
-  pub context_is : (x : ℕ) (d : Context) → x < n → get_or s.contexts x d ≡ at (state_in n s) x
-  context_is x d h =
-      let a : length s.contexts ≡ 64 = o.contexts in
-      let b : n ≤ 64 = o.few in
-      read_front s.contexts n x d no_context h (omega arith)
-
   pub context_put : (x : ℕ) (q : Context) → Became n (record { contexts = set s.contexts x q; cpu = s.cpu; no_room = s.no_room }) (put_context x q (state_in n s))
   context_put x q =
       record {
@@ -53,52 +40,8 @@ module _ (n : ℕ) (s : State) (o : Sound n s) where
         };
         is = rw (take_set s.contexts n x q);
       }
-
   -- another queue
-  abbrev with_queue : Queue → ℕ → Bool → State
-  with_queue q l full =
-      record {
-        contexts = s.contexts;
-        cpu = record { block = block_queue_len l s.cpu.block; queue = q; timers = s.cpu.timers; local = s.cpu.local; ipi = s.cpu.ipi; remainder = s.cpu.remainder };
-        no_room = full;
-      }
-
-  or_false : (a : Bool) → (a || false) ≡ a
-  or_false true = refl
-  or_false false = refl
-
-  pub queue_became : (q : Queue) {l : ℕ} → l ≡ q.len → Became n (with_queue q l s.no_room) (queue_put (entries_of q) q.len false (state_in n s))
-  queue_became q {l} e =
-      record {
-        sound = record { few = o.few; contexts = o.contexts; queue = sized q; timers = o.timers; local = o.local; ipi = o.ipi; flat = o.flat };
-        is = rw (e, or_false s.no_room);
-      }
-
-  abbrev xs : List Entry
-  xs = entries_of s.cpu.queue
-
   -- the queue by the list that it stands for
-  put_as : {q : Queue} (l : List Entry) (full : Bool) → Stands q l → queue_put (entries_of q) q.len full (state_in n s) ≡ queue_put l (length l) full (state_in n s)
-  put_as {q} l full t =
-      ap (λ (z : List Entry). queue_put z q.len full (state_in n s)) t.is
-      ∙ ap (λ (m : ℕ). queue_put l m full (state_in n s)) (sym (length_items q) ∙ ap length t.is)
-
-  pub removed : (k : Key) {q : Queue} {r : State} → Stands q (queue_without k xs) → Became n r (queue_put (entries_of q) q.len false (state_in n s)) → Became n r (remove_key k (state_in n s))
-  removed k {q} {r} t b =
-      record {
-        sound = b.sound;
-        is =
-            b.is ∙ put_as (queue_without k xs) false t
-            ∙ (λ i. record { contexts = (state_in n s).contexts; cpu = (remove_key k (state_in n s)).cpu; no_room = or_false s.no_room i });
-      }
-
-  pub inserted : (e : Entry) {q : Queue} {r : State} → false ≡ too_many (put_in entry_before e xs) → Stands q (put_in entry_before e xs)
-      → Became n r (queue_put (entries_of q) q.len false (state_in n s)) → Tracks n r (insert_entry e (state_in n s))
-  inserted e {q} {r} f t b =
-      let w : state_in n r ≡ insert_entry e (state_in n s) =
-      b.is ∙ put_as (put_in entry_before e xs) false t
-      ∙ ap (λ (z : Bool). queue_put (put_in entry_before e xs) (length (put_in entry_before e xs)) z (state_in n s)) f in
-      record { sound = b.sound; room = ap (λ (z : model.State). z.no_room) w; is = λ h. w }
 
 or_true : (a b : Bool) → b ≡ true → (a || b) ≡ true
 or_true true b e = refl
@@ -144,30 +87,7 @@ module _ where
       go [] h = (p, tt)
       go (f ∷ x) h = (h.0, go x h.1)
 
-pushed_length : (l : Names) (x : ℕ) → length (list_of l ++ (x ∷ [])) ≡ l.len + 1
-pushed_length l x = rw (length-append (list_of l) (x ∷ []), length_items l)
-
 module _ (n : ℕ) (s : State) (o : Sound n s) where
-  abbrev with_timers : Queue → Bool → State
-  with_timers q full =
-      record {
-        contexts = s.contexts;
-        cpu = record { block = s.cpu.block; queue = s.cpu.queue; timers = q; local = s.cpu.local; ipi = s.cpu.ipi; remainder = s.cpu.remainder };
-        no_room = full;
-      }
-
-  no_more : (a : Bool) → (a || false) ≡ a
-  no_more true = refl
-  no_more false = refl
-
-  pub timers_became : (q : Queue) → All (λ (e : Entry). e.key.rem_slice ≡ 0) (entries_of q)
-      → Became n (with_timers q s.no_room) (timers_put (map timer_of (entries_of q)) false (state_in n s))
-  timers_became q a =
-      record {
-        sound = record { few = o.few; contexts = o.contexts; queue = o.queue; timers = sized q; local = o.local; ipi = o.ipi; flat = a };
-        is = rw (no_more s.no_room);
-      }
-
   abbrev ts : List Entry
   ts = entries_of s.cpu.timers
 
@@ -188,22 +108,7 @@ module _ (n : ℕ) (s : State) (o : Sound n s) where
       let l : map timer_of (entries_of q) ≡ put_in sooner t (map timer_of ts) = ap (map timer_of) u.is ∙ put_in_timers e ts p o.flat ∙ ap (λ (z : Timer). put_in sooner z (map timer_of ts)) k in
       let w : state_in n r ≡ insert_timer t (state_in n s) = b.is ∙ (let z : false ≡ too_many (put_in sooner t (map timer_of ts)) = sym m in λ i. timers_put (l i) (z i) (state_in n s)) in
       record { sound = b.sound; room = ap (λ (z : model.State). z.no_room) w; is = λ z. w }
-
   -- the local list
-  pub local_full : (x : ℕ) {r : State} → s.cpu.local.len ≡ 64 → Sound n r × (r.no_room ≡ true) → Tracks n r (push_local x (state_in n s))
-  local_full x {r} h b =
-      full n s.no_room (too_many (list_of s.cpu.local ++ (x ∷ []))) (push_local x (state_in n s)) b (rw (pushed_length s.cpu.local x, h)) refl
-
-  pub local_pushed : (x : ℕ) (l : Names) → s.cpu.local.len ≢ 64 → Stands l (list_of s.cpu.local ++ (x ∷ []))
-      → Tracks n (record { contexts = s.contexts; cpu = record { block = s.cpu.block; queue = s.cpu.queue; timers = s.cpu.timers; local = l; ipi = s.cpu.ipi; remainder = s.cpu.remainder }; no_room = s.no_room }) (push_local x (state_in n s))
-  local_pushed x l h t =
-      let u : s.cpu.local.len ≤ 64 = s.cpu.local.fits.used in
-      let m : too_many (list_of s.cpu.local ++ (x ∷ [])) ≡ false = rw (pushed_length s.cpu.local x) (le-ltb 64 (s.cpu.local.len + 1) (omega arith)) in
-      record {
-        sound = record { few = o.few; contexts = o.contexts; queue = o.queue; timers = o.timers; local = t.sized; ipi = o.ipi; flat = o.flat };
-        room = rw m (sym (no_more s.no_room));
-        is = λ y. rw (t.is, m, no_more s.no_room);
-      }
 
 pub still_flat : (n : ℕ) (s : State) → Sound n s → (e : Entry) {q : Queue} → e.key.rem_slice ≡ 0 → Stands q (put_in entry_before e (entries_of s.cpu.timers))
     → All (λ (f : Entry). f.key.rem_slice ≡ 0) (entries_of q)

@@ -36,6 +36,3 @@ module _ {n : ℕ} {r : State} where
 -- nothing is done where the mark is set
 pub tracks_kept : {n : ℕ} {s : State} (f : model.State → model.State) → Stays f → Sound n s → s.no_room ≡ true → Tracks n s (f (state_in n s))
 tracks_kept {n} {s} f m o e = record { sound = o; room = e ∙ sym (m (state_in n s) e); is = λ z. never (m (state_in n s) e) z }
-
-pub stays_then : (f g : model.State → model.State) → Stays f → Stays g → Stays (λ (S : model.State). g (f S))
-stays_then f g a b S e = b (f S) (a S e)

@@ -1,17 +1,12 @@
 -- CPUs by their numbers, and the victim robbed, in the code's words. Assumes nothing.
-use Rattle.std.specs.Prelude.{Option, is_some}
-use Rattle.std.proofs.Common.{◌≡◌, ℕ, zero, suc, ◌+◌, ◌%◌, ◌<◌, ◌≤◌, Bool, true, false, not, ◌&&◌, eqb, ltb, ◌≢◌, List, [], ◌∷◌, map, length, get_or, take, set, sym, refl, ap, ◌∙◌, subst, arith, length-set}
+use Rattle.std.proofs.Common.{◌≡◌, ℕ, zero, suc, ◌<◌, Bool, true, ◌≢◌, List, [], ◌∷◌, map, length, take, set, sym, refl, ap, ◌∙◌, subst, arith, length-set}
 use Rattle.columns.specs.Common.{fold, All}
 use Rattle.entries.specs.declared.Entry.{Entry}
-use Rattle.numbers.specs.Limits.{word_range}
 use Rattle.percpu.specs.Cpu as percpu
-use Rattle.percpu.specs.With.{block_queue_len, block_published_weight, block_stealable, block_steal_counter, cpu_block}
-use Rattle.machine.specs.Machine.{no_cpu}
 use Rattle.model.specs.State as model
 use Rattle.model.specs.State.{on_cpu}
 use Rattle.model.specs.Steal as model_steal
-use Rattle.model.specs.Steal.{published, mark_stealable, count_steal, should_steal}
-use Rattle.handover.proofs.Advanced.{stealable_as}
+use Rattle.model.specs.Steal.{published, mark_stealable}
 use Rattle.plain_model.specs.Steal.{move_entry, steal_entries}
 use Rattle.plain_lists.specs.Lists.{Queue}
 use Rattle.plain_lists.specs.Lists.{entries_of}
@@ -19,9 +14,7 @@ use Rattle.plain_lists.proofs.Listing.{length_items}
 use Rattle.plain_lists.proofs.Arrays.{take_set}
 use Rattle.plain_state.specs.declared.Cpu.{Cpu}
 use Rattle.plain_state.specs.declared.State.{State}
-use Rattle.plain_state.specs.States.{cpu_in, state_in, Sound, Became}
-use Rattle.plain_handover.proofs.Settling.{became_as, some_is}
-use Rattle.plain_lists.proofs.Folds.{all_get_d}
+use Rattle.plain_state.specs.States.{cpu_in, state_in, Became}
 use Rattle.plain_moves.specs.declared.Moving.{Moving}
 use Rattle.plain_moves.specs.Moves.{CpuSound, CpuBecame, moving_in, MovingTracks}
 use Rattle.plain_steal.specs.declared.cpus.Cpus.{Cpus}
@@ -29,12 +22,6 @@ use Rattle.plain_steal.specs.declared.Stealing.{Stealing}
 use Rattle.plain_steal.specs.Stealing.{cpus_in, CpusSound, CpusBecame, stealing_in, StealingSound, StealingTracks}
 
 -- a CPU read and stored
-read_in : (l : List Cpu) (c j : ℕ) (d : Cpu) → j < c → c ≤ length l → cpu_in (get_or l j d) ≡ get_or (map cpu_in (take c l)) j no_cpu
-read_in [] c j d h g = absurd (omega arith)
-read_in (p ∷ l) zero j d h g = absurd (omega arith)
-read_in (p ∷ l) (suc c) zero d h g = refl
-read_in (p ∷ l) (suc c) (suc j) d h g = read_in l c j d (omega arith) (omega arith)
-
 map_set : (l : List Cpu) (j : ℕ) (p : Cpu) → map cpu_in (set l j p) ≡ set (map cpu_in l) j (cpu_in p)
 map_set [] j p = refl
 map_set (q ∷ l) zero p = refl
@@ -46,61 +33,12 @@ all_set P (q ∷ l) zero p a o = (o, a.1)
 all_set P (q ∷ l) (suc j) p a o = (a.0, all_set P l j p a.1 o)
 
 module _ (c : ℕ) (x : Cpus) (o : CpusSound c x) (j : ℕ) (h : j < c) where
-  pub cpu_read : (d : Cpu) → CpuBecame (get_or x.cpus j d) (get_or (cpus_in c x) j no_cpu)
-  cpu_read d =
-      let a : length x.cpus ≡ 4 = o.places in
-      let b : c ≤ 4 = o.few in
-      record { sound = all_get_d CpuSound x.cpus j d (omega arith) o.each; is = read_in x.cpus c j d h (omega arith) }
-
   pub cpu_put : (p : Cpu) → CpuSound p → CpusBecame c (record { cpus = set x.cpus j p }) (set (cpus_in c x) j (cpu_in p))
   cpu_put p s =
       record {
         sound = record { few = o.few; places = length-set x.cpus j p ∙ o.places; each = all_set CpuSound x.cpus j p o.each s };
         is = ap (map cpu_in) (take_set x.cpus c j p) ∙ map_set (take c x.cpus) j p;
       }
-
--- what is published
-pub published_became : (n : ℕ) (s : State) {r : State} {len : ℕ} → Sound n s → len ≡ s.cpu.queue.len
-    → Became n r (on_cpu (cpu_block (block_published_weight s.cpu.block.total_weight (block_queue_len len s.cpu.block))) (state_in n s)) → Became n r (on_cpu published (state_in n s))
-published_became n s {r} {len} o e b =
-    became_as
-    (ap (λ (l : ℕ). on_cpu (cpu_block (block_published_weight s.cpu.block.total_weight (block_queue_len l s.cpu.block))) (state_in n s)) (e ∙ sym (length_items s.cpu.queue))) b
-
-abbrev victim_as : Cpu → ℕ → Bool → Cpu
-victim_as v len some =
-    record {
-      block = block_stealable some (block_published_weight v.block.total_weight (block_queue_len len v.block));
-      queue = v.queue;
-      timers = v.timers;
-      local = v.local;
-      ipi = v.ipi;
-      remainder = v.remainder;
-    }
-
-pub victim_published : (v : Cpu) {len : ℕ} → CpuSound v → len ≡ v.queue.len → CpuBecame (victim_as v len (ltb 0 v.queue.len)) (mark_stealable (published (cpu_in v)))
-victim_published v {len} o e =
-    let z : len ≡ length (entries_of v.queue) = e ∙ sym (length_items v.queue) in
-    record {
-      sound = record { queue = o.queue; timers = o.timers; local = o.local; ipi = o.ipi; flat = o.flat };
-      is =
-          ap (λ (l : ℕ). cpu_in (victim_as v l (ltb 0 v.queue.len))) z
-          ∙ stealable_as (published (cpu_in v)) (published (cpu_in v)).block v.queue.len refl (sym (length_items v.queue));
-    }
-
-pub counted_became : (n : ℕ) (s : State) {r : State} {count : ℕ} → count ≡ (s.cpu.block.steal_counter + 1) % word_range
-    → Became n r (on_cpu (cpu_block (block_steal_counter count s.cpu.block)) (state_in n s)) → Became n r (on_cpu count_steal (state_in n s))
-counted_became n s e b = became_as (ap (λ (x : ℕ). on_cpu (cpu_block (block_steal_counter x s.cpu.block)) (state_in n s)) e) b
-
--- whether it is the turn to steal
-module _ (n : ℕ) (s : State) (w : Option ℕ) {a b : Bool} (ha : a ≡ is_some w) (hb : b ≡ (eqb s.cpu.block.sched_ctxt s.cpu.block.idle_ctxt && not a)) where
-  idle_alone : b ≡ (eqb s.cpu.block.sched_ctxt s.cpu.block.idle_ctxt && not (is_some w))
-  idle_alone = hb ∙ ap (λ (z : Bool). eqb s.cpu.block.sched_ctxt s.cpu.block.idle_ctxt && not z) (ha ∙ some_is w)
-
-  pub every_second : b ≡ true → eqb (s.cpu.block.steal_counter % 2) 0 ≡ should_steal (state_in n s) w
-  every_second t = let z : (eqb s.cpu.block.sched_ctxt s.cpu.block.idle_ctxt && not (is_some w)) ≡ true = sym idle_alone ∙ t in rw z
-
-  pub every_sixteenth : b ≡ false → eqb (s.cpu.block.steal_counter % 16) 0 ≡ should_steal (state_in n s) w
-  every_sixteenth t = let z : (eqb s.cpu.block.sched_ctxt s.cpu.block.idle_ctxt && not (is_some w)) ≡ false = sym idle_alone ∙ t in rw z
 
 -- the state of the stealing as it is
 pub steals_itself : (n c : ℕ) (l : Stealing) → StealingSound n c l → StealingTracks n c l (stealing_in n c l)

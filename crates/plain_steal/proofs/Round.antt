@@ -38,12 +38,6 @@ module _ (n c k t : ℕ) (runs : Bool) (locked : List ℕ) (l : Stealing) (v : C
   each_wanted a =
       subst (All (EntryFits n)) (sym he.is) (candidates_each k locked (state_in n l.state).contexts l.winner wanted (EntryFits n) (entries_of v.queue) a)
 
-  pub wanted_stolen : {r : Stealing} → StealingTracks n c r (steal_entries runs (stealing_in n c l) t (cpu_in v) (entries_of es)) → StealingTracks n c r (some_stolen k runs locked (stealing_in n c l) t (cpu_in v))
-  wanted_stolen s =
-      steals_as
-      (ap (steal_entries runs (stealing_in n c l) t (cpu_in v))
-      (he.is ∙ ap (λ (x : ℕ). candidates k locked (state_in n l.state).contexts l.winner x (entries_of v.queue)) hw)) s
-
 -- the definition
 module _ (k : ℕ) (runs : Bool) (locked : List ℕ) where
   done_still : (L : model_steal.Stealing) (t : ℕ) → L.done ≡ true → steal_from k runs locked L t ≡ L
@@ -120,9 +114,6 @@ module _ (k : ℕ) (runs : Bool) (locked : List ℕ) where
     pub fresh : L.state.no_room ≡ false
     pub robs : Robs n L
     pub tracks : StealingTracks n c l (fold (steal_from k runs locked) L (take i (targets k c)))
-
-  pub rounds : (n c : ℕ) (l : Stealing) → StealingSound n c l → k < c → l.state.no_room ≡ false → Robs n (stealing_in n c l) → Rounding n c (stealing_in n c l) l 0
-  rounds n c l o h z b = record { some = h; few = o.cpus.few; fresh = z; robs = b; tracks = steals_itself n c l o }
 
   module _ (n c : ℕ) (L : model_steal.Stealing) (l : Stealing) (i : ℕ) (r : Rounding n c L l i) (h : i < c - 1) where
     abbrev M : model_steal.Stealing

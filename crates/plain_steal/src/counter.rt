@@ -16,11 +16,11 @@ pub fn should_steal(s: State, n: usize, w: Option<usize>) -> bool
     ensures { result ≡ should_steal (state_in n s) w }
 {
     let b = s.cpu.block;
-    let idle = b.sched_ctxt == b.idle_ctxt;
-    if numbers::both(idle, !w.is_some()) {
-        return b.steal_counter % IDLE_STEAL_INTERVAL == 0;
+    if b.sched_ctxt == b.idle_ctxt && w.is_none() {
+        b.steal_counter % IDLE_STEAL_INTERVAL == 0
+    } else {
+        b.steal_counter % STEAL_INTERVAL == 0
     }
-    b.steal_counter % STEAL_INTERVAL == 0
 }
 
 // The counter wraps.

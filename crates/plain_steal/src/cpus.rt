@@ -23,13 +23,12 @@ impl Cpus {
         self.cpus[j]
     }
 
-    pub fn put(self, c: usize, j: usize, p: Cpu) -> Cpus
+    pub fn put(mut self, c: usize, j: usize, p: Cpu) -> Cpus
         requires { (CpusSound c self) × (CpuSound p) × (j < c) }
         ensures { CpusBecame c result (slice_set (cpus_in c self) j (cpu_in p)) }
     {
-        let mut cpus = self.cpus;
-        cpus[j] = p;
-        Cpus { cpus: cpus }
+        self.cpus[j] = p;
+        self
     }
 }
 

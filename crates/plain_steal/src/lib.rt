@@ -1,5 +1,4 @@
 // Stealing of the plain engine, by value: every other CPU is tried in its turn, and a flag says when it is enough.
-// In every function k is the CPU that steals, of c CPUs and n contexts; `runs`: the holder is runnable.
 #![tactic(auto)]
 
 mod counter;
@@ -25,6 +24,22 @@ use plain_lists::Queue;
 use plain_moves::Moving;
 use plain_state::{Cpu, State};
 
+// What does not change in a call: the CPU k that decides, of c CPUs and n contexts, and its time.
+#[derive(Clone, Copy)]
+pub struct Caller {
+    pub n: usize,
+    pub c: usize,
+    pub k: usize,
+    pub time: u64,
+}
+
+// What does not change while it steals: whether its holder is runnable, and the contexts that the decision keeps locked.
+#[derive(Clone, Copy)]
+pub struct Theft {
+    pub runs: bool,
+    pub locked: Locked,
+}
+
 // the state, every CPU (this one as it was), who won, and whether a victim was found
 #[derive(Clone, Copy)]
 pub struct Stealing {
@@ -36,18 +51,10 @@ pub struct Stealing {
 }
 
 // Entries of CPU t, which is v, are moved; a victim that gives nothing up does not count.
-fn steal_entries(
-    l: Stealing,
-    n: usize,
-    c: usize,
-    runs: bool,
-    t: usize,
-    v: Cpu,
-    es: Queue,
-) -> Stealing
-    requires stealing_sound { (StealingSound n c l) × (CpuSound v) × (es.len ≤ 2) × (t < c) }
-    requires all { (All (EntryFits n) (entries_of es)) × (MovedBelow n 0 (state_in n l.state)) }
-    ensures { StealingTracks n c result (steal_entries runs (stealing_in n c l) t (cpu_in v) (entries_of es)) }
+fn steal_entries(l: Stealing, by: Caller, runs: bool, t: usize, v: Cpu, es: Queue) -> Stealing
+    requires stealing_sound { (StealingSound by.n by.c l) × (CpuSound v) × (es.len ≤ 2) × (t < by.c) }
+    requires all { (All (EntryFits by.n) (entries_of es)) × (MovedBelow by.n 0 (state_in by.n l.state)) }
+    ensures { StealingTracks by.n by.c result (steal_entries runs (stealing_in by.n by.c l) t (cpu_in v) (entries_of es)) }
 {
     if es.len == 0 {
         return l;
@@ -57,105 +64,77 @@ fn steal_entries(
         victim: v,
         winner: l.winner,
     };
-    let m = plain_moves::move_entries(start, n, runs, es);
-    let here = cpus::publish(m.state, n);
-    let there = cpus::publish_victim(m.victim);
+    let m = plain_moves::move_entries(start, by.n, runs, es);
     Stealing {
-        state: here,
-        cpus: l.cpus.put(c, t, there),
+        state: cpus::publish(m.state, by.n),
+        cpus: l.cpus.put(by.c, t, cpus::publish_victim(m.victim)),
         winner: m.winner,
         done: true,
     }
 }
 
 // CPU t, which is v, has enough.
-fn steal_some(
-    l: Stealing,
-    n: usize,
-    c: usize,
-    k: usize,
-    runs: bool,
-    locked: Locked,
-    t: usize,
-    v: Cpu,
-) -> Stealing
-    requires stealing_sound { (StealingSound n c l) × (CpuSound v) × (t < c) × (k < 64) }
-    requires all { (All (EntryFits n) (entries_of v.queue)) × (MovedBelow n 0 (state_in n l.state)) }
-    ensures { StealingTracks n c result (some_stolen k runs (locked_of locked) (stealing_in n c l) t (cpu_in v)) }
+fn steal_some(l: Stealing, by: Caller, theft: Theft, t: usize, v: Cpu) -> Stealing
+    requires stealing_sound { (StealingSound by.n by.c l) × (CpuSound v) × (t < by.c) × (by.k < 64) }
+    requires all { (All (EntryFits by.n) (entries_of v.queue)) × (MovedBelow by.n 0 (state_in by.n l.state)) }
+    ensures { StealingTracks by.n by.c result (some_stolen by.k theft.runs (locked_of theft.locked) (stealing_in by.n by.c l) t (cpu_in v)) }
 {
-    let want = plain_candidates::want(l.state, n, v);
     let thief = Thief {
-        cpu: k,
-        locked,
+        cpu: by.k,
+        locked: theft.locked,
         winner: l.winner,
-        want,
+        want: plain_candidates::want(l.state, by.n, v),
     };
-    let es = plain_candidates::candidates(l.state, n, thief, v.queue);
-    steal_entries(l, n, c, runs, t, v, es)
+    let es = plain_candidates::candidates(l.state, by.n, thief, v.queue);
+    steal_entries(l, by, theft.runs, t, v, es)
 }
 
 // Unless a victim was found before.
-fn steal_from(
-    l: Stealing,
-    n: usize,
-    c: usize,
-    k: usize,
-    runs: bool,
-    locked: Locked,
-    t: usize,
-) -> Stealing
-    requires stealing_sound { (StealingSound n c l) × (t < c) × (k < 64) }
-    requires robs { l.done ≡ false → Robs n (stealing_in n c l) }
-    ensures { StealingTracks n c result (steal_from k runs (locked_of locked) (stealing_in n c l) t) }
+fn steal_from(l: Stealing, by: Caller, theft: Theft, t: usize) -> Stealing
+    requires stealing_sound { (StealingSound by.n by.c l) × (t < by.c) × (by.k < 64) }
+    requires robs { l.done ≡ false → Robs by.n (stealing_in by.n by.c l) }
+    ensures { StealingTracks by.n by.c result (steal_from by.k theft.runs (locked_of theft.locked) (stealing_in by.n by.c l) t) }
 {
     if l.done {
         return l;
     }
-    let v = l.cpus.cpu(c, t);
-    if plain_candidates::can_steal_from(l.state, n, v) {
-        return steal_some(l, n, c, k, runs, locked, t, v);
+    let v = l.cpus.cpu(by.c, t);
+    if plain_candidates::can_steal_from(l.state, by.n, v) {
+        steal_some(l, by, theft, t, v)
+    } else {
+        l
     }
-    l
 }
 
 // Each other CPU in its turn, round from the next.
-fn steal_round(l: Stealing, n: usize, c: usize, k: usize, runs: bool, locked: Locked) -> Stealing
-    requires stealing_sound { (StealingSound n c l) × (k < c) × (l.state.no_room ≡ false) × (Robs n (stealing_in n c l)) }
+fn steal_round(l: Stealing, by: Caller, theft: Theft) -> Stealing
+    requires stealing_sound { (StealingSound by.n by.c l) × (by.k < by.c) × (l.state.no_room ≡ false) × (Robs by.n (stealing_in by.n by.c l)) }
     requires done_value { l.done ≡ false }
-    ensures { StealingTracks n c result (fold (steal_from k runs (locked_of locked)) (stealing_in n c l) (targets k c)) }
+    ensures { StealingTracks by.n by.c result (fold (steal_from by.k theft.runs (locked_of theft.locked)) (stealing_in by.n by.c l) (targets by.k by.c)) }
 {
     let mut out = l;
-    for i in 0..c - 1 {
-        let t = (k + (i + 1)) % c;
-        out = steal_from(out, n, c, k, runs, locked, t);
+    for i in 0..by.c - 1 {
+        let t = (by.k + (i + 1)) % by.c;
+        out = steal_from(out, by, theft, t);
     }
     out
 }
 
-pub fn steal(
-    s: State,
-    n: usize,
-    c: usize,
-    k: usize,
-    runs: bool,
-    locked: Locked,
-    cpus: Cpus,
-    winner: Option<usize>,
-) -> Stealing
-    requires sound { (Sound n s) × (StateFits n (state_in n s)) × (s.no_room ≡ false) }
-    requires cpus_sound { (CpusSound c cpus) × (CpusFit n (cpus_in c cpus)) × (k < c) }
-    requires state_below { StateBelow n t_timed b_charged (placed (state_in n s)) }
-    ensures { StealingTracks n c result (steal k runs (locked_of locked) (cpus_in c cpus) winner (state_in n s)) }
+pub fn steal(s: State, by: Caller, theft: Theft, cpus: Cpus, winner: Option<usize>) -> Stealing
+    requires sound { (Sound by.n s) × (StateFits by.n (state_in by.n s)) × (s.no_room ≡ false) }
+    requires cpus_sound { (CpusSound by.c cpus) × (CpusFit by.n (cpus_in by.c cpus)) × (by.k < by.c) }
+    requires state_below { StateBelow by.n t_timed b_charged (placed (state_in by.n s)) }
+    ensures { StealingTracks by.n by.c result (steal by.k theft.runs (locked_of theft.locked) (cpus_in by.c cpus) winner (state_in by.n s)) }
 {
-    let counted = counter::count_steal(s, n);
     let start = Stealing {
-        state: counted,
+        state: counter::count_steal(s, by.n),
         cpus,
         winner,
         done: false,
     };
-    if counter::should_steal(s, n, winner) {
-        return steal_round(start, n, c, k, runs, locked);
+    if counter::should_steal(s, by.n, winner) {
+        steal_round(start, by, theft)
+    } else {
+        start
     }
-    start
 }

@@ -14,11 +14,9 @@ use Rattle.model.specs.SwitchTo.{switch_to, direct_switch_by, try_direct_switch_
 use Rattle.switch_to.proofs.Directly.{Good, update_good}
 use Rattle.plain_model.specs.State.{placed}
 use Rattle.plain_state.specs.declared.State.{State}
-use Rattle.plain_state.specs.States.{state_in, Sound, Became, Tracks}
+use Rattle.plain_state.specs.States.{state_in, Became, Tracks}
 use Rattle.plain_state.specs.Fits.{StateFits}
-use Rattle.plain_state.proofs.Tracking.{became_tracks, became_then}
 use Rattle.plain_state.proofs.Fitting.{context_put}
-use Rattle.plain_handover.proofs.Settling.{is_itself}
 use Rattle.stages.specs.Stage.{ContextBelow, StateBelow}
 use Rattle.stages.proofs.Kept.{context_kept}
 use Rattle.std.specs.Prelude as std
@@ -37,9 +35,6 @@ module _ (n x : ℕ) (s t : State) (q : Context) (b : Became n t (put_context x 
 
   pub put_below : {u v : ℕ} → StateBelow n u v (placed (state_in n s)) → ContextBelow u v q → StateBelow n u v (placed (state_in n t))
   put_below {u} {v} f o = subst (λ (z : model.State). StateBelow n u v (placed z)) (sym b.is) (context_kept (placed (state_in n s)) f x q o)
-
-  pub direct_switched : (k time : ℕ) {u : State} → Tracks n u (switch_to k time x (state_in n t)) → Tracks n u (switch_to k time x (put_context x q (state_in n s)))
-  direct_switched k time c = became_then (switch_to k time x) b c
 
 -- by what `update_runnable` said of the record
 module _ (n k time x : ℕ) (own : Bool) (s : State) {w : ℕ} {q : Context} {v : UpdateResult} (hw : w ≡ k) (hq : q ≡ at (state_in n s) x) (hv : v ≡ update_runnable w time own false q) where

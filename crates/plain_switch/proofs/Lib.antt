@@ -1,3 +1,2 @@
 pub mod Switching
 pub mod Directly
-pub mod Fitted

@@ -22,8 +22,7 @@ fn direct_switch(s: State, n: usize, k: usize, time: u64, x: usize, q: Context) 
     requires context_fits { (ContextFits 4 q) × (ContextBelow t_handed b_advanced q) }
     ensures { Tracks n result (switch_to k time x (put_context x q (state_in n s))) }
 {
-    let t = s.put_context(n, x, q);
-    crate::switch_to(t, n, k, time, x)
+    crate::switch_to(s.put_context(n, x, q), n, k, time, x)
 }
 
 // The state after a switch, if one was made. `own`: x is in charge.
@@ -40,9 +39,7 @@ pub fn direct_switch_by(
     ensures { Switches n result (state_in n s) (direct_switch_by k time x (state_in n s) (update_runnable k time own false (at (state_in n s) x))) }
 {
     let q = s.context(n, x);
-    let cpu = numbers::word(k);
-    let u = runnable::update_runnable(q, cpu, time, own, false);
-    match u {
+    match runnable::update_runnable(q, numbers::word(k), time, own, false) {
         UpdateResult::CanSwitch(r) => Some(direct_switch(s, n, k, time, x, r)),
         UpdateResult::Skip => None,
         UpdateResult::Blocked => None,

@@ -25,11 +25,11 @@ fn save(s: State, n: usize, k: usize, time: u64) -> State
 {
     let b = s.cpu.block;
     let y = numbers::index(b.current_ctxt);
-    let q = s.context(n, y);
-    if records::would_be_lost(b, q) {
-        return s.push_local(n, b.current_ctxt);
+    if records::would_be_lost(b, s.context(n, y)) {
+        s.push_local(n, b.current_ctxt)
+    } else {
+        s
     }
-    s
 }
 
 fn leave(s: State, n: usize, k: usize, time: u64) -> State
@@ -38,20 +38,16 @@ fn leave(s: State, n: usize, k: usize, time: u64) -> State
 {
     let b = s.cpu.block;
     let y = numbers::index(b.current_ctxt);
-    let q = s.context(n, y);
-    let after = records::leave(q, b, time);
-    s.put_context(n, y, after)
+    s.put_context(n, y, records::leave(s.context(n, y), b, time))
 }
 
 fn enter(s: State, n: usize, k: usize, time: u64, x: usize) -> State
     requires { (Sound n s) × (x < n) × (k < 4) }
     ensures { Became n result (entered k time x (state_in n s)) }
 {
-    let q = s.context(n, x);
-    let after = records::come(q, k, time);
-    let t = s.put_context(n, x, after);
-    let block = records::become_current(s.cpu.block, x, after);
-    plain_handover::with_block(t, n, block)
+    let q = records::come(s.context(n, x), k, time);
+    let block = records::become_current(s.cpu.block, x, q);
+    plain_handover::with_block(s.put_context(n, x, q), n, block)
 }
 
 pub fn switch_to(s: State, n: usize, k: usize, time: u64, x: usize) -> State
@@ -63,6 +59,5 @@ pub fn switch_to(s: State, n: usize, k: usize, time: u64, x: usize) -> State
     if t.no_room {
         return t;
     }
-    let u = leave(t, n, k, time);
-    enter(u, n, k, time, x)
+    enter(leave(t, n, k, time), n, k, time, x)
 }

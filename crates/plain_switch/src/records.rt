@@ -15,13 +15,7 @@ use percpu::PercpuBlock;
 pub fn would_be_lost(b: PercpuBlock, q: Context) -> bool
     ensures { result ≡ is_lost b q }
 {
-    if b.sched_ctxt == b.current_ctxt {
-        return false;
-    }
-    if q.has_queue_key {
-        return false;
-    }
-    q.status.is_runnable()
+    b.sched_ctxt != b.current_ctxt && !q.has_queue_key && q.status.is_runnable()
 }
 
 pub fn leave(mut q: Context, b: PercpuBlock, time: u64) -> Context
@@ -30,11 +24,9 @@ pub fn leave(mut q: Context, b: PercpuBlock, time: u64) -> Context
 {
     q.running = false;
     q.inside_syscall = b.inside_syscall;
-    if b.current_ctxt == b.idle_ctxt {
-        return q;
+    if b.current_ctxt != b.idle_ctxt {
+        q.active_cpu_time += time.saturating_sub(q.switch_time);
     }
-    let elapsed = time.saturating_sub(q.switch_time);
-    q.active_cpu_time = q.active_cpu_time + elapsed;
     q
 }
 
@@ -52,9 +44,10 @@ fn state_in(userspace: bool) -> CpuState
     ensures { result ≡ (if userspace then User else Kernel) }
 {
     if userspace {
-        return CpuState::User;
+        CpuState::User
+    } else {
+        CpuState::Kernel
     }
-    CpuState::Kernel
 }
 
 pub fn become_current(mut b: PercpuBlock, x: usize, q: Context) -> PercpuBlock

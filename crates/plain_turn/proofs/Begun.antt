@@ -1,9 +1,9 @@
 -- Counting, wake-ups and times put together, and what they leave. Assumes nothing.
 use Rattle.std.specs.Prelude.{None, Option, Some}
 use mathlib.Core.Path.{◌≡◌, refl, sym, ap, ◌∙◌, subst}
-use mathlib.Core.Bool.{Bool, true, false}
+use mathlib.Core.Bool.{false}
 use mathlib.Core.List.{List, [], ◌∷◌}
-use Prim.Native.Nat.{ℕ, ◌+◌, ◌/◌, ◌≤◌}
+use Prim.Native.Nat.{ℕ, ◌/◌, ◌≤◌}
 use native.Mathlib.Omega.{arith}
 use Rattle.columns.specs.Common.{fold}
 use Rattle.numbers.specs.Limits.{max_number, max_elapsed, nanos_per_millisecond}
@@ -14,53 +14,20 @@ use Rattle.percpu.specs.With.{block_stats, block_schedule_time, cpu_block}
 use Rattle.model.specs.State as model
 use Rattle.model.specs.State.{on_cpu}
 use Rattle.model.specs.Turn.{count_switch, elapsed, times}
-use Rattle.model.specs.Schedule.{ticked}
 use Rattle.model.specs.Wakeup.{Wakeup, WakeupResult, dropped, locked, woken_only, entered, wakeup_result}
 use Rattle.plain_model.specs.State.{placed}
 use Rattle.plain_model.specs.Wakeup.{put_back, enter, wake_as, serve_wakeup, serve_wakeups, drained, wakeups}
 use Rattle.plain_model.specs.Turn.{before_selection}
 use Rattle.stages.specs.Stage.{StateBelow}
-use Rattle.stages.specs.Bounds.{t_counted, t_timed, b_woken}
-use Rattle.stages.proofs.Kept.{state_more}
-use Rattle.turn.proofs.Bounded.{count_below, times_below}
+use Rattle.stages.specs.Bounds.{t_counted, b_woken}
+use Rattle.turn.proofs.Bounded.{times_below}
 use Rattle.plain_state.specs.declared.State.{State}
-use Rattle.plain_state.specs.States.{state_in, Sound, Became, Tracks}
+use Rattle.plain_state.specs.States.{state_in, Became, Tracks}
 use Rattle.plain_state.specs.Fits.{StateFits}
-use Rattle.plain_state.proofs.Fitting.{block_fits, remainder_fits, cpu_changed, block_changed}
+use Rattle.plain_state.proofs.Fitting.{block_fits, remainder_fits, cpu_changed}
 use Rattle.plain_state.proofs.Tracking.{tracks_then}
 use Rattle.plain_wakeup.proofs.Bounded.{woken_below}
 use Rattle.plain_turn.specs.Turns.{CanBegin, CanTime, Timed}
-
--- of numbers in document 01's ranges
-pub can_begin : {n : ℕ} (time : ℕ) (S : model.State) → StateFits n S → StateBelow n max_number max_number (placed S) → elapsed time S.cpu ≤ max_elapsed → CanBegin n time S
-can_begin time S f o l = record { fits = f; below = state_more (omega arith) (omega arith) o; counted = count_below (placed S) o; in_time = l }
-
--- and after a tick
-pub ticked_begin : {n : ℕ} (time : ℕ) (S : model.State) → StateFits n S → StateBelow n max_number max_number (placed S) → elapsed time S.cpu ≤ max_elapsed → CanBegin n time (ticked S)
-ticked_begin {n} time S f o l =
-    let u : StateBelow n t_counted max_number (placed S) = state_more (omega arith) (omega arith) o in
-    record {
-      fits = block_changed S f (ticked S).cpu.block (record { current = f.cpu.current; sched = f.cpu.sched; idle = f.cpu.idle });
-      below = record {
-        context = u.context;
-        cpu = record {
-          schedule_time = u.cpu.schedule_time;
-          pit_ticks = omega (arith, o.cpu.pit_ticks);
-          user = u.cpu.user;
-          kernel = u.cpu.kernel;
-          idle = u.cpu.idle;
-          context_switches = u.cpu.context_switches;
-          syscall_switches = u.cpu.syscall_switches;
-          v = u.cpu.v;
-          total_weight = u.cpu.total_weight;
-          entry_vtime = u.cpu.entry_vtime;
-          entry_vd = u.cpu.entry_vd;
-          timer_wake = u.cpu.timer_wake;
-        };
-      };
-      counted = count_below (placed S) o;
-      in_time = l;
-    }
 
 -- wake-ups do not touch what a turn is measured by
 module _ (time : ℕ) where
@@ -106,9 +73,6 @@ module _ {n time : ℕ} (s : State) (a : CanBegin n time (state_in n s)) {c : St
 
   pub counted_below : StateBelow n t_counted max_number (placed (state_in n c))
   counted_below = subst (λ (z : model.State). StateBelow n t_counted max_number (placed z)) (sym b.is) a.counted
-
-  pub counted_room : s.no_room ≡ false → c.no_room ≡ false
-  counted_room h = ap (λ (z : model.State). z.no_room) b.is ∙ h
 
   -- w: wake-ups are served
   module _ {w : State} (t : Tracks n w (serve_wakeups time (state_in n c))) (f : w.no_room ≡ false → StateFits n (state_in n w)) where

@@ -1,22 +1,20 @@
 -- The turn put together, and what it leaves. Assumes nothing.
 use Rattle.std.specs.Prelude.{if◌then◌else◌}
-use mathlib.Core.Path.{◌≡◌, refl, sym, ap, ◌∙◌, subst}
-use mathlib.Core.Bool.{Bool, true, false}
+use mathlib.Core.Path.{◌≡◌, sym, ap, ◌∙◌, subst}
+use mathlib.Core.Bool.{Bool, false}
 use Prim.Native.Nat.{ℕ, ◌-◌, ◌≤◌}
-use native.Mathlib.Omega.{arith}
 use Rattle.context.specs.Status.{is_runnable}
 use Rattle.cpu_stats.specs.State.{is_idle_state}
 use Rattle.ticks.specs.declared.Spent.{Spent}
 use Rattle.ticks.specs.Ticks.{ticks, max_ticks}
 use Rattle.weights.specs.Weights.{weight}
-use Rattle.entries.specs.declared.Timer.{Timer}
 use Rattle.charging.specs.Charge.{charged, stopped}
 use Rattle.percpu.specs.Cpu.{Cpu}
-use Rattle.percpu.specs.With.{block_total_weight, cpu_total_weight}
+use Rattle.percpu.specs.With.{cpu_total_weight}
 use Rattle.machine.specs.Shape.{ContextFits}
 use Rattle.model.specs.State as model
 use Rattle.model.specs.State.{on_cpu, holder, is_idle}
-use Rattle.model.specs.Turn.{elapsed, spent, inactive}
+use Rattle.model.specs.Turn.{spent, inactive}
 use Rattle.model.proofs.Cases.{by_test, never, pick}
 use Rattle.turn.proofs.Charged.{charged_fits, stopped_fits}
 use Rattle.turn.proofs.Bounded.{charge_below}
@@ -30,8 +28,7 @@ use Rattle.plain_state.specs.States.{state_in, Sound, Tracks}
 use Rattle.plain_state.specs.Fits.{StateFits}
 use Rattle.plain_state.proofs.Fitting.{context_put, block_changed, newest_inserted, sound_fits}
 use Rattle.plain_state.proofs.Tracking.{tracks_then}
-use Rattle.plain_turn.specs.declared.Turned.{Turned}
-use Rattle.plain_turn.specs.Turns.{CanBegin, Timed, CanPay, TurnEnds}
+use Rattle.plain_turn.specs.Turns.{Timed, CanPay, TurnEnds}
 use Rattle.plain_turn.proofs.Paying.{charge_stays}
 
 -- names, ranges and keys

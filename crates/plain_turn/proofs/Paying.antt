@@ -1,15 +1,12 @@
 -- What the holder pays, in the code's words: a lemma for each return. Assumes nothing.
-use Rattle.std.specs.Prelude.{if◌then◌else◌}
-use mathlib.Core.Path.{◌≡◌, refl, sym, ap, ◌∙◌, subst}
+use mathlib.Core.Path.{◌≡◌, refl, sym, ap, ◌∙◌}
 use mathlib.Core.Bool.{Bool, true, false}
-use Prim.Native.Nat.{ℕ, ◌-◌, ◌<◌, ◌≤◌}
-use native.Mathlib.Omega.{arith}
-use lib.Dec.{eqb}
+use Prim.Native.Nat.{ℕ}
 use borrow.Author.Tests.{eq-eqb, ne_eqb}
 use Rattle.context.specs.declared.Context.{Context}
 use Rattle.context.specs.Status.{is_runnable}
 use Rattle.ticks.specs.declared.Spent.{Spent}
-use Rattle.charging.specs.Charge.{charged, stopped, Chargeable}
+use Rattle.charging.specs.Charge.{stopped}
 use Rattle.percpu.specs.declared.PercpuBlock.{PercpuBlock}
 use Rattle.model.specs.State as model
 use Rattle.model.specs.State.{at, put_context, holder, is_idle}
@@ -20,8 +17,8 @@ use Rattle.plain_model.specs.State.{insert_newest_timer}
 use Rattle.plain_model.specs.Turn.{holder_stopped, charge_holder}
 use Rattle.plain_state.specs.declared.State.{State}
 use Rattle.plain_state.specs.States.{state_in, Sound, Became, Tracks}
-use Rattle.plain_state.proofs.Tracking.{Stays, became_tracks, tracks_as, became_then}
-use Rattle.plain_turn.specs.Turns.{with_turn, charged_as, Held, CanPay}
+use Rattle.plain_state.proofs.Tracking.{Stays, became_tracks, tracks_as}
+use Rattle.plain_turn.specs.Turns.{with_turn, charged_as, Held}
 
 -- q: the record of the holder x
 module _ (n : ℕ) (s : State) (x : ℕ) (q : Context) (h : Held n (state_in n s) x q) where
@@ -58,14 +55,6 @@ module _ (n : ℕ) (s : State) (x : ℕ) (q : Context) (h : Held n (state_in n s
     runs : b ≡ is_runnable (holder S).status
     runs = g ∙ ap (λ (z : Context). is_runnable z.status) held
 
-    pub pays : {c : Context} {r : State} → b ≡ true → c ≡ charged s.cpu.block.v spent q → Became n r (put_context x c S) → Tracks n r (charged_as spent S)
-    pays {c} {r} e f t =
-        rw (sym runs ∙ e)
-        (tracks_as (became_tracks t) (λ i. put_context (h.name i) ((f ∙ ap (charged s.cpu.block.v spent) held) i) S))
-
-    pub stops : {r : State} → b ≡ false → Tracks n r (holder_stopped S) → Tracks n r (charged_as spent S)
-    stops e t = rw (sym runs ∙ e) t
-
 -- of any holder
 module _ (n : ℕ) (s : State) (spent : Spent) where
   pub idle_pays : Sound n s → s.cpu.block.sched_ctxt ≡ s.cpu.block.idle_ctxt → Tracks n s (charge_holder spent (state_in n s))
@@ -75,26 +64,6 @@ module _ (n : ℕ) (s : State) (spent : Spent) where
   pub other_pays : {r : State} → (s.cpu.block.sched_ctxt ≡ s.cpu.block.idle_ctxt → ⊥) → Tracks n r (charged_as spent (state_in n s)) → Tracks n r (charge_holder spent (state_in n s))
   unfolding charge_holder
   other_pays e t = rw (ne_eqb _ _ e) t
-
-  module _ (a : CanPay n spent (state_in n s)) {x : ℕ} (hx : x ≡ s.cpu.block.sched_ctxt) where
-    pub holder_below : x < n
-    holder_below = rw hx a.timed.fits.cpu.sched
-
-    pub holder_held : {q : Context} → q ≡ at (state_in n s) x → Held n (state_in n s) x q
-    holder_held e = record { below = holder_below; name = hx; is = e }
-
-    pub chargeable : {q : Context} → q ≡ at (state_in n s) x → Chargeable s.cpu.block.v spent q
-    chargeable e =
-        let f = a.timed.fits.context x holder_below in
-        let o = a.timed.below.context x holder_below in
-        rw e
-        (record {
-          prio = omega (arith, f.prio);
-          vtime = omega (arith, o.vtime);
-          rem_slice = f.rem_slice;
-          virtual = omega (arith, a.timed.below.cpu.v);
-          ticks = a.ticks;
-        })
 
 pub charge_stays : (spent : Spent) → Stays (charge_holder spent)
 unfolding charge_holder holder_stopped

@@ -1,5 +1,5 @@
 -- What the parts of a turn ask of a state, and what they leave. Assumes nothing.
-use Rattle.std.specs.Prelude.{◌≡◌, Bool, false, ℕ, ◌<◌, ◌≤◌, if◌then◌else◌}
+use Rattle.std.specs.Prelude.{◌≡◌, false, ℕ, ◌<◌, ◌≤◌, if◌then◌else◌}
 use Rattle.numbers.specs.Limits.{max_number, max_elapsed}
 use Rattle.context.specs.declared.Context.{Context}
 use Rattle.context.specs.Status.{is_runnable}

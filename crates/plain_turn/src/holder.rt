@@ -20,9 +20,7 @@ fn leave_weight(mut b: PercpuBlock, q: Context) -> PercpuBlock
     ensures { result ≡ weight_left b q }
 {
     if q.is_active {
-        let weight = weights::weight_of(q.prio);
-        b.total_weight = b.total_weight.saturating_sub(weight);
-        return b;
+        b.total_weight = b.total_weight.saturating_sub(weights::weight_of(q.prio));
     }
     b
 }
@@ -32,18 +30,18 @@ fn stop_holder(s: State, n: usize, x: usize, q: Context) -> State
     requires { (Sound n s) × (Held n (state_in n s) x q) × (q.prio < 40) }
     ensures { Tracks n result (holder_stopped (state_in n s)) }
 {
-    let block = s.cpu.block;
-    let after = leave_weight(block, q);
+    let after = leave_weight(s.cpu.block, q);
     let t = timing::with_turn(s, n, after, s.cpu.remainder);
     let u = t.put_context(n, x, charging::charge_stopped(q));
     if q.has_wake {
         let timer = Timer {
             wake: q.wake,
-            context_ref: block.sched_ctxt,
+            context_ref: s.cpu.block.sched_ctxt,
         };
-        return u.insert_newest_timer(n, timer);
+        u.insert_newest_timer(n, timer)
+    } else {
+        u
     }
-    u
 }
 
 // q: the record of the holder x, which is not idle.
@@ -53,9 +51,10 @@ fn charge(s: State, n: usize, spent: Spent, x: usize, q: Context) -> State
 {
     if q.status.is_runnable() {
         let charged = charging::charge_runnable(q, s.cpu.block.v, spent);
-        return s.put_context(n, x, charged);
+        s.put_context(n, x, charged)
+    } else {
+        stop_holder(s, n, x, q)
     }
-    stop_holder(s, n, x, q)
 }
 
 // The idle context pays nothing.
@@ -65,13 +64,9 @@ pub fn charge_holder(s: State, n: usize, spent: Spent) -> State
     ensures { Tracks n result (charge_holder spent (state_in n s)) }
 {
     let block = s.cpu.block;
-    if s.no_room {
-        return s;
-    }
-    if block.sched_ctxt == block.idle_ctxt {
+    if s.no_room || block.sched_ctxt == block.idle_ctxt {
         return s;
     }
     let x = numbers::index(block.sched_ctxt);
-    let q = s.context(n, x);
-    charge(s, n, spent, x, q)
+    charge(s, n, spent, x, s.context(n, x))
 }

@@ -28,8 +28,7 @@ fn before_selection(s: State, n: usize, time: u64) -> State
     ensures tracks { Tracks n result (before_selection time (state_in n s)) }
     ensures timed { result.no_room ≡ false → Timed n (state_in n result) }
 {
-    let counted = timing::count_switch(s, n);
-    let woken = plain_wakeup::serve_wakeups(counted, n, time);
+    let woken = plain_wakeup::serve_wakeups(timing::count_switch(s, n), n, time);
     timing::times(woken, n, time)
 }
 
@@ -39,15 +38,12 @@ pub fn before_choice(s: State, n: usize, time: u64) -> Turned
     ensures { TurnEnds n time (state_in n s) result }
 {
     let block = s.cpu.block;
-    let stats = block.stats;
-    let was = stats.state;
     let elapsed = time.saturating_sub(block.schedule_time);
     let spent = timing::turn_spent(elapsed, s.cpu.remainder);
     let timed = before_selection(s, n, time);
-    let state = holder::charge_holder(timed, n, spent);
     Turned {
-        state: state,
-        spent: spent,
-        was_idle: timing::is_idle(was),
+        state: holder::charge_holder(timed, n, spent),
+        spent,
+        was_idle: timing::is_idle(block.stats.state),
     }
 }

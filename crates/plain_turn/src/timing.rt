@@ -57,8 +57,7 @@ pub fn count_switch(s: State, n: usize) -> State
     requires { (Sound n s) × (CountersBelow half_range s.cpu.block.stats) }
     ensures { Became n result (on_cpu count_switch (state_in n s)) }
 {
-    let after = counted(s.cpu.block);
-    with_turn(s, n, after, s.cpu.remainder)
+    with_turn(s, n, counted(s.cpu.block), s.cpu.remainder)
 }
 
 fn timed(mut b: PercpuBlock, time: u64, elapsed: u64) -> PercpuBlock

@@ -1,19 +1,13 @@
 -- What stays when the lists are drained, in the code's words. Assumes nothing.
 use mathlib.Core.Path.{◌≡◌, refl, sym, ap, ◌∙◌, subst}
-use mathlib.Core.Bool.{Bool, not, ◌&&◌, ◌||◌}
 use mathlib.Core.List.{List, [], ◌∷◌, map}
 use Prim.Native.Nat.{ℕ, ◌<◌}
 use lib.ListN.{length, get_or}
 use Rattle.columns.specs.Common.{keep, All}
 use Rattle.columns.proofs.Keep.{all_keep}
-use Rattle.context.specs.declared.Context.{Context}
 use Rattle.entries.specs.declared.Entry.{Entry}
 use Rattle.entries.specs.declared.Timer.{Timer}
-use Rattle.entries.specs.Order.{is_due}
-use Rattle.model.specs.State as model
-use Rattle.model.specs.State.{at}
-use Rattle.model.specs.Wakeup.{stays, is_live_timer}
-use Rattle.wakeup_judge.specs.Judge.{live_at, unreadable_at}
+use Rattle.model.specs.Wakeup.{stays}
 use Rattle.plain_model.specs.Wakeup.{drained}
 use Rattle.plain_lists.specs.Lists.{Queue}
 use Rattle.plain_lists.specs.Lists.{entries_of, Stands}
@@ -22,14 +16,6 @@ use Rattle.plain_state.specs.declared.State.{State}
 use Rattle.plain_state.specs.States.{Names, timer_of, state_in, Sound, Became}
 use Rattle.plain_wakeup.specs.Wakeups.{entry_stays}
 use Rattle.plain_wakeup.proofs.Turns.{keep_through}
-
--- of the record c that was read for a timer
-module _ (time : ℕ) (S : model.State) (t : Timer) {x : ℕ} {c : Context} (h : x ≡ t.context_ref) (e : c ≡ at S x) where
-  pub stays_is : {u r : Bool} → u ≡ unreadable_at S.cpu.block.sched_ctxt t c → r ≡ (not (is_due time t) || u) → r ≡ stays time S t
-  stays_is f g = g ∙ rw (f, e, h)
-
-  pub gives_is : {u r : Bool} → u ≡ live_at S.cpu.block.sched_ctxt t c → r ≡ (is_due time t && u) → r ≡ (is_due time t && is_live_timer S t)
-  gives_is f g = g ∙ rw (f, e, h)
 
 -- the name of a timer's entry
 names : (n : ℕ) (l : List Entry) → All (λ (t : Timer). t.context_ref < n) (map timer_of l) → All (λ (e : Entry). e.key.ctxt_id < n) l

@@ -26,7 +26,7 @@ use Rattle.plain_lists.specs.Lists.{entries_of, Stands}
 use Rattle.plain_lists.proofs.Folds.{fold_behind}
 use Rattle.plain_lists.proofs.Listing.{length_items}
 use Rattle.plain_state.specs.declared.State.{State}
-use Rattle.plain_state.specs.States.{list_of, timer_of, state_in, Sound, Tracks}
+use Rattle.plain_state.specs.States.{timer_of, state_in, Sound, Tracks}
 use Rattle.plain_state.specs.Fits.{StateFits}
 use Rattle.plain_state.proofs.Fitting.{all_placed}
 use Rattle.plain_state.proofs.Tracking.{Stays, tracks_then}
@@ -136,16 +136,7 @@ module _ (n : ℕ) (xs : List ℕ) where
   pub record Locals (start s : State) (i : ℕ) : Type 0 where
     pub going : Going n name_step (λ (x : ℕ). x < n) b_timers (state_in n start) xs s i
 
-  pub names_start : (before s : State) → xs ≡ list_of before.cpu.local → Sound n s → StateFits n (state_in n before) → (s.no_room ≡ false → Wakeable n b_timers (state_in n s)) → Locals s s 0
-  names_start before s e p f r =
-      let u : before.cpu.local.len ≤ 64 = before.cpu.local.fits.used in
-      let l : length xs ≡ before.cpu.local.len = ap length e ∙ length_items before.cpu.local in
-      record { going = going_start n name_step (λ (x : ℕ). x < n) xs s (omega arith) (rw e f.cpu.local) p r }
-
   module _ {start s : State} {i : ℕ} (g : Locals start s i) where
-    pub name_asks : s.no_room ≡ false → Wakeable n b_waking (state_in n s)
-    name_asks z = going_ready n name_step (λ (x : ℕ). x < n) g.going b_waking (omega arith) z
-
     pub names_end : length xs ≤ i → Served n b_waking s (fold name_step (state_in n start) xs)
     names_end h =
         let z : Served n (b_timers + max_weight * 64) s (fold name_step (state_in n start) xs) = going_end n name_step (λ (x : ℕ). x < n) g.going h in

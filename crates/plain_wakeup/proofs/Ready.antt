@@ -18,7 +18,7 @@ use Rattle.entries.proofs.Ordered.{entries_ordered}
 use Rattle.machine.specs.Shape.{ContextFits, EntryFits}
 use Rattle.model.specs.State.{State, at, put_context}
 use Rattle.model.specs.Wakeup as model
-use Rattle.model.specs.Wakeup.{Wakeup, waits_for, woken_by, activated, entering, is_live_timer, timer_wakeup}
+use Rattle.model.specs.Wakeup.{Wakeup, waits_for, woken_by, entering, is_live_timer, timer_wakeup}
 use Rattle.model.proofs.Cases.{pick}
 use Rattle.model.proofs.Lists.{fold_keeps}
 use Rattle.model.proofs.WakeupCases.{wakeup_cases}

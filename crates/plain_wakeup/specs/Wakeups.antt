@@ -1,5 +1,5 @@
 -- A wake-up by value, the steps of the two lists, and what they ask of a state. Assumes nothing.
-use Rattle.std.specs.Prelude.{◌≡◌, Bool, false, Option, None, Some, ◌&&◌, ℕ, ◌+◌, ◌*◌, if◌then◌else◌}
+use Rattle.std.specs.Prelude.{◌≡◌, Bool, false, Option, ◌&&◌, ℕ, ◌+◌, ◌*◌, if◌then◌else◌}
 use Rattle.numbers.specs.Limits.{max_number}
 use Rattle.weights.specs.Weights.{weight, max_weight}
 use Rattle.context.specs.declared.Context.{Context}

@@ -22,8 +22,7 @@ fn stays(s: State, n: usize, time: u64, t: Timer) -> bool
     let x = numbers::index(t.context_ref);
     let c = s.context(n, x);
     let due = t.wake <= time + 1;
-    let unreadable = judge::is_unreadable(s.cpu.block.sched_ctxt, t, c);
-    numbers::either(!due, unreadable)
+    !due || judge::is_unreadable(s.cpu.block.sched_ctxt, t, c)
 }
 
 // The timers that stay.

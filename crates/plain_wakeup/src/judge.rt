@@ -28,29 +28,14 @@ fn waits_for(c: Context, wake: u64) -> bool
 pub fn is_live(sched: u64, t: Timer, c: Context) -> bool
     ensures { result ≡ live_at sched t c }
 {
-    if c.gone {
-        return false;
-    }
-    if c.lock == 2 {
-        return false;
-    }
-    if t.context_ref == sched {
-        return false;
-    }
-    waits_for(c, t.wake)
+    !c.gone && c.lock != 2 && t.context_ref != sched && waits_for(c, t.wake)
 }
 
 // A live context that cannot be read: its due timer stays.
 pub fn is_unreadable(sched: u64, t: Timer, c: Context) -> bool
     ensures { result ≡ unreadable_at sched t c }
 {
-    if c.gone {
-        return false;
-    }
-    if c.lock == 2 {
-        return true;
-    }
-    t.context_ref == sched
+    !c.gone && (c.lock == 2 || t.context_ref == sched)
 }
 
 // The record as the wake-up leaves it.
@@ -70,22 +55,10 @@ pub fn woken_by(w: Wakeup, mut c: Context) -> Context
 pub fn may_enter(current: u64, sched: u64, x: u64, c: Context) -> bool
     ensures { result ≡ may_enter_at current sched x c }
 {
-    if !c.status.is_runnable() {
-        return false;
-    }
-    if c.currently_scheduled {
-        return false;
-    }
-    if !c.userspace {
-        return false;
-    }
-    if !c.running {
-        return true;
-    }
-    if x == current {
-        return x != sched;
-    }
-    false
+    c.status.is_runnable()
+        && !c.currently_scheduled
+        && c.userspace
+        && (!c.running || x == current && x != sched)
 }
 
 // The record that enters: not behind V, with a full slice and a deadline a whole slice on.
@@ -107,11 +80,9 @@ pub fn activate_block(mut b: PercpuBlock, c: Context) -> PercpuBlock
     requires { (c.prio < 40) × (b.total_weight < half_range) }
     ensures { result ≡ activated_block c b }
 {
-    if c.is_active {
-        return b;
+    if !c.is_active {
+        b.total_weight += weights::weight_of(c.prio);
+        b.published_weight = b.total_weight;
     }
-    let total_weight = b.total_weight + weights::weight_of(c.prio);
-    b.total_weight = total_weight;
-    b.published_weight = total_weight;
     b
 }

@@ -39,10 +39,10 @@ fn without_old_key(q: Queue, c: Context) -> Queue
     ensures { Stands result (without_old_key c (entries_of q)) }
 {
     if c.has_queue_key {
-        let k = c.queue_key();
-        return q.leave_out(k);
+        q.leave_out(c.queue_key())
+    } else {
+        q
     }
-    q
 }
 
 // The context counts in the total weight, and its old key leaves the queue.
@@ -60,10 +60,8 @@ fn join(s: State, n: usize, x: usize, e: Context) -> State
     requires { (Sound n s) × (x < n) × (e.prio < 40) }
     ensures { Tracks n result (joined x e (state_in n s)) }
 {
-    let weight = weights::weight_of(e.prio);
-    let entry = e.entry(numbers::word(x), weight);
-    let t = s.put_context(n, x, e);
-    t.insert_entry(n, entry)
+    let entry = e.entry(numbers::word(x), weights::weight_of(e.prio));
+    s.put_context(n, x, e).insert_entry(n, entry)
 }
 
 // The context x with the record c enters the queue.
@@ -73,8 +71,7 @@ fn enter(s: State, n: usize, x: usize, c: Context) -> State
     ensures { Tracks n result (enter x c (state_in n s)) }
 {
     let e = judge::enter_record(s.cpu.block.v, c);
-    let t = made_active(s, n, c);
-    join(t, n, x, e)
+    join(made_active(s, n, c), n, x, e)
 }
 
 // A wake-up whose context can be woken.
@@ -93,27 +90,23 @@ fn wake(s: State, n: usize, w: Wakeup, c: Context) -> State
 }
 
 // A wake-up in its turn. Where there was no room nothing more is done.
+#[tactic(auto, unfolding(plain_model::specs::Wakeup::serve_wakeup, plain_model::specs::Wakeup::wake_as, model::specs::Wakeup::wakeup_result))]
 pub fn serve(s: State, n: usize, w: Wakeup) -> State
     requires sound { (Sound n s) × (w.context_ref < n) }
     requires wakeable { s.no_room ≡ false → Wakeable n b_waking (state_in n s) }
     ensures { Tracks n result (serve_wakeup (state_in n s) (wakeup_of w)) }
 {
-    let block = s.cpu.block;
-    let x = numbers::index(w.context_ref);
-    let c = s.context(n, x);
+    let c = s.context(n, numbers::index(w.context_ref));
     if s.no_room {
         return s;
     }
-    if w.context_ref == block.sched_ctxt {
-        return s;
+    if w.context_ref == s.cpu.block.sched_ctxt || c.gone {
+        s
+    } else if c.lock != 0 {
+        put_back(s, n, w)
+    } else {
+        wake(s, n, w, c)
     }
-    if c.gone {
-        return s;
-    }
-    if c.lock != 0 {
-        return put_back(s, n, w);
-    }
-    wake(s, n, w, c)
 }
 
 // A timer gives a wake-up: it is due, and its context can be read and still waits for it.
@@ -123,9 +116,7 @@ fn gives_wakeup(before: State, n: usize, time: u64, t: Timer) -> bool
 {
     let x = numbers::index(t.context_ref);
     let c = before.context(n, x);
-    let due = t.wake <= time + 1;
-    let live = judge::is_live(before.cpu.block.sched_ctxt, t, c);
-    numbers::both(due, live)
+    t.wake <= time + 1 && judge::is_live(before.cpu.block.sched_ctxt, t, c)
 }
 
 // A timer of the state before, in its turn.
@@ -139,9 +130,10 @@ pub fn serve_timer(before: State, s: State, n: usize, time: u64, t: Timer) -> St
             wake: Some(t.wake),
             context_ref: t.context_ref,
         };
-        return serve(s, n, w);
+        serve(s, n, w)
+    } else {
+        s
     }
-    s
 }
 
 // A name of the local list, in its turn.

@@ -17,6 +17,7 @@ ghost use Rattle.plain_words.specs.Words.{Counted, CpuRead, TimersRead, NamesRea
 
 use context::Context;
 use entries::{Entry, Key, Timer};
+use machine::CpuPlace;
 use percpu::places;
 use plain_lists::{FixedVec, Queue};
 use plain_state::{Cpu, Names};
@@ -118,15 +119,13 @@ pub fn load_contexts(m: &[u64], c: usize, n: usize) -> [Context; 64]
     contexts
 }
 
-// CPU k of such an image.
-fn cpu_at(m: &[u64], c: usize, n: usize, k: usize) -> Cpu
-    requires image { Image c n m.now }
-    requires k_lt_c { k < c }
-    ensures { (CpuSound result) × ((M : Machine) → m.now ≡ encode M → Fits c n M → cpu_in result ≡ cpu_at M k) }
+// A CPU of such an image.
+fn cpu_at(m: &[u64], cpu: CpuPlace) -> Cpu
+    requires image { Image cpu.c cpu.n m.now }
+    ensures { (CpuSound result) × ((M : Machine) → m.now ≡ encode M → Fits cpu.c cpu.n M → cpu_in result ≡ cpu_at M cpu.k) }
 {
-    let at = machine::cpu_place(n, k);
-    let end = at + places::BLOCK_SIZE;
-    load_cpu(&m[at..end])
+    let at = cpu.start();
+    load_cpu(&m[at..at + places::BLOCK_SIZE])
 }
 
 // The CPUs of such an image.
@@ -134,9 +133,9 @@ pub fn load_cpus(m: &[u64], c: usize, n: usize) -> [Cpu; 4]
     requires { Image c n m.now }
     ensures { CpusRead c n m.now result }
 {
-    let mut cpus = [cpu_at(m, c, n, 0); 4];
+    let mut cpus = [cpu_at(m, CpuPlace { c, n, k: 0 }); 4];
     for k in 0..c {
-        cpus[k] = cpu_at(m, c, n, k);
+        cpus[k] = cpu_at(m, CpuPlace { c, n, k });
     }
     cpus
 }

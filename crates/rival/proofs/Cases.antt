@@ -24,11 +24,11 @@ use Rattle.model.specs.Schedule.{switch}
 use Rattle.model_cases.specs.Starred.{idler, worker, start, worked}
 use Rattle.rounds.specs.Round.{played, go_on_nanos}
 use Rattle.rival.specs.declared.Game.{Game}
-use Rattle.rival.specs.Game.{first_choice, turn, forces, game, refused, is_game, game_of, rival_by, rival_call}
+use Rattle.rival.specs.Game.{first_choice, turn, forces, game, refused, is_game, parties, game_of, rival_by, rival_call}
 
 -- opens what a game is made of
 unfoldable opened_game : Unit {0}
-unfolding opened idler worker start worked look_up get_percpu_block single_words within zero_words context_most_to gone_most wake_marked key_marked context_in_range_to block_most_to array_least array_most_to used unused array_in_range_to block_in_range_to contexts_in_range_to blocks_in_range_to rises id_of is_live is_new ids_differ names_live entry_ids keys_rise timers_rise is_first_timer timers_differ block_structure structure in_bounds ranges_to ranges sized_refusal image_refusal is_locked decision_refusal replied decide_on decide_by check checked_by played turn forces every counter reply_to named named_on named_context block_with blocked_as first_choice game is_game game_of rival_by
+unfolding opened idler worker start worked look_up get_percpu_block single_words within zero_words context_most_to gone_most wake_marked key_marked context_in_range_to block_most_to array_least array_most_to used unused array_in_range_to block_in_range_to contexts_in_range_to blocks_in_range_to rises id_of is_live is_new ids_differ names_live entry_ids keys_rise timers_rise is_first_timer timers_differ block_structure structure in_bounds ranges_to ranges sized_refusal image_refusal is_locked decision_refusal replied decide_on decide_by check checked_by played turn forces every counter reply_to named named_on named_context block_with blocked_as first_choice game is_game parties game_of rival_by
 opened_game = tt
 
 -- idle, context 0, is in charge, and context 1 waits

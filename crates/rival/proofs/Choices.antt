@@ -1,44 +1,42 @@
--- Some choice, the first one, every one: by their numbers 1, 2 and 3. Assumes nothing.
-use Rattle.std.specs.Prelude.{if◌then◌else◌}
+-- Some choice, the first one, every one: of a list of them, one after the other. Assumes nothing.
+use Rattle.std.specs.Prelude.{if◌then◌else◌, None, Some, is_some}
 use mathlib.Core.Path.{◌≡◌, sym}
-use mathlib.Core.Bool.{Bool, true, false, not}
+use mathlib.Core.Bool.{Bool, true, false}
+use mathlib.Core.List.{List, [], ◌∷◌}
 use Prim.Native.Nat.{ℕ, zero, suc, ◌<◌, ◌≤◌}
 use native.Mathlib.Omega.{arith}
-use lib.Dec.{eqb}
+use lib.ListN.{length, get_or}
 use Rattle.columns.proofs.Tests.{by_test}
 use Rattle.rounds.specs.declared.Choice.{Choice}
 use Rattle.rounds.specs.declared.Choice.TheVariants.{GoOn, Yield, Block}
 use Rattle.rival.specs.Game.{some_choice, first_choice, every_choice}
-use Rattle.rival.specs.Reached.{choice_of}
+use Rattle.rival.specs.Reached.{choices}
 
--- every choice before the i-th gives b
-abbrev pub Before : (Choice → Bool) → Bool → ℕ → Type 0
-Before g b i = (j : ℕ) → 1 ≤ j → j < i → g (choice_of j) ≡ b
+-- of the first i choices each is b
+abbrev pub Before : (Choice → Bool) → Bool → List Choice → ℕ → Type 0
+Before g b cs i = (j : ℕ) → j < i → g (get_or cs j GoOn) ≡ b
 
 module _ (g : Choice → Bool) where
-  pub some_first : not (eqb (first_choice g) 0) ≡ some_choice g
+  pub some_first : is_some (first_choice g) ≡ some_choice g
   unfolding first_choice
   some_first =
       by_test (g GoOn) (λ a. rw a)
       (λ a. by_test (g Yield) (λ b. rw (a, b)) (λ b. by_test (g Block) (λ d. rw (a, b, d)) (λ d. rw (a, b, d))))
 
-  -- the i-th is the first
-  pub first_is : (i : ℕ) → 1 ≤ i → i < 4 → Before g false i → g (choice_of i) ≡ true → first_choice g ≡ i
+  -- the one behind i others is the first
+  pub first_is : (i : ℕ) → i < 3 → Before g false choices i → g (get_or choices i GoOn) ≡ true → first_choice g ≡ Some (get_or choices i GoOn)
   unfolding first_choice
-  first_is zero p q h e = absurd (omega arith)
-  first_is (suc zero) p q h e = rw e
-  first_is (suc (suc zero)) p q h e = rw (h 1 (omega arith) (omega arith), e)
-  first_is (suc (suc (suc zero))) p q h e = rw (h 1 (omega arith) (omega arith), h 2 (omega arith) (omega arith), e)
-  first_is (suc (suc (suc (suc n)))) p q h e = absurd (omega arith)
+  first_is zero q h e = rw e
+  first_is (suc zero) q h e = rw (h 0 (omega arith), e)
+  first_is (suc (suc zero)) q h e = rw (h 0 (omega arith), h 1 (omega arith), e)
+  first_is (suc (suc (suc n))) q h e = absurd (omega arith)
 
-  pub first_none : (i : ℕ) → 4 ≤ i → Before g false i → first_choice g ≡ 0
+  pub first_none : (i : ℕ) → 3 ≤ i → Before g false choices i → first_choice g ≡ None
   unfolding first_choice
-  first_none i p h = rw (h 1 (omega arith) (omega arith), h 2 (omega arith) (omega arith), h 3 (omega arith) (omega arith))
-
-  pub every_all : (i : ℕ) → 4 ≤ i → Before g true i → every_choice g ≡ true
-  every_all i p h = rw (h 1 (omega arith) (omega arith), h 2 (omega arith) (omega arith), h 3 (omega arith) (omega arith))
+  first_none i p h = rw (h 0 (omega arith), h 1 (omega arith), h 2 (omega arith))
 
   -- of the choices that one has: three, or the first alone
-  pub all_of : (b : Bool) (k i : ℕ) → k ≡ (if b then 3 else 1) → k < i → Before g true i → true ≡ (if b then every_choice g else g GoOn)
-  all_of true k i e p h = sym (every_all i (omega arith) h)
-  all_of false k i e p h = sym (h 1 (omega arith) (omega arith))
+  pub all_of : (b : Bool) (i : ℕ) → length (if b then choices else GoOn ∷ []) ≤ i → Before g true (if b then choices else GoOn ∷ []) i
+      → true ≡ (if b then every_choice g else g GoOn)
+  all_of true i p h = sym (rw (h 0 (omega arith), h 1 (omega arith), h 2 (omega arith)))
+  all_of false i p h = sym (h 0 (omega arith))

@@ -1,7 +1,7 @@
 -- The game is the table of all sequences of choices, each played from the beginning, folded from the end. Assumes nothing.
-use Rattle.std.specs.Prelude.{if◌then◌else◌, None, Option, Some}
+use Rattle.std.specs.Prelude.{None, Option, Some}
 use mathlib.Core.Path.{◌≡◌, refl, sym, ap, ◌∙◌}
-use mathlib.Core.Bool.{Bool, true, false}
+use mathlib.Core.Bool.{Bool, false}
 use mathlib.Core.List.{List, [], ◌∷◌, ◌++◌}
 use Prim.Native.Nat.{ℕ, zero, suc, ◌+◌}
 use lib.Dec.{eqb}
@@ -11,7 +11,7 @@ use Rattle.rounds.specs.declared.Choice.TheVariants.{GoOn, Yield, Block}
 use Rattle.rounds.specs.Round.{nanos, played}
 use Rattle.rival.specs.declared.turns.Parties.{Parties}
 use Rattle.rival.specs.Game.{in_charge, won, turn, forces}
-use Rattle.rival.specs.Sequences.{Position, taken, arrived, moved, moved_on, reached, ends_well, chooses, folded}
+use Rattle.rival.specs.Sequences.{Position, taken, arrived, moved_on, reached, ends_well, chooses, folded}
 
 module _ (p : Parties) where
   -- one more choice is one more round

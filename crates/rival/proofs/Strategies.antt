@@ -12,11 +12,15 @@ use Rattle.rounds.specs.declared.Choice.TheVariants.{GoOn, Yield, Block}
 use Rattle.rounds.specs.Round.{nanos, played}
 use Rattle.rival.specs.declared.turns.Parties.{Parties}
 use Rattle.rival.specs.Game.{in_charge, won, turn, some_choice, every_choice, first_choice, forces}
-use Rattle.rival.specs.Reached.{choice_of}
 use Rattle.rival.specs.Sequences.{Strategy, later, chosen_by, wins}
 
+-- with none anything
+abbrev any : Option Choice → Choice
+any None = Block
+any (Some c) = c
+
 -- the first winning choice wins
-first_wins : (g : Choice → Bool) → some_choice g ≡ true → g (choice_of (first_choice g)) ≡ true
+first_wins : (g : Choice → Bool) → some_choice g ≡ true → g (any (first_choice g)) ≡ true
 unfolding first_choice
 first_wins g e =
     by_test (g GoOn) (λ a. rw a a)
@@ -57,10 +61,10 @@ module _ (p : Parties) where
   -- the first winning choice, in every round
   unfoldable pub strategy : (rounds time : ℕ) → List ℕ → Strategy
   strategy zero time m cs = GoOn
-  strategy (suc r) time m [] = choice_of (first_choice (good r time m))
+  strategy (suc r) time m [] = any (first_choice (good r time m))
   strategy (suc r) time m (c ∷ cs) = from (strategy r (time + nanos c)) (played p.cpu (in_charge p m) time c m) cs
 
-  chosen_wins : (x : ℕ) (g : Choice → Bool) (s t : Strategy) → s [] ≡ choice_of (first_choice g) → turn p x g ≡ true → g (chosen_by p s t x) ≡ true
+  chosen_wins : (x : ℕ) (g : Choice → Bool) (s t : Strategy) → s [] ≡ any (first_choice g) → turn p x g ≡ true → g (chosen_by p s t x) ≡ true
   unfolding turn
   chosen_wins x g s t d e =
       by_test (eqb x p.writer) (λ a. rw (a, d) (first_wins g (rw a at e)))

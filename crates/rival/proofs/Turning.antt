@@ -1,6 +1,7 @@
 -- What the code tells of a turn is what the writer can force. Assumes nothing.
+use Rattle.std.specs.Prelude.{Option, is_some}
 use mathlib.Core.Path.{◌≡◌, refl, sym, ap, ◌∙◌}
-use mathlib.Core.Bool.{Bool, false, not}
+use mathlib.Core.Bool.{Bool, false}
 use mathlib.Core.List.{List}
 use Prim.Native.Nat.{ℕ, zero, suc, ◌+◌, ◌≤◌}
 use native.Mathlib.Omega.{arith}
@@ -8,6 +9,7 @@ use native.Mathlib.Numerals.{sub-one}
 use lib.Dec.{eqb}
 use borrow.Author.Tests.{eqb-true, eq-eqb}
 use Rattle.columns.proofs.Tests.{by_test}
+use Rattle.rounds.specs.declared.Choice.{Choice}
 use Rattle.rounds.specs.declared.Choice.TheVariants.{GoOn}
 use Rattle.rounds.specs.Round.{nanos, played}
 use Rattle.rival.specs.declared.turns.Parties.{Parties}
@@ -39,9 +41,9 @@ module _ (p : Parties) (time : ℕ) (m : List ℕ) where
   unfolding forces
   told_end r f e = rw e (sym f)
 
-  pub told_writer : (r w : ℕ) → (r ≡ 0 → ⊥) → in_charge p m ≡ p.writer → w ≡ first_choice (forces_after p r time m p.writer) → not (eqb w 0) ≡ forces p r time m
+  pub told_writer : (r : ℕ) (w : Option Choice) → (r ≡ 0 → ⊥) → in_charge p m ≡ p.writer → w ≡ first_choice (forces_after p r time m p.writer) → is_some w ≡ forces p r time m
   told_writer r w h e f =
-      ap (λ (j : ℕ). not (eqb j 0)) f ∙ some_first (forces_after p r time m p.writer) ∙ sym (forces_writer r (omega arith) e)
+      ap is_some f ∙ some_first (forces_after p r time m p.writer) ∙ sym (forces_writer r (omega arith) e)
 
   pub told_rival : (r : ℕ) {b : Bool} → (r ≡ 0 → ⊥) → eqb (in_charge p m) p.writer ≡ false → b ≡ forces_against p r time m → b ≡ forces p r time m
   told_rival r h e f = f ∙ sym (forces_others r (omega arith) e)

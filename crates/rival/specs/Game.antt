@@ -1,8 +1,7 @@
 -- Writer against rival (document 02, No. 13): whether the writer can force itself into charge. Assumes nothing.
-use Rattle.std.specs.Prelude.{Bool, true, false, not, ◌&&◌, ◌||◌, List, ℕ, zero, suc, ◌+◌, ◌-◌, leb, eqb, get_or, if◌then◌else◌, None, Option, Some, Err, Ok, Result}
+use Rattle.std.specs.Prelude.{Bool, false, not, ◌&&◌, ◌||◌, List, ℕ, zero, suc, ◌+◌, ◌-◌, leb, eqb, get_or, if◌then◌else◌, None, Option, Some, Err, Ok, Result}
 use Rattle.columns.specs.Common.{mark}
 use Rattle.percpu.specs.Places.{sched_ctxt_place}
-use Rattle.machine.specs.Machine.{Machine}
 use Rattle.machine.specs.Encode.{decode, cpu_place}
 use Rattle.machine.specs.LookUp.{look_up, get_percpu_block}
 use Rattle.calls.specs.Call.{check}
@@ -12,12 +11,22 @@ use Rattle.rounds.specs.Round.{nanos, played}
 use Rattle.rival.specs.declared.Game.{Game}
 use Rattle.rival.specs.declared.turns.Parties.{Parties}
 
--- g: whether the writer can force the end after a choice. For the writer some choice will do, and the first is named: 0 for none
+-- g: whether the writer can force the end after a choice. For the writer some choice will do, and the first is named
 abbrev pub some_choice : (Choice → Bool) → Bool
 some_choice g = g GoOn || (g Yield || g Block)
 
-unfoldable pub first_choice : (Choice → Bool) → ℕ
-first_choice g = if g GoOn then 1 else if g Yield then 2 else if g Block then 3 else 0
+unfoldable pub first_choice : (Choice → Bool) → Option Choice
+first_choice g = if g GoOn then Some GoOn else if g Yield then Some Yield else if g Block then Some Block else None
+
+abbrev pub number : Choice → ℕ
+number GoOn = 1
+number Yield = 2
+number Block = 3
+
+-- 0 for none
+abbrev pub choice_number : Option Choice → ℕ
+choice_number None = 0
+choice_number (Some c) = number c
 
 -- for the rival every choice
 abbrev pub every_choice : (Choice → Bool) → Bool
@@ -62,7 +71,7 @@ module _ (p : Parties) where
       record {
         refusal = 0;
         forced = mark (forces rounds time m);
-        choice = if eqb (in_charge m) p.writer then first_choice (forces_after rounds time m p.writer) else 0;
+        choice = if eqb (in_charge m) p.writer then choice_number (first_choice (forces_after rounds time m p.writer)) else 0;
       }
 
 abbrev pub refused : ℕ → Game
@@ -72,20 +81,22 @@ refused r = record { refusal = r; forced = 0; choice = 0 }
 unfoldable pub is_game : (writer rival rounds : ℕ) → Bool
 is_game writer rival rounds = leb 1 rounds && (leb rounds 6 && not (eqb writer rival))
 
--- refusal 5 covers both parties, 14 comes last; n: how many contexts the image has
-unfoldable pub game_of : (n rounds time : ℕ) → List ℕ → Option ℕ → Option ℕ → Option ℕ → Game
-game_of n rounds time m None writer rival = refused 5
-game_of n rounds time m (Some k) None rival = refused 5
-game_of n rounds time m (Some k) (Some w) None = refused 5
-game_of n rounds time m (Some k) (Some w) (Some r) =
-    if is_game w r rounds
-    then game (record { contexts = n; cpu = k; writer = w; rival = r }) rounds time m
-    else refused 14
+-- the CPU and both parties, as looked up; n: how many contexts the image has
+unfoldable pub parties : (n : ℕ) → Option ℕ → Option ℕ → Option ℕ → Result Parties ℕ
+parties n None writer rival = Err 5
+parties n (Some k) None rival = Err 5
+parties n (Some k) (Some w) None = Err 5
+parties n (Some k) (Some w) (Some r) = Ok (record { contexts = n; cpu = k; writer = w; rival = r })
+
+-- refusal 14 comes last
+unfoldable pub game_of : (rounds time : ℕ) → List ℕ → Result Parties ℕ → Game
+game_of rounds time m (Err r) = refused r
+game_of rounds time m (Ok p) = if is_game p.writer p.rival rounds then game p rounds time m else refused 14
 
 unfoldable pub rival_by : List ℕ → (cpu time writer rival rounds : ℕ) → Result (ℕ × ℕ) ℕ → Game
 rival_by m cpu time writer rival rounds (Err r) = refused r
 rival_by m cpu time writer rival rounds (Ok (c, n)) =
-    game_of n rounds time m (get_percpu_block (decode m) cpu) (look_up (decode m) writer) (look_up (decode m) rival)
+    game_of rounds time m (parties n (get_percpu_block (decode m) cpu) (look_up (decode m) writer) (look_up (decode m) rival))
 
 abbrev pub rival_call : List ℕ → (cpu time writer rival rounds : ℕ) → Game
 rival_call m cpu time writer rival rounds = rival_by m cpu time writer rival rounds (check m time)

@@ -1,5 +1,5 @@
--- The choices by their numbers, and what the turns ask of the image and the time. Assumes nothing.
-use Rattle.std.specs.Prelude.{ℕ, ◌+◌, ◌*◌, ◌≤◌, ◌<◌, eqb, if◌then◌else◌}
+-- The choices that one has, and what the turns ask of the image and the time. Assumes nothing.
+use Rattle.std.specs.Prelude.{List, [], ◌∷◌, ℕ, ◌+◌, ◌*◌, ◌≤◌, ◌<◌, eqb, if◌then◌else◌}
 use Rattle.percpu.specs.Places.{block_size}
 use Rattle.machine.specs.Encode.{cpu_place, max_image_size}
 use Rattle.numbers.specs.Limits.{half_range}
@@ -7,10 +7,15 @@ use Rattle.rounds.specs.Round.{go_on_nanos}
 use Rattle.rounds.specs.declared.Choice.{Choice}
 use Rattle.rounds.specs.declared.Choice.TheVariants.{GoOn, Yield, Block}
 use Rattle.rival.specs.declared.turns.Parties.{Parties}
+use Rattle.rival.specs.Game.{in_charge}
 
--- the choices in their order, from 1 on
-abbrev pub choice_of : ℕ → Choice
-choice_of i = if eqb i 1 then GoOn else if eqb i 2 then Yield else Block
+-- in their order
+abbrev pub choices : List Choice
+choices = GoOn ∷ (Yield ∷ (Block ∷ []))
+
+-- of the one in charge that is not the writer
+abbrev pub choices_against : Parties → List ℕ → List Choice
+choices_against p m = if eqb (in_charge p m) p.rival then choices else GoOn ∷ []
 
 -- the parties are contexts of an image of that length
 pub record Inside (p : Parties) (size : ℕ) : Type 0 where

@@ -1,8 +1,8 @@
 -- The same game by whole sequences of choices, each played from the beginning, and by strategies. That forces of Game is both is
 -- proved (forces-folded; strategy-wins, counter-wins, answered-forces), so that nobody has to take its some and every on trust. Assumes nothing.
-use Rattle.std.specs.Prelude.{Bool, true, false, List, [], ◌∷◌, ◌++◌, ℕ, zero, suc, ◌+◌, eqb, if◌then◌else◌, None, Option, Some}
+use Rattle.std.specs.Prelude.{Bool, false, List, [], ◌∷◌, ◌++◌, ℕ, zero, suc, ◌+◌, eqb, if◌then◌else◌, None, Option, Some}
 use Rattle.rounds.specs.declared.Choice.{Choice}
-use Rattle.rounds.specs.declared.Choice.TheVariants.{GoOn, Yield, Block}
+use Rattle.rounds.specs.declared.Choice.TheVariants.{GoOn}
 use Rattle.rounds.specs.Round.{nanos, played}
 use Rattle.rival.specs.declared.turns.Parties.{Parties}
 use Rattle.rival.specs.Game.{in_charge, won, turn}

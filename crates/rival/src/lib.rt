@@ -3,18 +3,22 @@
 
 mod turns;
 
-ghost use Rattle.std.specs.Prelude.{◌≡◌, ◌≤◌, length};
+ghost use Rattle.std.specs.Prelude.{◌≡◌, ◌∷◌, ◌++◌, ◌≤◌, length, Some, decimal};
 ghost use Rattle.machine.specs.Machine.{Machine};
 ghost use Rattle.machine.specs.Encode.{encode};
 ghost use Rattle.machine.specs.Shape.{Image, Fits};
 ghost use Rattle.machine.specs.LookUp.{look_up, get_percpu_block};
 ghost use Rattle.numbers.specs.Limits.{max_number};
-ghost use Rattle.rival.specs.Game.{refused, game, is_game, game_of, rival_call};
+ghost use Rattle.rival.specs.Game.{refused, choice_number, game, is_game, parties, game_of, rival_call};
 ghost use Rattle.rival.specs.Reached.{Inside, InTime};
-ghost use Rattle.refusal.specs.Number.{refusal_number};
+ghost use Rattle.refusal.specs.Number.{refusal_number, numbered};
 
 use refusal::Refusal;
+use rounds::Choice;
+use std::fmt;
 pub use turns::Parties;
+
+const MAX_ROUNDS: u64 = 6;
 
 // 0 or the number of its refusal, whether the writer can force itself into charge, and its first winning choice: numbers, since C is handed them
 #[repr(C)]
@@ -35,6 +39,16 @@ fn refused(refusal: Refusal) -> Game
     }
 }
 
+// As C is handed it. A `map_or` here leaves nothing known of its closure's answer (c).
+fn number_of(choice: Option<Choice>) -> u64
+    ensures { result ≡ choice_number choice }
+{
+    match choice {
+        Some(choice) => choice as u64,
+        None => 0,
+    }
+}
+
 // The writer has the first choice if it is in charge.
 fn play(m: &[u64], p: Parties, time: u64, rounds: u64) -> Game
     requires inside { Inside p (length m.now) }
@@ -45,8 +59,8 @@ fn play(m: &[u64], p: Parties, time: u64, rounds: u64) -> Game
         let choice = turns::writer_turn(m, p, time, rounds);
         return Game {
             refusal: 0,
-            forced: (choice != 0) as u64,
-            choice,
+            forced: choice.is_some() as u64,
+            choice: number_of(choice),
         };
     }
     Game {
@@ -56,19 +70,35 @@ fn play(m: &[u64], p: Parties, time: u64, rounds: u64) -> Game
     }
 }
 
-fn is_game(writer: usize, rival: usize, rounds: u64) -> bool
-    ensures { result ≡ is_game writer rival rounds }
+// Two tests, since the proof did not close over what `contains` of a range says (c).
+#[tactic(auto, unfolding(crate::specs::Game::is_game))]
+fn is_game(p: Parties, rounds: u64) -> bool
+    ensures { result ≡ is_game p.writer p.rival rounds }
 {
-    if rounds < 1 {
-        return false;
-    }
-    if 6 < rounds {
-        return false;
-    }
-    writer != rival
+    1 <= rounds && rounds <= MAX_ROUNDS && p.writer != p.rival
 }
 
-// On an image that was checked. Refusal 5 covers both parties, 14 comes last.
+// Refusal 5 covers the CPU and both parties.
+fn parties(
+    m: &[u64],
+    c: usize,
+    n: usize,
+    cpu: u64,
+    writer: u64,
+    rival: u64,
+) -> Result<Parties, Refusal>
+    requires { Image c n m.now }
+    ensures { (M : Machine) → m.now ≡ encode M → Fits c n M → numbered result ≡ parties n (get_percpu_block M cpu) (look_up M writer) (look_up M rival) }
+{
+    Ok(Parties {
+        contexts: n,
+        cpu: machine::get_percpu_block(m, c, n, cpu).ok_or(Refusal::Name)?,
+        writer: machine::look_up(m, c, n, writer).ok_or(Refusal::Name)?,
+        rival: machine::look_up(m, c, n, rival).ok_or(Refusal::Name)?,
+    })
+}
+
+// On an image that was checked.
 fn rival_on(
     m: &[u64],
     c: usize,
@@ -81,39 +111,30 @@ fn rival_on(
 ) -> Game
     requires image { Image c n m.now }
     requires time_le_max_number { time ≤ max_number }
-    ensures { (M : Machine) → m.now ≡ encode M → Fits c n M → result ≡ game_of n rounds time m.now (get_percpu_block M cpu) (look_up M writer) (look_up M rival) }
+    ensures { (M : Machine) → m.now ≡ encode M → Fits c n M → result ≡ game_of rounds time m.now (parties n (get_percpu_block M cpu) (look_up M writer) (look_up M rival)) }
 {
-    let here = machine::get_percpu_block(m, c, n, cpu);
-    let Some(k) = here else {
-        return refused(Refusal::Name);
-    };
-    let first = machine::look_up(m, c, n, writer);
-    let Some(w) = first else {
-        return refused(Refusal::Name);
-    };
-    let second = machine::look_up(m, c, n, rival);
-    let Some(r) = second else {
-        return refused(Refusal::Name);
-    };
-    if is_game(w, r, rounds) {
-        let p = Parties {
-            contexts: n,
-            cpu: k,
-            writer: w,
-            rival: r,
-        };
-        return play(m, p, time, rounds);
+    match parties(m, c, n, cpu, writer, rival) {
+        Err(refusal) => refused(refusal),
+        Ok(p) if is_game(p, rounds) => play(m, p, time, rounds),
+        Ok(_) => refused(Refusal::Game),
     }
-    refused(Refusal::Game)
 }
 
 // Whether the writer can force itself into charge at the end of the last round, of any words.
 pub fn rival(image: &[u64], cpu: u64, time: u64, writer: u64, rival: u64, rounds: u64) -> Game
     ensures { result ≡ rival_call image.now cpu time writer rival rounds }
 {
-    let checked = calls::check(image, time);
-    match checked {
+    match calls::check(image, time) {
         Err(refusal) => refused(refusal),
         Ok((c, n)) => rival_on(image, c, n, cpu, time, writer, rival, rounds),
+    }
+}
+
+// Its three numbers, a space (32) between two.
+impl fmt::Display for Game {
+    ghost output = { λ a. Some (decimal a.refusal ++ 32 ∷ decimal a.forced ++ 32 ∷ decimal a.choice) };
+
+    fn fmt<W: fmt::Write>(&self, f: &mut fmt::Formatter<W>) -> fmt::Result {
+        write!(f, "{} {} {}", self.refusal, self.forced, self.choice)
     }
 }

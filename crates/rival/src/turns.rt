@@ -1,31 +1,22 @@
 // The writer's turn and the rival's turn: each is decided by what the writer can force after a choice, with one round less to come.
-ghost use Rattle.std.specs.Prelude.{◌≡◌, eqb, ◌≤◌, ◌<◌, length, if◌then◌else◌};
+ghost use Rattle.std.specs.Prelude.{◌≡◌, ◌≤◌, ◌<◌, length};
 ghost use Rattle.machine.specs.Encode.{max_image_size};
 ghost use Rattle.rival.specs.Game.{in_charge, first_choice, forces, forces_after, forces_against};
-ghost use Rattle.rival.specs.Reached.{choice_of, Inside, InTime};
+ghost use Rattle.rival.specs.Reached.{choices_against, Inside, InTime};
 
 use percpu::places;
 use rounds::Choice;
 
-// how many contexts the image has, the CPU, and the two contexts
+const CHOICES: &[Choice] = &[Choice::GoOn, Choice::Yield, Choice::Block];
+
+// How many contexts the image has, the CPU, and the two contexts. As methods the functions below would have the same contracts, since Inside
+// speaks of the image too; time and rounds stay two numbers, since four of the five contracts that have them ask for `1 ≤ rounds` besides (d).
 #[derive(Clone, Copy)]
 pub struct Parties {
     pub contexts: usize,
     pub cpu: usize,
     pub writer: usize,
     pub rival: usize,
-}
-
-fn choice_of(i: u64) -> Choice
-    ensures { result ≡ choice_of i }
-{
-    if i == 1 {
-        return Choice::GoOn;
-    }
-    if i == 2 {
-        return Choice::Yield;
-    }
-    Choice::Block
 }
 
 pub fn in_charge(m: &[u64], p: Parties) -> u64
@@ -36,15 +27,15 @@ pub fn in_charge(m: &[u64], p: Parties) -> u64
     m[at + places::SCHED_CTXT]
 }
 
-// How many choices the one in charge has that is not the writer.
-fn choices(m: &[u64], p: Parties) -> u64
+// The choices that the one in charge has, which is not the writer.
+fn choices(m: &[u64], p: Parties) -> &'static [Choice]
     requires { Inside p (length m.now) }
-    ensures { result ≡ (if eqb (in_charge p m.now) p.rival then 3 else 1) }
+    ensures { result.now ≡ choices_against p m.now }
 {
     if in_charge(m, p) == numbers::word(p.rival) {
-        return 3;
+        return CHOICES;
     }
-    1
+    &CHOICES[..1]
 }
 
 // Whether the writer can force the end from an image.
@@ -59,7 +50,7 @@ fn forces(m: &[u64], p: Parties, time: u64, rounds: u64) -> bool
         return own;
     }
     if own {
-        return writer_turn(m, p, time, rounds) != 0;
+        return writer_turn(m, p, time, rounds).is_some();
     }
     rival_turn(m, p, time, rounds)
 }
@@ -82,29 +73,24 @@ fn forces_after(
 {
     let len = m.len();
     words::copy(m, copy, len);
-    if !rounds::play(&mut copy[0..len], numbers::word(p.cpu), x, time, choice) {
-        return false;
-    }
-    let then = time + rounds::nanos(choice);
-    forces(&copy[0..len], p, then, rounds - 1)
+    rounds::play(&mut copy[0..len], numbers::word(p.cpu), x, time, choice)
+        && forces(&copy[0..len], p, time + rounds::nanos(choice), rounds - 1)
 }
 
-// The number of the first choice after which the writer, which is in charge, can force the end; 0 if there is none.
+// The first choice after which the writer, which is in charge, can force the end.
 #[cycle(forces)]
-pub fn writer_turn(m: &[u64], p: Parties, time: u64, rounds: u64) -> u64
+pub fn writer_turn(m: &[u64], p: Parties, time: u64, rounds: u64) -> Option<Choice>
     requires inside { Inside p (length m.now) }
     requires in_time { (InTime rounds time) × (1 ≤ rounds) }
     ensures { result ≡ first_choice (forces_after p rounds time m.now p.writer) }
 {
     let mut copy = [0u64; machine::MAX_IMAGE_SIZE];
-    for i in 1..4 {
-        let choice = choice_of(i);
-        let wins = forces_after(m, &mut copy, p, p.writer, time, rounds, choice);
-        if wins {
-            return i;
+    for &choice in CHOICES {
+        if forces_after(m, &mut copy, p, p.writer, time, rounds, choice) {
+            return Some(choice);
         }
     }
-    0
+    None
 }
 
 // Whether the writer can force the end whatever the rival does, if that is in charge; anyone else goes on.
@@ -115,11 +101,8 @@ pub fn rival_turn(m: &[u64], p: Parties, time: u64, rounds: u64) -> bool
     ensures { result ≡ forces_against p rounds time m.now }
 {
     let mut copy = [0u64; machine::MAX_IMAGE_SIZE];
-    let choices = choices(m, p);
-    for i in 1..choices + 1 {
-        let choice = choice_of(i);
-        let wins = forces_after(m, &mut copy, p, p.rival, time, rounds, choice);
-        if !wins {
+    for &choice in choices(m, p) {
+        if !forces_after(m, &mut copy, p, p.rival, time, rounds, choice) {
             return false;
         }
     }

@@ -21,6 +21,7 @@ ghost use Rattle.numbers.specs.Limits.{max_number, max_word};
 use answer::Answer;
 use asked::Asked;
 use humblest::Humblest;
+use operations::Call;
 use refusal::refused;
 use rival::Game;
 pub use single::{
@@ -41,7 +42,13 @@ pub fn ronthuyal_call(
     ensures demand_met { DemandMet image.old image.new operation cpu time context result.refusal }
     ensures leaves { Leaves max_word image.old image.new result.refusal }
 {
-    operations::call(image, operation, cpu, time, context)
+    let q = Call {
+        operation,
+        cpu,
+        time,
+        context,
+    };
+    operations::call(image, q)
 }
 
 // Any operation by the plain engine: the answer and every word are those of `ronthuyal_call`.
@@ -127,7 +134,13 @@ pub fn ronthuyal_call_in_window(
     ensures demand_met { DemandMet image.old image.new operation cpu time context result.refusal }
     ensures leaves { Leaves max_word image.old image.new result.refusal }
 {
-    call_in_window::call(image, window, operation, cpu, time, context)
+    let q = Call {
+        operation,
+        cpu,
+        time,
+        context,
+    };
+    call_in_window::call(image, window, q)
 }
 
 // The nanoseconds of one context in a window, which is checked for that many contexts. The result is the sum.
@@ -182,5 +195,5 @@ pub fn ronthuyal_apart(image: &[u64], one: u64, other: u64) -> Answer
 pub fn ronthuyal_run(image: &mut [u64], calls: &[u64], answers: &mut [u64]) -> u64
     ensures { run_reply result image.new answers.new ≡ run image.old calls.now answers.old }
 {
-    run::run(image, calls, answers)
+    run::run(image, calls, answers).unwrap_or(u64::MAX)
 }

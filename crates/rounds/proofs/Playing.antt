@@ -13,7 +13,6 @@ use Rattle.answer.specs.declared.Answer.{Answer}
 use Rattle.context_ops.specs.Reply.{Reply, reply}
 use Rattle.calls.specs.Call.{switch_call, block_call}
 use Rattle.trial.specs.Trial.{Tried}
-use Rattle.rounds.specs.declared.Choice.{Choice}
 use Rattle.rounds.specs.declared.Choice.TheVariants.{GoOn, Yield, Block}
 use Rattle.rounds.specs.Round.{go_on_nanos, yield_nanos, wake_nanos, left_by, and_then, switched, asleep, played, Plays}
 

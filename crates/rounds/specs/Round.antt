@@ -1,5 +1,5 @@
 -- A round of writer against rival (document 02, No. 13): the image after it. Assumes nothing.
-use Rattle.std.specs.Prelude.{◌≡◌, Bool, true, false, List, ℕ, ◌+◌, eqb, set, if◌then◌else◌, None, Option, Some, is_some}
+use Rattle.std.specs.Prelude.{◌≡◌, Bool, true, List, ℕ, ◌+◌, eqb, set, if◌then◌else◌, None, Option, Some, is_some}
 use Rattle.machine.specs.Encode.{context_place}
 use Rattle.context_ops.specs.Reply.{Reply}
 use Rattle.calls.specs.Call.{switch_call, block_call}

@@ -19,12 +19,12 @@ pub const YIELD_NANOS: u64 = 1_000_000;
 
 pub const WAKE_NANOS: u64 = 4_500_000;
 
-// what the one in charge does with its round
+// what the one in charge does with its round, by the numbers of document 02
 #[derive(Clone, Copy)]
 pub enum Choice {
-    GoOn,
-    Yield,
-    Block,
+    GoOn = 1,
+    Yield = 2,
+    Block = 3,
 }
 
 // When the round's switch comes, from the round's beginning.
@@ -33,24 +33,21 @@ pub fn nanos(choice: Choice) -> u64
 {
     match choice {
         Choice::GoOn => GO_ON_NANOS,
-        Choice::Yield => YIELD_NANOS,
-        Choice::Block => YIELD_NANOS,
+        Choice::Yield | Choice::Block => YIELD_NANOS,
     }
 }
 
 fn switched(m: &mut [u64], cpu: u64, time: u64) -> bool
     ensures { Plays (switched cpu time m.old) m.new result }
 {
-    let a = trial::in_place(m, cpu, time);
-    a.refusal == 0
+    trial::in_place(m, cpu, time).refusal == 0
 }
 
 // Operation 6 on an image of any words.
 fn block(m: &mut [u64], cpu: u64, time: u64, x: u64) -> Answer
     ensures { reply result m.new ≡ block_call m.old cpu time x }
 {
-    let checked = calls::check(m, time);
-    match checked {
+    match calls::check(m, time) {
         Err(refusal) => refused(refusal),
         Ok((c, n)) => context_ops::block(m, c, n, cpu, x),
     }
@@ -63,8 +60,7 @@ fn asleep(m: &mut [u64], cpu: u64, x: usize, time: u64) -> bool
     let at = machine::context_place(x);
     m[at + places::HAS_WAKE] = 1;
     m[at + places::WAKE] = time + WAKE_NANOS;
-    let a = block(m, cpu, time, numbers::word(x));
-    a.refusal == 0
+    block(m, cpu, time, numbers::word(x)).refusal == 0
 }
 
 // Whether every call of the round was accepted. If not, the image may be left half-way.
@@ -75,11 +71,6 @@ pub fn play(m: &mut [u64], cpu: u64, x: usize, time: u64, choice: Choice) -> boo
     match choice {
         Choice::GoOn => switched(m, cpu, time + GO_ON_NANOS),
         Choice::Yield => switched(m, cpu, time + YIELD_NANOS),
-        Choice::Block => {
-            if asleep(m, cpu, x, time) {
-                return switched(m, cpu, time + YIELD_NANOS);
-            }
-            false
-        }
+        Choice::Block => asleep(m, cpu, x, time) && switched(m, cpu, time + YIELD_NANOS),
     }
 }

@@ -30,9 +30,10 @@ use Rattle.growth.proofs.Tested.{in_range}
 use Rattle.growth.proofs.Knowing.{known_eq, known_fits, known_passes, stays_known}
 use Rattle.measure.specs.Measured.{Measured}
 use Rattle.measure.proofs.Within.{measured_within}
-use Rattle.run.specs.declared.Call.{Call}
+use Rattle.operations.specs.declared.arguments.Call.{Call}
 use Rattle.run.specs.declared.knowledge.Passing.{Passing}
 use Rattle.run.specs.declared.knowledge.Knowledge.{Knowledge}
+use Rattle.run.specs.declared.knowledge.Knowledge.TheVariants.{Passes, Unknown}
 use Rattle.run.specs.Knowledge.{Holds, Makes}
 
 -- an image that passes: the check has nothing to say
@@ -48,8 +49,12 @@ refused_call m operation cpu time context r e n =
     ap (checked_by m (λ (M : Machine). operation_reply m M operation cpu time context)) (check_refused m time r e n) ∙ sym (call_is m operation cpu time context)
 
 -- nothing is known
-pub unknown : (s : Knowledge) (m : List ℕ) → s.known ≡ None → Holds s m
-unknown s m e = record { knows = subst (λ (o : Option Passing). IfSome o (λ (p : Passing). Known p.cpus p.contexts p.bounds m)) (sym e) tt }
+pub unknown : (wait : ℕ) (m : List ℕ) → Holds (Unknown wait) m
+unknown wait m = record { knows = λ p e. cc }
+
+known_holds : {c n : ℕ} {b : Bounds} {m : List ℕ} → Known c n b m → Holds (Passes (record { cpus = c; contexts = n; bounds = b })) m
+known_holds {c} {n} {b} {m} k =
+    record { knows = λ p e. let i : record { cpus = c; contexts = n; bounds = b } ≡ p = cc in subst (λ (q : Passing). Known q.cpus q.contexts q.bounds m) i k }
 
 -- the code's own words for a call on the image m that left m'; after: the bounds then
 module _ {c n : ℕ} {b : Bounds} {m m' : List ℕ} (q : Call) (a : Answer) (o : Known c n b m) (soon : q.time ≤ max_number)
@@ -57,20 +62,18 @@ module _ {c n : ℕ} {b : Bounds} {m m' : List ℕ} (q : Call) (a : Answer) (o :
   made : reply a m' ≡ operation_reply m (decode m) q.operation q.cpu q.time q.context
   made = f (decode m) (known_eq o) (known_fits o)
 
-  pub known_makes : (after : Bounds) (wait : ℕ) → ((M : Machine) → m ≡ encode M → Fits c n M → after ≡ call_bounds c M q.operation q.cpu q.time b) → is_in_range after ≡ true
-      → Makes m m' q (record { answer = a; knowledge = record { known = Some (record { cpus = c; contexts = n; bounds = after }); wait = wait } })
-  known_makes after wait h t =
+  pub known_makes : (after : Bounds) → ((M : Machine) → m ≡ encode M → Fits c n M → after ≡ call_bounds c M q.operation q.cpu q.time b) → is_in_range after ≡ true
+      → Makes m m' q (record { answer = a; knowledge = Passes (record { cpus = c; contexts = n; bounds = after }) })
+  known_makes after h t =
       let d : after ≡ call_bounds c (decode m) q.operation q.cpu q.time b = h (decode m) (known_eq o) (known_fits o) in
       record {
         replies = made ∙ passing_call m q.operation q.cpu q.time q.context (known_passes o q.time soon);
-        holds = record {
-          knows = subst (λ (y : Bounds). Known c n y m') (sym d) (stays_known o q.operation q.cpu q.time q.context soon a m' made (subst InRange d (in_range after t)));
-        };
+        holds = known_holds (subst (λ (y : Bounds). Known c n y m') (sym d) (stays_known o q.operation q.cpu q.time q.context soon a m' made (subst InRange d (in_range after t))));
       }
 
   -- a number is over what is known to be in range
-  pub over_makes : (s : Knowledge) → s.known ≡ None → Makes m m' q (record { answer = a; knowledge = s })
-  over_makes s e = record { replies = made ∙ passing_call m q.operation q.cpu q.time q.context (known_passes o q.time soon); holds = unknown s m' e }
+  pub over_makes : (wait : ℕ) → Makes m m' q (record { answer = a; knowledge = Unknown wait })
+  over_makes wait = record { replies = made ∙ passing_call m q.operation q.cpu q.time q.context (known_passes o q.time soon); holds = unknown wait m' }
 
 -- an image that passed the check at the call's time
 module _ (c n : ℕ) (m : List ℕ) (time : ℕ) (z : image_refusal time m ≡ 0) (hc : c ≡ size_c m) (hn : n ≡ size_n m) where
@@ -99,18 +102,18 @@ module _ (c n : ℕ) (m : List ℕ) (time : ℕ) (z : image_refusal time m ≡ 0
         within = rw (hc, hn) (measured_within m b p (rw (hc, hn) at o));
       }
 
-  pub passed_makes : {m' : List ℕ} (q : Call) (a : Answer) (s : Knowledge) → q.time ≡ time → s.known ≡ None
-      → ((M : Machine) → m ≡ encode M → Fits c n M → reply a m' ≡ operation_reply m M q.operation q.cpu q.time q.context) → Makes m m' q (record { answer = a; knowledge = s })
-  passed_makes {m'} q a s e k f =
+  pub passed_makes : {m' : List ℕ} (q : Call) (a : Answer) (wait : ℕ) → q.time ≡ time
+      → ((M : Machine) → m ≡ encode M → Fits c n M → reply a m' ≡ operation_reply m M q.operation q.cpu q.time q.context) → Makes m m' q (record { answer = a; knowledge = Unknown wait })
+  passed_makes {m'} q a wait e f =
       record {
         replies = f (decode m) (decoded m p) (rw (hc, hn) (decoded_fits m p)) ∙ passing_call m q.operation q.cpu q.time q.context (rw e z);
-        holds = unknown s m' k;
+        holds = unknown wait m';
       }
 
 -- what the check gave
-pub refused_makes : (m : List ℕ) (q : Call) (w : Result (ℕ × ℕ) ℕ) (r : ℕ) (a : Answer) (s : Knowledge) → w ≡ check m q.time → w ≡ Err r → a ≡ record { refusal = r; result = 0; interrupt = 0; rule = 0 }
-    → s.known ≡ None → Makes m m q (record { answer = a; knowledge = s })
-refused_makes m q w r a s e g h k = record { replies = refused_is m q.time w e q.operation q.cpu q.context r g h; holds = unknown s m k }
+pub refused_makes : (m : List ℕ) (q : Call) (w : Result (ℕ × ℕ) ℕ) (r : ℕ) (a : Answer) (wait : ℕ) → w ≡ check m q.time → w ≡ Err r → a ≡ record { refusal = r; result = 0; interrupt = 0; rule = 0 }
+    → Makes m m q (record { answer = a; knowledge = Unknown wait })
+refused_makes m q w r a wait e g h = record { replies = refused_is m q.time w e q.operation q.cpu q.context r g h; holds = unknown wait m }
 
 pub check_says : (m : List ℕ) (time : ℕ) (w : Result (ℕ × ℕ) ℕ) (c n : ℕ) → w ≡ check m time → w ≡ Ok (c, n) → (image_refusal time m ≡ 0) × (c ≡ size_c m) × (n ≡ size_n m)
 check_says m time w c n e g = let i = is_passed m time c n (sym g ∙ e) in (i.none, i.cpus, i.names)
@@ -132,12 +135,12 @@ late m time o h =
     refl
 
 pub late_makes : {c n : ℕ} {b : Bounds} (m : List ℕ) (q : Call) (a : Answer) → Known c n b m → max_number < q.time → a ≡ record { refusal = 3; result = 0; interrupt = 0; rule = 0 }
-    → Makes m m q (record { answer = a; knowledge = record { known = Some (record { cpus = c; contexts = n; bounds = b }); wait = 0 } })
+    → Makes m m q (record { answer = a; knowledge = Passes (record { cpus = c; contexts = n; bounds = b }) })
 late_makes m q a k h e =
     record {
       replies = ap (λ (y : Answer). reply y m) e ∙ refused_call m q.operation q.cpu q.time q.context 3 (late m q.time k.passes h) (λ z. omega arith);
-      holds = record { knows = k };
+      holds = known_holds k;
     }
 
-pub unmeasured_makes : (m m' : List ℕ) (q : Call) (a : Answer) (s : Knowledge) → reply a m' ≡ call m q.operation q.cpu q.time q.context → s.known ≡ None → Makes m m' q (record { answer = a; knowledge = s })
-unmeasured_makes m m' q a s e k = record { replies = e; holds = unknown s m' k }
+pub unmeasured_makes : (m m' : List ℕ) (q : Call) (a : Answer) (wait : ℕ) → reply a m' ≡ call m q.operation q.cpu q.time q.context → Makes m m' q (record { answer = a; knowledge = Unknown wait })
+unmeasured_makes m m' q a wait e = record { replies = e; holds = unknown wait m' }

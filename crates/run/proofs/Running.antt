@@ -12,7 +12,7 @@ use Rattle.columns.proofs.Tabulate.{length_tabulate, get_d_tabulate}
 use Rattle.answer.specs.declared.Answer.{Answer}
 use Rattle.context_ops.specs.Reply.{Reply, reply}
 use Rattle.numbers.specs.Limits.{max_word}
-use Rattle.run.specs.declared.Call.{Call}
+use Rattle.operations.specs.declared.arguments.Call.{Call}
 use Rattle.run.specs.Run.{call_at, calls_of, answer_words, put_answer, Run, ran, reply_of, one_more, run_calls, run_reply, lengths_fit, run}
 
 -- four stores, one after the other

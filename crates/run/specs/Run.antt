@@ -1,11 +1,11 @@
 -- A run of calls: each is on the image that the one before it left. Assumes nothing.
-use Rattle.std.specs.Prelude.{Bool, ◌&&◌, List, [], ◌∷◌, ◌++◌, ℕ, ◌+◌, ◌*◌, ◌/◌, ◌%◌, eqb, length, get_or, take, drop, if◌then◌else◌}
+use Rattle.std.specs.Prelude.{Bool, ◌&&◌, List, [], ◌∷◌, ◌++◌, ℕ, ◌+◌, ◌*◌, ◌/◌, ◌%◌, eqb, length, get_or, take, drop, if◌then◌else◌, None, Option, Some}
 use Rattle.columns.specs.Common.{fold, tabulate}
 use Rattle.answer.specs.declared.Answer.{Answer}
 use Rattle.context_ops.specs.Reply.{Reply}
 use Rattle.calls.specs.Call.{call}
 use Rattle.numbers.specs.Limits.{max_word}
-use Rattle.run.specs.declared.Call.{Call}
+use Rattle.operations.specs.declared.arguments.Call.{Call}
 
 -- four words of a call, one call after the other
 abbrev pub call_at : List ℕ → ℕ → Call
@@ -54,6 +54,11 @@ pub record RunReply : Type 0 where
 
 abbrev pub run_reply : ℕ → List ℕ → List ℕ → RunReply
 run_reply made m w = record { made = made; image = m; answers = w }
+
+-- all ones where none was, since the lengths do not fit
+abbrev pub made_of : Option ℕ → ℕ
+made_of None = max_word
+made_of (Some n) = n
 
 -- a whole number of calls, and as many answers
 unfoldable pub lengths_fit : (calls answers : List ℕ) → Bool

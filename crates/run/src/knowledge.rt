@@ -1,13 +1,13 @@
 // What a run knows of its image: that it passes the check, and how far its numbers can have grown. As long as that is in range no check is made.
-ghost use Rattle.std.specs.Prelude.{◌≡◌, None, ◌≤◌};
+ghost use Rattle.std.specs.Prelude.{◌≡◌, ◌≤◌};
 ghost use Rattle.image.specs.Refusal.{size_c, size_n, image_refusal};
 ghost use Rattle.numbers.specs.Limits.{max_number};
 ghost use Rattle.growth.specs.Growth.{Known};
 ghost use Rattle.run.specs.Knowledge.{Holds, Makes};
 
-use crate::Call;
 use answer::Answer;
 use growth::Bounds;
+use operations::Call;
 use refusal::{Refusal, refused};
 
 // calls that are checked without measuring where a measurement served one call only
@@ -21,11 +21,11 @@ pub struct Passing {
     pub bounds: Bounds,
 }
 
-// What is known of the image, if it is. If not, so many calls wait for the next measurement.
+// What is known of the image. If nothing is, so many calls wait for the next measurement.
 #[derive(Clone, Copy)]
-pub struct Knowledge {
-    pub known: Option<Passing>,
-    pub wait: u64,
+pub enum Knowledge {
+    Passes(Passing),
+    Unknown { wait: u64 },
 }
 
 #[derive(Clone, Copy)]
@@ -34,42 +34,20 @@ pub struct Made {
     pub knowledge: Knowledge,
 }
 
-pub fn nothing(wait: u64) -> Knowledge
-    ensures { result.known ≡ None }
-{
-    Knowledge { known: None, wait }
-}
-
 // The image passes at every time: nothing is checked. wait: of what is known after, if nothing is.
 fn on_known(image: &mut [u64], p: Passing, q: Call, wait: u64) -> Made
     requires known { Known p.cpus p.contexts p.bounds image.old }
     requires time_le_max_number { q.time ≤ max_number }
     ensures { Makes image.old image.new q result }
 {
-    let c = p.cpus;
-    let n = p.contexts;
-    let b = p.bounds;
-    let after = growth::call_bounds(image, c, n, q.operation, q.cpu, q.time, b);
-    let known = growth::is_in_range(after);
-    let answer = operations::on_image(image, c, n, q.operation, q.cpu, q.time, q.context);
-    if known {
-        let passing = Passing {
-            cpus: c,
-            contexts: n,
-            bounds: after,
-        };
-        return Made {
-            answer,
-            knowledge: Knowledge {
-                known: Some(passing),
-                wait,
-            },
-        };
+    let after = growth::call_bounds(image, p.cpus, p.contexts, q, p.bounds);
+    let answer = operations::on_image(image, p.cpus, p.contexts, q);
+    if growth::is_in_range(after) {
+        let knowledge = Knowledge::Passes(Passing { bounds: after, ..p });
+        return Made { answer, knowledge };
     }
-    Made {
-        answer,
-        knowledge: nothing(wait),
-    }
+    let knowledge = Knowledge::Unknown { wait };
+    Made { answer, knowledge }
 }
 
 // The image has passed the check for this call.
@@ -86,21 +64,18 @@ fn measured(image: &mut [u64], c: usize, n: usize, q: Call) -> Made
         };
         return on_known(image, p, q, WAIT);
     }
-    let a = operations::on_image(image, c, n, q.operation, q.cpu, q.time, q.context);
-    Made {
-        answer: a,
-        knowledge: nothing(WAIT),
-    }
+    let answer = operations::on_image(image, c, n, q);
+    let knowledge = Knowledge::Unknown { wait: WAIT };
+    Made { answer, knowledge }
 }
 
 fn checked(image: &mut [u64], q: Call) -> Made
     ensures { Makes image.old image.new q result }
 {
-    let found = calls::check(image, q.time);
-    match found {
+    match calls::check(image, q.time) {
         Err(refusal) => Made {
             answer: refused(refusal),
-            knowledge: nothing(0),
+            knowledge: Knowledge::Unknown { wait: 0 },
         },
         Ok((c, n)) => measured(image, c, n, q),
     }
@@ -110,11 +85,9 @@ fn checked(image: &mut [u64], q: Call) -> Made
 fn unmeasured(image: &mut [u64], wait: u64, q: Call) -> Made
     ensures { Makes image.old image.new q result }
 {
-    let a = operations::call(image, q.operation, q.cpu, q.time, q.context);
-    Made {
-        answer: a,
-        knowledge: nothing(wait),
-    }
+    let answer = operations::call(image, q);
+    let knowledge = Knowledge::Unknown { wait };
+    Made { answer, knowledge }
 }
 
 // Nothing of the check but refusal 3 depends on the time.
@@ -125,10 +98,7 @@ fn unchecked(image: &mut [u64], p: Passing, q: Call) -> Made
     if numbers::MAX_NUMBER < q.time {
         return Made {
             answer: refused(Refusal::Range),
-            knowledge: Knowledge {
-                known: Some(p),
-                wait: 0,
-            },
+            knowledge: Knowledge::Passes(p),
         };
     }
     on_known(image, p, q, 0)
@@ -138,13 +108,9 @@ pub fn make_call(image: &mut [u64], s: Knowledge, q: Call) -> Made
     requires { Holds s image.old }
     ensures { Makes image.old image.new q result }
 {
-    match s.known {
-        Some(p) => unchecked(image, p, q),
-        None => {
-            if s.wait != 0 {
-                return unmeasured(image, s.wait - 1, q);
-            }
-            checked(image, q)
-        }
+    match s {
+        Knowledge::Passes(p) => unchecked(image, p, q),
+        Knowledge::Unknown { wait: 0 } => checked(image, q),
+        Knowledge::Unknown { wait } => unmeasured(image, wait - 1, q),
     }
 }

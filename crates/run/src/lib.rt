@@ -4,24 +4,14 @@
 mod knowledge;
 
 ghost use Rattle.std.specs.Prelude.{◌≡◌, ◌+◌, ◌*◌, ◌≤◌, length};
-ghost use Rattle.run.specs.Run.{call_at, calls_of, put_answer, ran, run_calls, run_reply, run};
+ghost use Rattle.run.specs.Run.{call_at, calls_of, put_answer, ran, run_calls, made_of, run_reply, run};
 
 use answer::Answer;
+use knowledge::Knowledge;
+use operations::Call;
 
 // the words of a call, and of an answer
 pub const CALL_SIZE: usize = 4;
-
-// what is returned where the lengths do not fit
-pub const UNFIT: u64 = u64::MAX;
-
-// A call as the list has it.
-#[derive(Clone, Copy)]
-pub struct Call {
-    pub operation: u64,
-    pub cpu: u64,
-    pub time: u64,
-    pub context: u64,
-}
 
 // Call i of the list.
 fn call_at(calls: &[u64], i: usize) -> Call
@@ -54,7 +44,8 @@ fn make_calls(image: &mut [u64], calls: &[u64], answers: &mut [u64], count: usiz
     requires { (4 * count ≡ length calls.now) × (length answers.old ≡ length calls.now) }
     ensures { ran image.new answers.new ≡ run_calls image.old (calls_of calls.now) }
 {
-    let mut s = knowledge::nothing(0);
+    // an index into both lists: of a slice lent by `chunks_mut` a proof knows only the length afterwards (c)
+    let mut s = Knowledge::Unknown { wait: 0 };
     for i in 0..count {
         let r = knowledge::make_call(image, s, call_at(calls, i));
         s = r.knowledge;
@@ -62,17 +53,14 @@ fn make_calls(image: &mut [u64], calls: &[u64], answers: &mut [u64], count: usiz
     }
 }
 
-// The number of calls that were made, accepted or refused.
-pub fn run(image: &mut [u64], calls: &[u64], answers: &mut [u64]) -> u64
-    ensures { run_reply result image.new answers.new ≡ run image.old calls.now answers.old }
+// The number of calls that were made, accepted or refused; none if the lengths do not fit.
+pub fn run(image: &mut [u64], calls: &[u64], answers: &mut [u64]) -> Option<u64>
+    ensures { run_reply (made_of result) image.new answers.new ≡ run image.old calls.now answers.old }
 {
-    if calls.len() % CALL_SIZE != 0 {
-        return UNFIT;
-    }
-    if answers.len() != calls.len() {
-        return UNFIT;
+    if calls.len() % CALL_SIZE != 0 || answers.len() != calls.len() {
+        return None;
     }
     let count = calls.len() / CALL_SIZE;
     make_calls(image, calls, answers, count);
-    numbers::word(count)
+    Some(numbers::word(count))
 }

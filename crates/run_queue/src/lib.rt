@@ -13,15 +13,15 @@ ghost use Rattle.run_queue.specs.Put.{no_room, queue_put};
 ghost use Rattle.percpu.specs.Places.{queue_count, block_size};
 
 use entries::{Entry, Key};
-use percpu::places::{ENTRY_CONTEXT_REF, ENTRY_VTIME, ENTRY_WEIGHT, KEY_VD, QUEUE_COUNT};
-use table::{NoRoom, QUEUE_KEYS};
+use percpu::places::{ENTRY_CONTEXT_REF, ENTRY_VTIME, ENTRY_WEIGHT};
+use table::{NoRoom, QUEUE};
 
 pub fn entry(b: &[u64], i: usize) -> Entry
     requires { (length b.now ≡ block_size) × (i < 64) }
     ensures { result ≡ entry_at b.now i }
 {
     Entry {
-        key: QUEUE_KEYS.key(b, i),
+        key: QUEUE.keys.key(b, i),
         vtime: b[ENTRY_VTIME + i],
         weight: b[ENTRY_WEIGHT + i],
         context_ref: b[ENTRY_CONTEXT_REF + i],
@@ -33,10 +33,7 @@ pub fn insert(b: &mut [u64], e: Entry) -> Result<(), NoRoom>
     requires { (length b.old ≡ block_size) × (get_or b.old queue_count 0 ≤ 64) }
     ensures { (c : Cpu) → b.old ≡ cpu_words c → length c.queue ≤ 64 → Sorted entry_before c.queue → (is_err result ≡ no_room e c) × (b.new ≡ cpu_words (queue_put e c)) }
 {
-    let n = b[QUEUE_COUNT] as usize;
     let k = e.key;
-    let p = QUEUE_KEYS.find(b, n, k);
-    let held = QUEUE_KEYS.holds(b, n, p, k);
     let values = [
         k.vd,
         k.rem_slice,
@@ -45,7 +42,7 @@ pub fn insert(b: &mut [u64], e: Entry) -> Result<(), NoRoom>
         e.weight,
         e.context_ref,
     ];
-    table::put(b, KEY_VD, QUEUE_COUNT, &values, n, p, held)
+    QUEUE.insert(b, k, &values)
 }
 
 // True if there was an entry of the key; the words that it frees are 0.
@@ -53,12 +50,5 @@ pub fn remove(b: &mut [u64], k: Key) -> bool
     requires { (length b.old ≡ block_size) × (get_or b.old queue_count 0 ≤ 64) }
     ensures { (c : Cpu) → b.old ≡ cpu_words c → length c.queue ≤ 64 → Sorted entry_before c.queue → (result ≡ has_key k c.queue) × (b.new ≡ cpu_words (cpu_queue (queue_remove k c.queue) c)) }
 {
-    let n = b[QUEUE_COUNT] as usize;
-    let p = QUEUE_KEYS.find(b, n, k);
-    if QUEUE_KEYS.holds(b, n, p, k) {
-        table::remove_row(b, KEY_VD, 6, n, p);
-        b[QUEUE_COUNT] = (n - 1) as u64;
-        return true;
-    }
-    false
+    QUEUE.remove(b, k)
 }

@@ -18,24 +18,14 @@ pub enum UpdateResult {
 fn elsewhere(mark: bool, own: bool) -> bool
     ensures { result ≡ (mark && not own) }
 {
-    if mark {
-        return !own;
-    }
-    false
+    mark && !own
 }
 
 // Soft-blocked with a wake that has come.
 fn is_due(c: Context, schedule_time: u64) -> bool
     ensures { result ≡ wake_has_come schedule_time c }
 {
-    let status = c.status;
-    if status.is_soft_blocked() {
-        if c.has_wake {
-            return c.wake <= schedule_time;
-        }
-        return false;
-    }
-    false
+    c.status.is_soft_blocked() && c.has_wake && c.wake <= schedule_time
 }
 
 pub fn update_runnable(
@@ -62,8 +52,7 @@ pub fn update_runnable(
         awake.wake_up();
         return UpdateResult::CanSwitch(awake);
     }
-    let status = c.status;
-    if status.is_runnable() {
+    if c.status.is_runnable() {
         return UpdateResult::CanSwitch(c);
     }
     UpdateResult::Blocked

@@ -3,7 +3,7 @@ use Rattle.std.specs.Prelude.{None, Option, Some, is_some}
 use mathlib.Core.Path.{◌≡◌, refl, sym, ap, ◌∙◌, subst}
 use mathlib.Core.Bool.{Bool, true, false}
 use mathlib.Core.List.{List}
-use Prim.Native.Nat.{ℕ, ◌<◌, ◌≤◌}
+use Prim.Native.Nat.{ℕ, ◌<◌}
 use native.Mathlib.Omega.{arith}
 use lib.ListN.{length, set}
 use Rattle.percpu.specs.Cpu.{Cpu}
@@ -17,7 +17,7 @@ use Rattle.stages.specs.Stage.{put_state, Stage}
 use Rattle.stages.proofs.Compose.{state_put}
 use Rattle.stages.proofs.Reading.{put_same}
 use Rattle.switch_to.specs.Direct.{or_same}
-use Rattle.schedule.specs.Part.{Result, put_in, PartAt, Part}
+use Rattle.schedule.specs.Part.{Result, put_in, Part}
 use Rattle.schedule.specs.Decides.{Told, undecided, DecidesAt, Decides, Ends}
 use lib.Seq.{set-set, set-get_or}
 use Rattle.columns.proofs.Tests.{never}

@@ -1,14 +1,13 @@
 -- `switch_inner` from its parts. Assumes nothing.
-use Rattle.std.specs.Prelude.{if◌then◌else◌, None, Option, Some, is_some}
+use Rattle.std.specs.Prelude.{None, Option, Some, is_some}
 use mathlib.Core.Path.{◌≡◌, refl, sym, ap, ◌∙◌, subst}
 use mathlib.Core.Logic.{◌≢◌}
-use mathlib.Core.Bool.{Bool, true, false, not, ◌&&◌}
+use mathlib.Core.Bool.{Bool, true, false}
 use mathlib.Core.List.{List}
-use Prim.Native.Nat.{ℕ, ◌<◌, ◌≤◌}
+use Prim.Native.Nat.{ℕ, ◌<◌}
 use native.Mathlib.Omega.{arith}
 use lib.Dec.{eqb}
 use borrow.Author.Tests.{eq-eqb, ne_eqb}
-use Rattle.context.specs.Status.{is_runnable}
 use Rattle.cpu_stats.specs.declared.CpuState.TheVariants.{Idle}
 use Rattle.cpu_stats.specs.declared.CpuStats.{CpuStats}
 use Rattle.cpu_stats.specs.With.{stats_state}
@@ -19,9 +18,9 @@ use Rattle.machine.specs.Machine.{Machine, cpu_at}
 use Rattle.machine.specs.Encode.{encode}
 use Rattle.machine.specs.Shape.{Fits, Image}
 use Rattle.machine.specs.Outcome.{Outcome}
-use Rattle.model.specs.State.{State, state_of, at}
+use Rattle.model.specs.State.{State, state_of}
 use Rattle.model.specs.SwitchTo.{switch_to, try_direct_switch_back}
-use Rattle.model.specs.Schedule.{Scheduled, finish_by, finish, schedule, switch_as, after_schedule, switch_inner_by, switch_inner}
+use Rattle.model.specs.Schedule.{finish_by, finish, schedule, switch_as, after_schedule, switch_inner_by, switch_inner}
 use Rattle.model.proofs.Cases.{pick}
 use Rattle.model.proofs.NoRoom.{switch_to_full}
 use Rattle.stages.specs.Stage.{Stage, Staged, Ranged}
@@ -32,7 +31,7 @@ use Rattle.stages.proofs.Kept.{ranged_more}
 use Rattle.switch_to.specs.Direct.{or_same}
 use Rattle.schedule.specs.Begun.{CanBegin}
 use Rattle.schedule.specs.Part.{Ruled, ruled, of_scheduled, Part}
-use Rattle.schedule.specs.Decides.{Told, told, undecided, DecidesAt, Ends}
+use Rattle.schedule.specs.Decides.{Told, told, undecided, Ends}
 use Rattle.schedule.specs.Switched.{marked_idle, switched_to, switched, switch_result}
 use Rattle.columns.proofs.Tests.{never}
 use Rattle.schedule.proofs.Parts.{part_stage}

@@ -1,18 +1,18 @@
 -- How stages and parts of a decision compose. Assumes nothing.
 use mathlib.Core.Path.{◌≡◌, refl, sym, ap, ◌∙◌, subst}
 use mathlib.Core.Bool.{Bool, true, false}
-use mathlib.Core.List.{List, [], ◌∷◌}
-use Prim.Native.Nat.{ℕ, zero, suc, ◌<◌}
+use mathlib.Core.List.{List}
+use Prim.Native.Nat.{ℕ, ◌<◌}
 use native.Mathlib.Omega.{arith}
-use lib.ListN.{length, get_or, set, length-set}
-use lib.Seq.{get_or-set_same, set-get_or, set-set}
+use lib.ListN.{length, set, length-set}
+use lib.Seq.{get_or-set_same, set-set}
 use Rattle.columns.proofs.Tests.{never}
 use Rattle.percpu.specs.Cpu.{Cpu}
 use Rattle.machine.specs.Machine.{Machine, cpu_at, no_cpu}
 use Rattle.machine.specs.Encode.{encode}
-use Rattle.machine.specs.Shape.{Fits, Image}
+use Rattle.machine.specs.Shape.{Fits}
 use Rattle.model.specs.State.{State, state_of}
-use Rattle.stages.specs.Stage.{put_state, StageAt, Stage}
+use Rattle.stages.specs.Stage.{put_state, Stage}
 use Rattle.stages.proofs.Compose.{state_put}
 use Rattle.schedule.specs.Part.{Result, put_in, PartAt, Part}
 

@@ -1,11 +1,10 @@
 -- `schedule` from its beginning, the selection and the hand-over. Assumes nothing.
 use Rattle.std.specs.Prelude.{None, Option, Some}
-use mathlib.Core.Path.{◌≡◌, refl, sym, ap, ◌∙◌, subst}
+use mathlib.Core.Path.{◌≡◌, refl, sym, ap, ◌∙◌}
 use mathlib.Core.Bool.{Bool, true, false}
 use mathlib.Core.List.{List}
 use Prim.Native.Nat.{ℕ, ◌<◌, ◌≤◌}
 use native.Mathlib.Omega.{arith}
-use lib.ListN.{set}
 use Rattle.answer.specs.declared.Rule.{Rule}
 use Rattle.percpu.specs.Cpu.{Cpu}
 use Rattle.machine.specs.Machine.{Machine, cpu_at}
@@ -13,18 +12,16 @@ use Rattle.machine.specs.Encode.{encode}
 use Rattle.machine.specs.Shape.{Fits, Image}
 use Rattle.model.specs.State.{State, state_of}
 use Rattle.model.specs.Turn.{spent, was_idle, charge_holder, before_selection}
-use Rattle.model.specs.Schedule.{Selected, Scheduled, select_next_context, picked_as, schedule}
+use Rattle.model.specs.Schedule.{Selected, select_next_context, picked_as, schedule}
 use Rattle.model.proofs.NoRoom as no_room
 use Rattle.stages.specs.Stage.{Stage, Staged, Ranged}
-use Rattle.stages.proofs.Compose.{stage_as}
 use Rattle.turn.specs.declared.timing.Turn.{Turn}
 use Rattle.turn.specs.Turn.{turn_of}
 use Rattle.stages.proofs.Kept.{ranged_stage, ranged_more}
 use Rattle.stages.proofs.Reading.{unchanged}
 use Rattle.handover.proofs.Bounded.{hand_over_below}
-use Rattle.schedule.specs.Part.{Result, Ruled, ruled, of_selected, of_scheduled, Part}
+use Rattle.schedule.specs.Part.{Ruled, ruled, of_selected, of_scheduled, Part}
 use Rattle.schedule.specs.Switched.{handed}
-use Rattle.columns.proofs.Tests.{never}
 use Rattle.schedule.proofs.Parts.{stage_part, part_stage, part_as, part_full, no_part}
 use Rattle.schedule.proofs.Picked.{keeps_full}
 use Rattle.numbers.specs.Limits.{max_number}

@@ -1,18 +1,16 @@
 -- Counting, wake-ups and times as the beginning of a decision. Assumes nothing.
 use Rattle.std.specs.Prelude.{None, Option, Some}
-use mathlib.Core.Path.{◌≡◌, refl, sym, ap, ◌∙◌, subst}
-use mathlib.Core.Bool.{Bool, true, false}
+use mathlib.Core.Path.{◌≡◌, refl, sym, ◌∙◌, subst}
+use mathlib.Core.Bool.{true, false}
 use mathlib.Core.List.{List, [], ◌∷◌}
-use Prim.Native.Nat.{ℕ, ◌+◌, ◌<◌, ◌≤◌}
+use Prim.Native.Nat.{ℕ, ◌<◌, ◌≤◌}
 use native.Mathlib.Omega.{arith}
-use lib.ListN.{length, get_or, set}
+use lib.ListN.{length}
 use Rattle.columns.specs.Common.{fold}
 use Rattle.ticks.specs.Ticks.{max_ticks}
 use Rattle.ticks.proofs.Laws.{ticks_high}
-use Rattle.percpu.specs.Cpu.{Cpu}
 use Rattle.machine.specs.Machine.{Machine, cpu_at, no_cpu}
-use Rattle.machine.specs.Encode.{encode}
-use Rattle.machine.specs.Shape.{CpuFits, Fits, Image}
+use Rattle.machine.specs.Shape.{CpuFits}
 use Rattle.machine.proofs.Steps.{get_d_set}
 use Rattle.model.specs.State.{State, state_of, on_cpu}
 use Rattle.model.specs.Turn.{count_switch, elapsed, times, before_selection}

@@ -14,83 +14,68 @@ ghost use Rattle.schedule.specs.Ticked.{told_of, ticked_told};
 use crate::switching;
 use crate::switching::Decided;
 use answer::SwitchResult;
+use machine::CpuPlace;
 use stages::NoRoom;
 
 // The tick is counted, and the count returned.
-fn count_tick(m: &mut [u64], c: usize, n: usize, k: usize) -> u64
-    requires image { Image c n m.old }
-    requires k_lt_c { k < c }
-    requires ranged { Ranged c n max_number max_number m.old }
-    ensures { Stage c n k m.old m.new false result (λ (s : State). ticked s) (λ (s : State). s.cpu.block.pit_ticks + 1) }
+fn count_tick(m: &mut [u64], cpu: CpuPlace) -> u64
+    requires image { Image cpu.c cpu.n m.old }
+    requires ranged { Ranged cpu.c cpu.n max_number max_number m.old }
+    ensures { Stage cpu.c cpu.n cpu.k m.old m.new false result (λ (s : State). ticked s) (λ (s : State). s.cpu.block.pit_ticks + 1) }
 {
-    let mut b = stages::load_block(m, c, n, k);
+    let mut b = stages::load_block(m, cpu);
     let count = b.pit_ticks + 1;
     b.pit_ticks = count;
-    stages::store_block(m, c, n, k, b);
+    stages::store_block(m, cpu, b);
     count
 }
 
 // The switch, where one was due.
-pub fn tick(
-    m: &mut [u64],
-    c: usize,
-    n: usize,
-    k: usize,
-    time: u64,
-) -> Result<Option<Decided>, NoRoom>
-    requires image { Image c n m.old }
-    requires k_lt_c { (k < c) × (time ≤ max_number) }
-    requires ranged { Ranged c n max_number max_number m.old }
-    requires k_bound { (M : Machine) → m.old ≡ encode M → Fits c n M → elapsed time (cpu_at M k) ≤ max_elapsed }
-    ensures { Decides c n m.old m.new (is_err result) (ticked_told result) (λ (M : Machine). tick k time M) }
+pub fn tick(m: &mut [u64], cpu: CpuPlace, time: u64) -> Result<Option<Decided>, NoRoom>
+    requires image { Image cpu.c cpu.n m.old }
+    requires bounded { time ≤ max_number }
+    requires ranged { Ranged cpu.c cpu.n max_number max_number m.old }
+    requires k_bound { (M : Machine) → m.old ≡ encode M → Fits cpu.c cpu.n M → elapsed time (cpu_at M cpu.k) ≤ max_elapsed }
+    ensures { Decides cpu.c cpu.n m.old m.new (is_err result) (ticked_told result) (λ (M : Machine). tick cpu.k time M) }
 {
-    let count = count_tick(m, c, n, k);
+    let count = count_tick(m, cpu);
     if count < ticks::TICK_INTERVAL {
         return Ok(None);
     }
-    let decided = switching::switch_inner(m, c, n, k, time)?;
+    let decided = switching::switch_inner(m, cpu, time)?;
     Ok(Some(decided))
 }
 
-pub fn switch(m: &mut [u64], c: usize, n: usize, k: usize, time: u64) -> Result<Decided, NoRoom>
-    requires image { Image c n m.old }
-    requires k_lt_c { (k < c) × (time ≤ max_number) }
-    requires ranged { Ranged c n max_number max_number m.old }
-    requires k_bound { (M : Machine) → m.old ≡ encode M → Fits c n M → elapsed time (cpu_at M k) ≤ max_elapsed }
-    ensures { Decides c n m.old m.new (is_err result) (told_of result) (λ (M : Machine). switch k time M) }
+pub fn switch(m: &mut [u64], cpu: CpuPlace, time: u64) -> Result<Decided, NoRoom>
+    requires image { Image cpu.c cpu.n m.old }
+    requires bounded { time ≤ max_number }
+    requires ranged { Ranged cpu.c cpu.n max_number max_number m.old }
+    requires k_bound { (M : Machine) → m.old ≡ encode M → Fits cpu.c cpu.n M → elapsed time (cpu_at M cpu.k) ≤ max_elapsed }
+    ensures { Decides cpu.c cpu.n m.old m.new (is_err result) (told_of result) (λ (M : Machine). switch cpu.k time M) }
 {
-    switching::switch_inner(m, c, n, k, time)
+    switching::switch_inner(m, cpu, time)
 }
 
 pub fn direct_switch_to(
     m: &mut [u64],
-    c: usize,
-    n: usize,
-    k: usize,
+    cpu: CpuPlace,
     time: u64,
     x: usize,
 ) -> Result<Decided, NoRoom>
-    requires image { Image c n m.old }
-    requires k_lt_c { (k < c) × (x < n) × (time ≤ max_number) }
-    requires ranged { Ranged c n max_number max_number m.old }
-    requires k_bound { (M : Machine) → m.old ≡ encode M → Fits c n M → elapsed time (cpu_at M k) ≤ max_elapsed }
-    ensures { Decides c n m.old m.new (is_err result) (told_of result) (λ (M : Machine). direct_switch_to k time x M) }
+    requires image { Image cpu.c cpu.n m.old }
+    requires bounded { (x < cpu.n) × (time ≤ max_number) }
+    requires ranged { Ranged cpu.c cpu.n max_number max_number m.old }
+    requires k_bound { (M : Machine) → m.old ≡ encode M → Fits cpu.c cpu.n M → elapsed time (cpu_at M cpu.k) ≤ max_elapsed }
+    ensures { Decides cpu.c cpu.n m.old m.new (is_err result) (told_of result) (λ (M : Machine). direct_switch_to cpu.k time x M) }
 {
-    let b = stages::load_block(m, c, n, k);
+    let b = stages::load_block(m, cpu);
     let name = numbers::word(x);
-    if b.current_ctxt == name {
-        return Ok(Decided {
-            result: SwitchResult::Switched,
-            rule: 0,
-        });
-    }
     let own = b.sched_ctxt == name;
-    let made = switch_to::direct_switch_by(m, c, n, k, time, x, own)?;
-    if made {
+    if b.current_ctxt == name || switch_to::direct_switch_by(m, cpu, time, x, own)? {
         return Ok(Decided {
             result: SwitchResult::Switched,
-            rule: 0,
+            rule: None,
         });
     }
-    switching::switch_inner(m, c, n, k, time)
+    switching::switch_inner(m, cpu, time)
 }

@@ -14,71 +14,54 @@ ghost use Rattle.stages.specs.Bounds.{t_timed, b_charged, b_stolen};
 use crate::selecting::Next;
 use answer::Rule;
 use entries::Key;
+use machine::CpuPlace;
 use stages::NoRoom;
 use steal_judge::Locked;
 
 // An idle holder never counts as runnable.
-pub fn prev_runnable(m: &[u64], c: usize, n: usize, k: usize) -> bool
-    requires image { Image c n m.now }
-    requires k_lt_c { k < c }
-    ensures { (M : Machine) → m.now ≡ encode M → Fits c n M → result ≡ prev_runnable (state_of k M) }
+pub fn prev_runnable(m: &[u64], cpu: CpuPlace) -> bool
+    requires image { Image cpu.c cpu.n m.now }
+    ensures { (M : Machine) → m.now ≡ encode M → Fits cpu.c cpu.n M → result ≡ prev_runnable (state_of cpu.k M) }
 {
-    let b = stages::load_block(m, c, n, k);
-    if b.sched_ctxt == b.idle_ctxt {
-        return false;
-    }
-    let x = numbers::index(b.sched_ctxt);
-    let q = machine::load(m, c, n, x);
-    let status = q.status;
-    status.is_runnable()
+    let b = stages::load_block(m, cpu);
+    b.sched_ctxt != b.idle_ctxt
+        && machine::load(m, cpu.c, cpu.n, numbers::index(b.sched_ctxt))
+            .status
+            .is_runnable()
 }
 
 // Where nobody waits, the one who won was stolen.
+#[tactic(auto, unfolding(crate::specs::Stolen::stolen_rule))]
 fn after_stealing(rule: Rule, won: bool) -> Rule
     ensures { result ≡ stolen_rule won rule }
 {
-    match rule {
-        Rule::Idle => {
-            if won {
-                return Rule::Stolen;
-            }
-            Rule::Idle
-        }
-        _ => rule,
+    if won && rule == Rule::Idle {
+        return Rule::Stolen;
     }
+    rule
 }
 
 // Who won after the stealing, and by which rule.
-pub fn choose_and_steal(
-    m: &mut [u64],
-    c: usize,
-    n: usize,
-    k: usize,
-    time: u64,
-    runs: bool,
-) -> Result<Next, NoRoom>
-    requires image { Image c n m.old }
-    requires k_lt_c { k < c }
-    requires ranged { Ranged c n t_timed b_charged m.old }
-    requires runs_value { (M : Machine) → m.old ≡ encode M → Fits c n M → runs ≡ prev_runnable (state_of k M) }
-    ensures part { Part c n k m.old m.new (is_err result) (ruled_of result) (λ (cpus : List Cpu) (s : State). chosen_by k time cpus s) }
-    ensures named_below { IfOk result (λ next. NamedBelow n next.context × Ranged c n t_timed b_stolen m.new) }
+pub fn choose_and_steal(m: &mut [u64], cpu: CpuPlace, time: u64, runs: bool) -> Result<Next, NoRoom>
+    requires image { Image cpu.c cpu.n m.old }
+    requires ranged { Ranged cpu.c cpu.n t_timed b_charged m.old }
+    requires runs_value { (M : Machine) → m.old ≡ encode M → Fits cpu.c cpu.n M → runs ≡ prev_runnable (state_of cpu.k M) }
+    ensures part { Part cpu.c cpu.n cpu.k m.old m.new (is_err result) (ruled_of result) (λ (cpus : List Cpu) (s : State). chosen_by cpu.k time cpus s) }
+    ensures named_below { IfOk result (λ next. NamedBelow cpu.n next.context × Ranged cpu.c cpu.n t_timed b_stolen m.new) }
 {
-    let b = stages::load_block(m, c, n, k);
+    let b = stages::load_block(m, cpu);
     let none = Key {
         vd: 0,
         rem_slice: 0,
         ctxt_id: 0,
     };
     let mut keys = [none; select::MAX_KEYS];
-    let s = select::select(m, c, n, k, time, &mut keys);
-    let best = s.locked;
-    let winner = s.winner;
+    let s = select::select(m, cpu, time, &mut keys);
     let locked = Locked {
         sched_ctxt: numbers::index(b.sched_ctxt),
-        best,
+        best: s.locked,
     };
-    let context = steal::steal(m, c, n, k, runs, locked, winner)?;
+    let context = steal::steal(m, cpu, runs, locked, s.winner)?;
     let rule = after_stealing(s.rule, context.is_some());
     Ok(Next { context, rule })
 }

@@ -12,6 +12,7 @@ ghost use Rattle.stages.specs.Bounds.{t_timed, b_woken, b_charged, b_advanced};
 
 use crate::choosing;
 use answer::Rule;
+use machine::CpuPlace;
 use stages::NoRoom;
 use ticks::Spent;
 
@@ -24,25 +25,18 @@ pub struct Next {
 }
 
 // After the holder is charged.
-fn selected(
-    m: &mut [u64],
-    c: usize,
-    n: usize,
-    k: usize,
-    time: u64,
-    spent: Spent,
-) -> Result<Next, NoRoom>
-    requires image { Image c n m.old }
-    requires k_lt_c { (k < c) × (spent.ticks ≤ max_ticks) }
-    requires ranged { Ranged c n t_timed b_charged m.old }
-    ensures part { Part c n k m.old m.new (is_err result) (ruled_of result) (λ (cpus : List Cpu) (s : State). of_selected (selected k time spent cpus s)) }
-    ensures named_below { IfOk result (λ next. NamedBelow n next.context × Ranged c n t_timed b_advanced m.new) }
+fn selected(m: &mut [u64], cpu: CpuPlace, time: u64, spent: Spent) -> Result<Next, NoRoom>
+    requires image { Image cpu.c cpu.n m.old }
+    requires bounded { spent.ticks ≤ max_ticks }
+    requires ranged { Ranged cpu.c cpu.n t_timed b_charged m.old }
+    ensures part { Part cpu.c cpu.n cpu.k m.old m.new (is_err result) (ruled_of result) (λ (cpus : List Cpu) (s : State). of_selected (selected cpu.k time spent cpus s)) }
+    ensures named_below { IfOk result (λ next. NamedBelow cpu.n next.context × Ranged cpu.c cpu.n t_timed b_advanced m.new) }
 {
-    let runs = choosing::prev_runnable(m, c, n, k);
-    let won = choosing::choose_and_steal(m, c, n, k, time, runs)?;
+    let runs = choosing::prev_runnable(m, cpu);
+    let won = choosing::choose_and_steal(m, cpu, time, runs)?;
     let winner = won.context;
-    handover::settle(m, c, n, k, spent.ticks, winner.is_some(), runs)?;
-    let context = handover::next_context(m, c, n, k, runs, winner);
+    handover::settle(m, cpu, spent.ticks, winner.is_some(), runs)?;
+    let context = handover::next_context(m, cpu, runs, winner);
     Ok(Next {
         context,
         rule: won.rule,
@@ -51,18 +45,16 @@ fn selected(
 
 pub fn select_next_context(
     m: &mut [u64],
-    c: usize,
-    n: usize,
-    k: usize,
+    cpu: CpuPlace,
     time: u64,
     spent: Spent,
 ) -> Result<Next, NoRoom>
-    requires image { Image c n m.old }
-    requires k_lt_c { (k < c) × (spent.ticks ≤ max_ticks) }
-    requires ranged { Ranged c n t_timed b_woken m.old }
-    ensures part { Part c n k m.old m.new (is_err result) (ruled_of result) (λ (cpus : List Cpu) (s : State). of_selected (select_next_context k time spent cpus s)) }
-    ensures named_below { IfOk result (λ next. NamedBelow n next.context × Ranged c n t_timed b_advanced m.new) }
+    requires image { Image cpu.c cpu.n m.old }
+    requires bounded { spent.ticks ≤ max_ticks }
+    requires ranged { Ranged cpu.c cpu.n t_timed b_woken m.old }
+    ensures part { Part cpu.c cpu.n cpu.k m.old m.new (is_err result) (ruled_of result) (λ (cpus : List Cpu) (s : State). of_selected (select_next_context cpu.k time spent cpus s)) }
+    ensures named_below { IfOk result (λ next. NamedBelow cpu.n next.context × Ranged cpu.c cpu.n t_timed b_advanced m.new) }
 {
-    turn::charge_holder(m, c, n, k, spent)?;
-    selected(m, c, n, k, time, spent)
+    turn::charge_holder(m, cpu, spent)?;
+    selected(m, cpu, time, spent)
 }

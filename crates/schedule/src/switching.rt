@@ -11,113 +11,96 @@ ghost use Rattle.schedule.specs.Named.{NamedBelow};
 ghost use Rattle.schedule.specs.Switched.{marked_idle, switched_to, switched, switch_result};
 ghost use Rattle.numbers.specs.Limits.{max_number};
 ghost use Rattle.stages.specs.Bounds.{t_handed, b_advanced};
-ghost use Rattle.answer.specs.Number.{result_number};
+ghost use Rattle.answer.specs.Number.{result_number, rule_number};
 ghost use Rattle.schedule.specs.Ticked.{told_of};
 
 use crate::scheduling;
-use answer::SwitchResult;
+use answer::{Rule, SwitchResult};
 use cpu_stats::CpuState;
+use machine::CpuPlace;
 use stages::NoRoom;
 
-// What a switch came to, and the number of its rule, 0 where nothing was decided.
+// What a switch came to, and by which rule: none where nothing was decided.
 #[derive(Clone, Copy)]
 pub struct Decided {
     pub result: SwitchResult,
-    pub rule: u64,
+    pub rule: Option<Rule>,
 }
 
-fn mark_idle(m: &mut [u64], c: usize, n: usize, k: usize)
-    requires image { Image c n m.old }
-    requires k_lt_c { k < c }
-    ensures { Staged c n k m.old m.new false (λ (s : State). marked_idle s) }
+fn mark_idle(m: &mut [u64], cpu: CpuPlace)
+    requires image { Image cpu.c cpu.n m.old }
+    ensures { Staged cpu.c cpu.n cpu.k m.old m.new false (λ (s : State). marked_idle s) }
 {
-    let mut b = stages::load_block(m, c, n, k);
+    let mut b = stages::load_block(m, cpu);
     b.stats.set_state(CpuState::Idle);
-    stages::store_block(m, c, n, k, b);
+    stages::store_block(m, cpu, b);
 }
 
-fn switch_unless_current(
-    m: &mut [u64],
-    c: usize,
-    n: usize,
-    k: usize,
-    time: u64,
-    x: usize,
-) -> Result<(), NoRoom>
-    requires image { Image c n m.old }
-    requires k_lt_c { (k < c) × (x < n) × (time ≤ max_number) }
-    requires ranged { Ranged c n t_handed b_advanced m.old }
-    ensures { Staged c n k m.old m.new (is_err result) (λ (s : State). switched_to k time x s) }
+fn switch_unless_current(m: &mut [u64], cpu: CpuPlace, time: u64, x: usize) -> Result<(), NoRoom>
+    requires image { Image cpu.c cpu.n m.old }
+    requires bounded { (x < cpu.n) × (time ≤ max_number) }
+    requires ranged { Ranged cpu.c cpu.n t_handed b_advanced m.old }
+    ensures { Staged cpu.c cpu.n cpu.k m.old m.new (is_err result) (λ (s : State). switched_to cpu.k time x s) }
 {
-    let b = stages::load_block(m, c, n, k);
+    let b = stages::load_block(m, cpu);
     if b.current_ctxt == numbers::word(x) {
         return Ok(());
     }
-    switch_to::switch_to(m, c, n, k, time, x)
+    switch_to::switch_to(m, cpu, time, x)
 }
 
 // Keeping the holder is AllContextsIdle and marks the CPU Idle, though the holder may run.
 fn switch_as(
     m: &mut [u64],
-    c: usize,
-    n: usize,
-    k: usize,
+    cpu: CpuPlace,
     time: u64,
     picked: Option<usize>,
-    rule: u64,
+    rule: Rule,
 ) -> Result<Decided, NoRoom>
-    requires image { Image c n m.old }
-    requires k_lt_c { (k < c) × (time ≤ max_number) × NamedBelow n picked }
-    requires ranged { Ranged c n t_handed b_advanced m.old }
-    ensures { Stage c n k m.old m.new (is_err result) (told_of result) (λ (s : State). switched k time picked s) (λ (s : State). told (result_number (switch_result picked)) rule) }
+    requires image { Image cpu.c cpu.n m.old }
+    requires bounded { (time ≤ max_number) × NamedBelow cpu.n picked }
+    requires ranged { Ranged cpu.c cpu.n t_handed b_advanced m.old }
+    ensures { Stage cpu.c cpu.n cpu.k m.old m.new (is_err result) (told_of result) (λ (s : State). switched cpu.k time picked s) (λ (s : State). told (result_number (switch_result picked)) (rule_number rule)) }
 {
     match picked {
         None => {
-            mark_idle(m, c, n, k);
+            mark_idle(m, cpu);
             Ok(Decided {
                 result: SwitchResult::AllContextsIdle,
-                rule,
+                rule: Some(rule),
             })
         }
         Some(x) => {
-            switch_unless_current(m, c, n, k, time, x)?;
+            switch_unless_current(m, cpu, time, x)?;
             Ok(Decided {
                 result: SwitchResult::Switched,
-                rule,
+                rule: Some(rule),
             })
         }
     }
 }
 
-fn decide(m: &mut [u64], c: usize, n: usize, k: usize, time: u64) -> Result<Decided, NoRoom>
-    requires image { Image c n m.old }
-    requires k_lt_c { (k < c) × (time ≤ max_number) }
-    requires can_begin { CanBegin c n k time m.old }
-    ensures { Ends c n k m.old m.new (is_err result) (told_of result) (λ (cpus : List Cpu) (s : State). after_schedule k time (schedule k time cpus s)) }
+fn decide(m: &mut [u64], cpu: CpuPlace, time: u64) -> Result<Decided, NoRoom>
+    requires image { Image cpu.c cpu.n m.old }
+    requires bounded { time ≤ max_number }
+    requires can_begin { CanBegin cpu.c cpu.n cpu.k time m.old }
+    ensures { Ends cpu.c cpu.n cpu.k m.old m.new (is_err result) (told_of result) (λ (cpus : List Cpu) (s : State). after_schedule cpu.k time (schedule cpu.k time cpus s)) }
 {
-    let next = scheduling::schedule(m, c, n, k, time)?;
-    let number = u64::from(next.rule);
-    switch_as(m, c, n, k, time, next.context, number)
+    let next = scheduling::schedule(m, cpu, time)?;
+    switch_as(m, cpu, time, next.context, next.rule)
 }
 
-pub fn switch_inner(
-    m: &mut [u64],
-    c: usize,
-    n: usize,
-    k: usize,
-    time: u64,
-) -> Result<Decided, NoRoom>
-    requires image { Image c n m.old }
-    requires k_lt_c { (k < c) × (time ≤ max_number) }
-    requires can_begin { CanBegin c n k time m.old }
-    ensures { Ends c n k m.old m.new (is_err result) (told_of result) (λ (cpus : List Cpu) (s : State). switch_inner k time cpus s) }
+pub fn switch_inner(m: &mut [u64], cpu: CpuPlace, time: u64) -> Result<Decided, NoRoom>
+    requires image { Image cpu.c cpu.n m.old }
+    requires bounded { time ≤ max_number }
+    requires can_begin { CanBegin cpu.c cpu.n cpu.k time m.old }
+    ensures { Ends cpu.c cpu.n cpu.k m.old m.new (is_err result) (told_of result) (λ (cpus : List Cpu) (s : State). switch_inner cpu.k time cpus s) }
 {
-    let back = switch_to::try_direct_switch_back(m, c, n, k, time)?;
-    if back {
+    if switch_to::try_direct_switch_back(m, cpu, time)? {
         return Ok(Decided {
             result: SwitchResult::Switched,
-            rule: 0,
+            rule: None,
         });
     }
-    decide(m, c, n, k, time)
+    decide(m, cpu, time)
 }

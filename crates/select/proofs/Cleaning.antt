@@ -23,7 +23,6 @@ use Rattle.stages.specs.Stage.{put_state, Staged}
 use Rattle.stages.specs.Read.{BlockFits}
 use Rattle.stages.proofs.Reading.{stage_none}
 use Rattle.stages.proofs.Compose.{stage_then, stage_as}
-use Rattle.select_judge.specs.Values.{WinnerBelow}
 use Rattle.select.specs.Cleaning.{lightened, remove_keys, cleaned}
 use Rattle.select_judge.proofs.Judging.{other}
 use Rattle.select.proofs.Walking.{fold_append}
@@ -119,6 +118,3 @@ module _ {c n : ℕ} {m : List ℕ} (k x : ℕ) {q : Context} (h : k < c) (i : I
 
 pub taken_as : {c n k : ℕ} {m m' : List ℕ} {w w' : Option ℕ} → w ≡ w' → Staged c n k m m' false (λ (s : State). taken_out w' s) → Staged c n k m m' false (λ (s : State). taken_out w s)
 taken_as {c} {n} {k} {m} {m'} e t = subst (λ (y : Option ℕ). Staged c n k m m' false (λ (s : State). taken_out y s)) (sym e) t
-
-pub winner_at : (n : ℕ) {w w' : Option ℕ} → w ≡ w' → WinnerBelow n w → WinnerBelow n w'
-winner_at n e h = subst (WinnerBelow n) e h

@@ -133,7 +133,7 @@ below_late : (n : ℕ) (a b : Bool) (e : Entry) (l : (Option Entry)) → e.conte
 below_late n true b e l h k = k
 below_late n false b e l h k = below_choice n b e l h k
 
-module _ {n : ℕ} {w : Scanned} {d : List Key} (o : Room n w d) where
+module _ {n : ℕ} {w : Scanned} (o : Room n w) where
   pub grown_none : Grown n w w
   grown_none = record { best = nobody_below n _ o.nobody; late = o.late; keys = omega arith; sum = omega arith }
 

@@ -24,7 +24,7 @@ use Rattle.model.specs.Scan.{Scan, Visit, visit, scan_step, scan_start, scan}
 use Rattle.select_judge.specs.declared.Scanner.{Scanner}
 use Rattle.select_judge.specs.declared.Scanned.{Scanned}
 use Rattle.select_judge.specs.Values.{BestBelow, scanner_cpu}
-use Rattle.select.specs.Scanning.{visit_by, visited_by, step_by, scan_by, seen, found, Scans, Room, Grown, max_keys}
+use Rattle.select.specs.Scanning.{visit_by, visited_by, step_by, scan_by, seen, found, Scans, Room, Grown}
 use Rattle.select.proofs.Visited.{scans, at_as, scans_as}
 use Rattle.weights.specs.Weights.{max_weight}
 use Rattle.percpu.specs.Places.{queue_count}
@@ -120,7 +120,7 @@ found_nobody (Some e) h = let z : ◌≡◌ {A = ℕ} 0 1 = cc in absurd (omega 
 pub record Loop (c n k len : ℕ) (m₀ m : List ℕ) (d : List Key) (t : Scanner) (w : Scanned) (i : ℕ) : Type 0 where
   pub few : len ≤ 64
   pub same : length m ≡ length m₀
-  pub size : length d ≡ max_keys
+  pub size : length d ≡ 64
   pub keys : w.contexts_to_remove ≤ i
   pub sum : w.weight_change ≤ max_weight * i
   pub nobody : w.eligible_best ≡ None
@@ -156,11 +156,11 @@ module _ {c n k len : ℕ} {m₀ m : List ℕ} {d : List Key} {t : Scanner} {w :
   pub loop_count : k < c → (j : Image c n m₀) → ((M : Machine) → m₀ ≡ encode M → Fits c n M → len ≡ length (cpu_at M k).queue) → i < len → i < get_or m (cpu_place n k + queue_count) 0
   loop_count h j f b = subst (λ y. i < y) (f j.M j.eq j.fits ∙ sym (count_kept k h j l.scans)) b
 
-  pub loop_room : i < len → Room n w d
+  pub loop_room : i < len → Room n w
   loop_room b =
       let j : w.contexts_to_remove ≤ i = l.keys
       in let x : w.weight_change ≤ max_weight * i = l.sum
-      in record { nobody = l.nobody; late = l.late; keys = omega (arith, l.few); sum = omega (arith, l.few); size = l.size }
+      in record { nobody = l.nobody; late = l.late; keys = omega (arith, l.few); sum = omega (arith, l.few) }
 
   pub loop_found : {w' : Scanned} → i < len → Grown n w w' → (w'.contexts_to_remove ≤ 64) × (BestBelow n w'.eligible_best) × (BestBelow n w'.ineligible_best)
   loop_found {w'} b g =

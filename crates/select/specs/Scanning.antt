@@ -1,5 +1,5 @@
 -- What the code's values say of the scan. Assumes nothing.
-use Rattle.std.specs.Prelude.{◌≡◌, List, [], ℕ, ◌+◌, ◌*◌, ◌<◌, ◌≤◌, length, take, None, Option}
+use Rattle.std.specs.Prelude.{◌≡◌, List, [], ℕ, ◌+◌, ◌*◌, ◌<◌, ◌≤◌, take, None, Option}
 use Rattle.context.specs.declared.Context.{Context}
 use Rattle.entries.specs.declared.Key.{Key}
 use Rattle.entries.specs.declared.Entry.{Entry}
@@ -27,7 +27,7 @@ module _ (t : Scanner) where
   scan_by cs q = scan t.cpu_id t.time (scanner_cpu t) t.ineligible_holder cs q
 
 -- what a visit goes by of a scan
-abbrev pub seen : List Context → (Option Entry) → Scan
+abbrev pub seen : List Context → Option Entry → Scan
 seen cs late =
     record { contexts = cs; eligible_best = None; ineligible_best = late; weight_change = 0; contexts_to_remove = [] }
 
@@ -38,10 +38,6 @@ VisitFits c gone = Unit {0}
 VisitFits c (blocked q) = ContextFits c q
 VisitFits c (no_addr_space q) = ContextFits c q
 VisitFits c (ready q) = ContextFits c q
-
--- how many keys a scratch holds
-abbrev pub max_keys : ℕ
-max_keys = 64
 
 -- the first n of them
 abbrev pub keys_in : List Key → ℕ → List Key
@@ -80,12 +76,11 @@ given_up w x =
     }
 
 -- what one entry needs: room for a key, and a sum that cannot wrap
-pub record Room (n : ℕ) (w : Scanned) (d : List Key) : Type 0 where
+pub record Room (n : ℕ) (w : Scanned) : Type 0 where
   pub nobody : w.eligible_best ≡ None
   pub late : BestBelow n w.ineligible_best
   pub keys : w.contexts_to_remove < 64
   pub sum : w.weight_change ≤ (64 * max_weight)
-  pub size : length d ≡ max_keys
 
 -- what it may add
 pub record Grown (n : ℕ) (w r : Scanned) : Type 0 where

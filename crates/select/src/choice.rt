@@ -20,9 +20,8 @@ pub fn choose(m: &[u64], c: usize, n: usize, h: Holder, w: Scanned) -> Selected
     ensures winner_below { WinnerBelow n result.winner }
     ensures rule_value { (M : Machine) → m.now ≡ encode M → Fits c n M → (s : State) (f : Scan) → Holding h s → Chosen M.contexts w f → result.rule ≡ rule_of s false f }
 {
-    let best = w.eligible_best;
     let late = w.ineligible_best;
-    match best {
+    match w.eligible_best {
         None => select_judge::without_entry(h, late),
         Some(e) => {
             let x = numbers::index(e.context_ref);

@@ -6,17 +6,18 @@ ghost use Rattle.machine.specs.Shape.{Fits, Image};
 ghost use Rattle.model.specs.State.{State, state_of};
 ghost use Rattle.select_judge.specs.Holding.{Holding, Scanning};
 
+use machine::CpuPlace;
 use percpu::PercpuBlock;
 use select_judge::{Holder, Scanner};
 
 // The holder of CPU k, whose block is b.
-pub fn holder(m: &[u64], c: usize, n: usize, k: usize, b: PercpuBlock) -> Holder
-    requires image { Image c n m.now }
-    requires sched_ctxt_bound { b.sched_ctxt < n }
-    ensures { (M : Machine) → m.now ≡ encode M → Fits c n M → b ≡ (cpu_at M k).block → Holding result (state_of k M) }
+pub fn holder(m: &[u64], cpu: CpuPlace, b: PercpuBlock) -> Holder
+    requires image { Image cpu.c cpu.n m.now }
+    requires sched_ctxt_bound { b.sched_ctxt < cpu.n }
+    ensures { (M : Machine) → m.now ≡ encode M → Fits cpu.c cpu.n M → b ≡ (cpu_at M cpu.k).block → Holding result (state_of cpu.k M) }
 {
     let x = numbers::index(b.sched_ctxt);
-    let q = machine::load(m, c, n, x);
+    let q = machine::load(m, cpu.c, cpu.n, x);
     select_judge::holder_of(b, q)
 }
 
@@ -26,7 +27,6 @@ pub fn scanner(k: usize, time: u64, b: PercpuBlock, h: Holder) -> Scanner
     ensures cpu_id_value { result.cpu_id ≡ k }
 {
     let cpu_id = numbers::word(k);
-    let late = select_judge::ineligible_holder(h);
     Scanner {
         cpu_id,
         time,
@@ -34,6 +34,6 @@ pub fn scanner(k: usize, time: u64, b: PercpuBlock, h: Holder) -> Scanner
         sched_ctxt: b.sched_ctxt,
         current_ctxt: b.current_ctxt,
         v: b.v,
-        ineligible_holder: late,
+        ineligible_holder: select_judge::ineligible_holder(h),
     }
 }

@@ -27,7 +27,7 @@ abbrev pub choice_of : Selected → Choice
 choice_of r = record { winner = r.winner; v = r.v; locked = option_to_list r.locked }
 
 -- names below n
-abbrev pub BestBelow : ℕ → (Option Entry) → Type 0
+abbrev pub BestBelow : ℕ → Option Entry → Type 0
 BestBelow n None = Unit {0}
 BestBelow n (Some e) = e.context_ref < n
 

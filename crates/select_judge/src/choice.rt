@@ -28,10 +28,7 @@ fn locked(late: Option<Entry>) -> Option<usize>
 fn goes_before(h: Holder, q: Context) -> bool
     ensures { result ≡ (ltb h.vd q.vd || eqb h.vd q.vd && ltb q.rem_slice h.rem_slice) }
 {
-    let sooner = h.vd < q.vd;
-    let same = h.vd == q.vd;
-    let more = q.rem_slice < h.rem_slice;
-    numbers::either(sooner, numbers::both(same, more))
+    h.vd < q.vd || h.vd == q.vd && q.rem_slice < h.rem_slice
 }
 
 // The holder goes before the context of the record q: by its deadline, or by its slice.
@@ -39,9 +36,10 @@ fn first_rule(h: Holder, q: Context) -> Rule
     ensures { result ≡ if ltb h.vd q.vd then HolderDeadline else HolderSlice }
 {
     if h.vd < q.vd {
-        return Rule::HolderDeadline;
+        Rule::HolderDeadline
+    } else {
+        Rule::HolderSlice
     }
-    Rule::HolderSlice
 }
 
 // An eligible entry e was found, whose record is q.
@@ -50,9 +48,8 @@ pub fn against(h: Holder, late: Option<Entry>, e: Entry, q: Context) -> Selected
     ensures by_index { (n : ℕ) → e.context_ref < n → WinnerBelow n result.winner }
     ensures rule_value { (s : State) (f : Scan) → Holding h s → q ≡ context_at f.contexts e.context_ref → result.rule ≡ rule_against s f e }
 {
-    let before = goes_before(h, q);
     let kept = locked(late);
-    if numbers::both(h.eligible, before) {
+    if h.eligible && goes_before(h, q) {
         return Selected {
             winner: None,
             v: h.v,
@@ -72,10 +69,7 @@ pub fn against(h: Holder, late: Option<Entry>, e: Entry, q: Context) -> Selected
 fn goes_on(h: Holder, e: Entry) -> bool
     ensures { result ≡ (h.runnable && (leb h.vtime e.vtime || leb h.vd e.key.vd)) }
 {
-    let key = e.key;
-    let no_later = h.vtime <= e.vtime;
-    let no_later_deadline = h.vd <= key.vd;
-    numbers::both(h.runnable, numbers::either(no_later, no_later_deadline))
+    h.runnable && (h.vtime <= e.vtime || h.vd <= e.key.vd)
 }
 
 // The holder goes on so: by its virtual time, or by its deadline.
@@ -83,9 +77,10 @@ fn late_rule(h: Holder, e: Entry) -> Rule
     ensures { result ≡ if leb h.vtime e.vtime then HolderVtime else HolderLateDeadline }
 {
     if h.vtime <= e.vtime {
-        return Rule::HolderVtime;
+        Rule::HolderVtime
+    } else {
+        Rule::HolderLateDeadline
     }
-    Rule::HolderLateDeadline
 }
 
 // Nobody is eligible, and the queue gives nobody.

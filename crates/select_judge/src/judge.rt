@@ -39,10 +39,7 @@ pub fn is_of(p: Option<Entry>, x: u64) -> bool
 pub fn is_found(p: Option<Entry>) -> bool
     ensures { result ≡ is_some p }
 {
-    match p {
-        None => false,
-        Some(_) => true,
-    }
+    p.is_some()
 }
 
 fn ineligible_min_vtime(p: Option<Entry>, h: Option<u64>) -> Option<u64>
@@ -67,39 +64,29 @@ fn deactivated(mut c: Context) -> Context
 pub fn too_late(t: Scanner, late: Option<Entry>, e: Entry) -> bool
     ensures { result ≡ (above (ineligible_min_vtime late t.ineligible_holder) e.vtime && not (is_eligible (scanner_cpu t) e)) }
 {
-    let holder = t.ineligible_holder;
-    let least = ineligible_min_vtime(late, holder);
-    let after = above(least, e.vtime);
-    let eligible = e.vtime <= t.v;
-    numbers::both(after, !eligible)
+    above(ineligible_min_vtime(late, t.ineligible_holder), e.vtime) && t.v < e.vtime
 }
 
 // A live context's entry, judged by itself.
+#[tactic(auto, unfolding(model::specs::Scan::judge))]
 pub fn judged(t: Scanner, q: Context, e: Entry) -> Visit
     requires cpu_id_bound { t.cpu_id < 64 }
     requires gone_value { q.gone ≡ false }
     ensures { visit_of result ≡ judge t.cpu_id t.time (scanner_cpu t) q e }
 {
-    if e.context_ref == t.idle_ctxt {
-        return Visit::Pass;
-    }
-    if e.context_ref == t.sched_ctxt {
-        return Visit::Pass;
-    }
-    let free = q.lock == 0;
-    if !free {
+    if e.context_ref == t.idle_ctxt || e.context_ref == t.sched_ctxt || q.lock != 0 {
         return Visit::Pass;
     }
     let current = e.context_ref == t.current_ctxt;
-    let u = runnable::update_runnable(q, t.cpu_id, t.time, false, current);
-    match u {
+    match runnable::update_runnable(q, t.cpu_id, t.time, false, current) {
         UpdateResult::Skip => Visit::Pass,
         UpdateResult::Blocked => Visit::Blocked(deactivated(q)),
         UpdateResult::CanSwitch(a) => {
             if q.addr_space == 2 {
-                return Visit::NoAddrSpace(a);
+                Visit::NoAddrSpace(a)
+            } else {
+                Visit::Ready(a)
             }
-            Visit::Ready(a)
         }
     }
 }
@@ -108,35 +95,21 @@ pub fn judged(t: Scanner, q: Context, e: Entry) -> Visit
 pub fn active_weight(active: bool, weight: u64) -> u64
     ensures { (result ≡ if active then weight else 0) × (result ≤ weight) }
 {
-    if active {
-        return weight;
-    }
-    0
+    if active { weight } else { 0 }
 }
 
 // A ready entry: the best if it is eligible, or the one of least vtime that is not.
-pub fn pick(t: Scanner, w: Scanned, e: Entry) -> Scanned
+#[tactic(auto, unfolding(crate::specs::Values::picked))]
+pub fn pick(t: Scanner, mut w: Scanned, e: Entry) -> Scanned
     ensures { result ≡ picked t w e }
 {
-    let best = w.eligible_best;
-    let late = w.ineligible_best;
     if e.vtime <= t.v {
-        return Scanned {
-            eligible_best: Some(e),
-            ineligible_best: late,
-            weight_change: w.weight_change,
-            contexts_to_remove: w.contexts_to_remove,
-        };
-    }
-    let holder = t.ineligible_holder;
-    let least = ineligible_min_vtime(late, holder);
-    if below(least, e.vtime) {
-        return Scanned {
-            eligible_best: best,
-            ineligible_best: Some(e),
-            weight_change: w.weight_change,
-            contexts_to_remove: w.contexts_to_remove,
-        };
+        w.eligible_best = Some(e);
+    } else if below(
+        ineligible_min_vtime(w.ineligible_best, t.ineligible_holder),
+        e.vtime,
+    ) {
+        w.ineligible_best = Some(e);
     }
     w
 }

@@ -13,6 +13,7 @@ ghost use Rattle.percpu.specs.Lists.{cpu_push_local};
 use entries::{Entry, Key};
 use percpu::{PercpuBlock, places};
 use table::NoRoom;
+use wakeup_lists::WakeupList;
 
 pub fn load(b: &[u64]) -> PercpuBlock
     requires { length b.now ≡ block_size }
@@ -60,6 +61,6 @@ pub fn push_local(b: &mut [u64], x: u64) -> Result<(), NoRoom>
     if 64 <= b[places::LOCAL_COUNT] {
         return Err(NoRoom);
     }
-    wakeup_lists::push_local(b, x);
+    wakeup_lists::push(b, WakeupList::Local, x);
     Ok(())
 }

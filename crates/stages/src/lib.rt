@@ -1,5 +1,6 @@
 // What the stages of a decision are made of, in place on the image: the scalars of a CPU's block, a context's record, and
-// the insertions and removals. In every function m is the image of a machine of c CPUs and n contexts, and k is the CPU.
+// the insertions and removals.
+// In every function m is an image (crate machine says why it stays apart), and cpu the place in it of the CPU that decides.
 #![tactic(auto)]
 
 mod block;
@@ -19,132 +20,121 @@ ghost use Rattle.percpu.specs.Places.{queue_count};
 
 use context::Context;
 use entries::{Entry, Key, Timer};
+use machine::CpuPlace;
 use percpu::{PercpuBlock, places};
 pub use table::NoRoom;
 
-pub fn load_block(m: &[u64], c: usize, n: usize, k: usize) -> PercpuBlock
-    requires image { Image c n m.now }
-    requires k_lt_c { k < c }
-    ensures { (M : Machine) → m.now ≡ encode M → Fits c n M → result ≡ (cpu_at M k).block }
+pub fn load_block(m: &[u64], cpu: CpuPlace) -> PercpuBlock
+    requires image { Image cpu.c cpu.n m.now }
+    ensures { (M : Machine) → m.now ≡ encode M → Fits cpu.c cpu.n M → result ≡ (cpu_at M cpu.k).block }
 {
-    let at = machine::cpu_place(n, k);
+    let at = cpu.start();
     let end = at + places::BLOCK_SIZE;
     block::load(&m[at..end])
 }
 
-pub fn store_block(m: &mut [u64], c: usize, n: usize, k: usize, b: PercpuBlock)
-    requires image { Image c n m.old }
-    requires k_lt_c { k < c }
-    requires block_fits { BlockFits n b }
-    ensures { Staged c n k m.old m.new false (λ (s : State). on_cpu (λ (p : Cpu). cpu_block b p) s) }
+pub fn store_block(m: &mut [u64], cpu: CpuPlace, b: PercpuBlock)
+    requires image { Image cpu.c cpu.n m.old }
+    requires block_fits { BlockFits cpu.n b }
+    ensures { Staged cpu.c cpu.n cpu.k m.old m.new false (λ (s : State). on_cpu (λ (p : Cpu). cpu_block b p) s) }
 {
-    let at = machine::cpu_place(n, k);
+    let at = cpu.start();
     let end = at + places::BLOCK_SIZE;
     block::store(&mut m[at..end], b);
 }
 
 // What the last tick conversion left over.
-pub fn remainder(m: &[u64], c: usize, n: usize, k: usize) -> u64
-    requires image { Image c n m.now }
-    requires k_lt_c { k < c }
-    ensures { (result ≤ max_remainder) × ((M : Machine) → m.now ≡ encode M → Fits c n M → result ≡ (cpu_at M k).remainder) }
+pub fn remainder(m: &[u64], cpu: CpuPlace) -> u64
+    requires image { Image cpu.c cpu.n m.now }
+    ensures { (result ≤ max_remainder) × ((M : Machine) → m.now ≡ encode M → Fits cpu.c cpu.n M → result ≡ (cpu_at M cpu.k).remainder) }
 {
-    let at = machine::cpu_place(n, k) + places::REMAINDER;
+    let at = cpu.start() + places::REMAINDER;
     m[at]
 }
 
-pub fn store_remainder(m: &mut [u64], c: usize, n: usize, k: usize, x: u64)
-    requires image { Image c n m.old }
-    requires k_lt_c { (k < c) × (x ≤ max_remainder) }
-    ensures { Staged c n k m.old m.new false (λ (s : State). on_cpu (cpu_remainder x) s) }
+pub fn store_remainder(m: &mut [u64], cpu: CpuPlace, x: u64)
+    requires image { Image cpu.c cpu.n m.old }
+    requires bounded { x ≤ max_remainder }
+    ensures { Staged cpu.c cpu.n cpu.k m.old m.new false (λ (s : State). on_cpu (cpu_remainder x) s) }
 {
-    let at = machine::cpu_place(n, k);
+    let at = cpu.start();
     let end = at + places::BLOCK_SIZE;
     block::store_remainder(&mut m[at..end], x);
 }
 
-pub fn store_context(m: &mut [u64], c: usize, n: usize, k: usize, x: usize, q: Context)
-    requires image { Image c n m.old }
-    requires k_lt_c { (k < c) × (x < n) }
-    requires context_fits { ContextFits c q }
-    ensures { Staged c n k m.old m.new false (λ (s : State). put_context x q s) }
+pub fn store_context(m: &mut [u64], cpu: CpuPlace, x: usize, q: Context)
+    requires image { Image cpu.c cpu.n m.old }
+    requires bounded { x < cpu.n }
+    requires context_fits { ContextFits cpu.c q }
+    ensures { Staged cpu.c cpu.n cpu.k m.old m.new false (λ (s : State). put_context x q s) }
 {
-    machine::store(m, c, n, x, q);
+    machine::store(m, cpu.c, cpu.n, x, q);
 }
 
-pub fn insert_entry(m: &mut [u64], c: usize, n: usize, k: usize, e: Entry) -> Result<(), NoRoom>
-    requires image { Image c n m.old }
-    requires k_lt_c { k < c }
-    requires entry_fits { EntryFits n e }
-    ensures { Staged c n k m.old m.new (is_err result) (λ (s : State). insert_entry e s) }
+pub fn insert_entry(m: &mut [u64], cpu: CpuPlace, e: Entry) -> Result<(), NoRoom>
+    requires image { Image cpu.c cpu.n m.old }
+    requires entry_fits { EntryFits cpu.n e }
+    ensures { Staged cpu.c cpu.n cpu.k m.old m.new (is_err result) (λ (s : State). insert_entry e s) }
 {
-    let at = machine::cpu_place(n, k);
+    let at = cpu.start();
     let end = at + places::BLOCK_SIZE;
     block::insert_entry(&mut m[at..end], e)
 }
 
-pub fn remove_key(m: &mut [u64], c: usize, n: usize, k: usize, key: Key)
-    requires image { Image c n m.old }
-    requires k_lt_c { k < c }
-    ensures { Staged c n k m.old m.new false (λ (s : State). remove_key key s) }
+pub fn remove_key(m: &mut [u64], cpu: CpuPlace, key: Key)
+    requires image { Image cpu.c cpu.n m.old }
+    ensures { Staged cpu.c cpu.n cpu.k m.old m.new false (λ (s : State). remove_key key s) }
 {
-    let at = machine::cpu_place(n, k);
+    let at = cpu.start();
     let end = at + places::BLOCK_SIZE;
     block::remove_key(&mut m[at..end], key);
 }
 
-pub fn insert_timer(m: &mut [u64], c: usize, n: usize, k: usize, t: Timer) -> Result<(), NoRoom>
-    requires image { Image c n m.old }
-    requires k_lt_c { (k < c) × (t.context_ref < n) }
-    ensures { Staged c n k m.old m.new (is_err result) (λ (s : State). insert_timer t s) }
+pub fn insert_timer(m: &mut [u64], cpu: CpuPlace, t: Timer) -> Result<(), NoRoom>
+    requires image { Image cpu.c cpu.n m.old }
+    requires bounded { t.context_ref < cpu.n }
+    ensures { Staged cpu.c cpu.n cpu.k m.old m.new (is_err result) (λ (s : State). insert_timer t s) }
 {
-    let at = machine::cpu_place(n, k);
+    let at = cpu.start();
     let end = at + places::BLOCK_SIZE;
     timers::insert(&mut m[at..end], t)
 }
 
-pub fn insert_newest_timer(
-    m: &mut [u64],
-    c: usize,
-    n: usize,
-    k: usize,
-    t: Timer,
-) -> Result<(), NoRoom>
-    requires image { Image c n m.old }
-    requires k_lt_c { (k < c) × (t.context_ref < n) }
-    ensures { Staged c n k m.old m.new (is_err result) (λ (s : State). insert_newest_timer t s) }
+pub fn insert_newest_timer(m: &mut [u64], cpu: CpuPlace, t: Timer) -> Result<(), NoRoom>
+    requires image { Image cpu.c cpu.n m.old }
+    requires bounded { t.context_ref < cpu.n }
+    ensures { Staged cpu.c cpu.n cpu.k m.old m.new (is_err result) (λ (s : State). insert_newest_timer t s) }
 {
-    let at = machine::cpu_place(n, k);
+    let at = cpu.start();
     let end = at + places::BLOCK_SIZE;
     timers::insert_newest(&mut m[at..end], t)
 }
 
-pub fn push_local(m: &mut [u64], c: usize, n: usize, k: usize, x: usize) -> Result<(), NoRoom>
-    requires image { Image c n m.old }
-    requires k_lt_c { (k < c) × (x < n) }
-    ensures { Staged c n k m.old m.new (is_err result) (λ (s : State). push_local x s) }
+pub fn push_local(m: &mut [u64], cpu: CpuPlace, x: usize) -> Result<(), NoRoom>
+    requires image { Image cpu.c cpu.n m.old }
+    requires bounded { x < cpu.n }
+    ensures { Staged cpu.c cpu.n cpu.k m.old m.new (is_err result) (λ (s : State). push_local x s) }
 {
-    let at = machine::cpu_place(n, k);
+    let at = cpu.start();
     let end = at + places::BLOCK_SIZE;
     let name = numbers::word(x);
     block::push_local(&mut m[at..end], name)
 }
 
-pub fn queue_len(m: &[u64], c: usize, n: usize, k: usize) -> usize
-    requires image { Image c n m.now }
-    requires k_lt_c { k < c }
-    ensures { (result ≡ get_or m.now (cpu_place n k + queue_count) 0) × (result ≤ 64) × ((M : Machine) → m.now ≡ encode M → Fits c n M → result ≡ length (cpu_at M k).queue) }
+pub fn queue_len(m: &[u64], cpu: CpuPlace) -> usize
+    requires image { Image cpu.c cpu.n m.now }
+    ensures { (result ≡ get_or m.now (cpu_place cpu.n cpu.k + queue_count) 0) × (result ≤ 64) × ((M : Machine) → m.now ≡ encode M → Fits cpu.c cpu.n M → result ≡ length (cpu_at M cpu.k).queue) }
 {
-    let at = machine::cpu_place(n, k) + places::QUEUE_COUNT;
+    let at = cpu.start() + places::QUEUE_COUNT;
     numbers::index(m[at])
 }
 
-pub fn entry(m: &[u64], c: usize, n: usize, k: usize, i: usize) -> Entry
-    requires image { Image c n m.now }
-    requires k_lt_c { (k < c) × (i < get_or m.now (cpu_place n k + queue_count) 0) }
-    ensures { EntryRead c n k i m.now result }
+pub fn entry(m: &[u64], cpu: CpuPlace, i: usize) -> Entry
+    requires image { Image cpu.c cpu.n m.now }
+    requires bounded { (i < get_or m.now (cpu_place cpu.n cpu.k + queue_count) 0) }
+    ensures { EntryRead cpu.c cpu.n cpu.k i m.now result }
 {
-    let at = machine::cpu_place(n, k);
+    let at = cpu.start();
     let end = at + places::BLOCK_SIZE;
     run_queue::entry(&m[at..end], i)
 }

@@ -1,6 +1,6 @@
 -- The search's outer loop, round the CPUs. Assumes nothing.
-use Rattle.std.specs.Prelude.{Option}
-use mathlib.Core.Path.{◌≡◌, refl, sym, ap, ◌∙◌, subst}
+use Rattle.std.specs.Prelude.{Option, None}
+use mathlib.Core.Path.{◌≡◌, refl, sym, ap, ◌∙◌}
 use mathlib.Core.Bool.{Bool, true}
 use mathlib.Core.List.{List, [], ◌∷◌}
 use mathlib.Core.Logic.{◌≢◌}
@@ -23,7 +23,7 @@ use Rattle.model.proofs.EarlyExit.{fold_still}
 use Rattle.steal_judge.specs.declared.Locked.{Locked}
 use Rattle.steal_judge.specs.declared.Candidates.{Candidates}
 use Rattle.steal_judge.specs.Names.{locked_of, entries_of}
-use Rattle.steal.specs.Search.{offers, Begins, Passed, Searched}
+use Rattle.steal.specs.Search.{offers, Begins, Passed, Found, Searched}
 
 -- a fold over 0, 1, .., of which the first i change nothing
 module _ {B : Type 0} (f : B → ℕ → B) (b b' : B) where
@@ -73,13 +73,14 @@ done_still k runs locked l e t = rw e
 module _ {c n k : ℕ} {m : List ℕ} {w : Option ℕ} {locked : Locked} {got : Candidates} {t i : ℕ} (h : k < c) (p : Passed c n k i m w locked) where
   -- a victim was found
   pub found : i < c - 1 → t ≡ (k + (i + 1)) % c → ((M : Machine) → m ≡ encode M → Fits c n M → entries_of got ≡ offers k (locked_of locked) w (state_of k M) (cpu_at M t))
-      → (entries_of got ≡ [] → ⊥) → All (EntryFits n) (entries_of got) → Searched c n k m w locked (record { cpu = t; got = got })
+      → (entries_of got ≡ [] → ⊥) → All (EntryFits n) (entries_of got) → Found c n k m w locked (record { cpu = t; got = got })
   unfolding targets
   found l z o y a =
       record {
         is = λ M e u runs s b. whole M e u runs s b;
         cpu = rw z (round_is k c i h l).0;
-        other = λ q. rw z (round_is k c i h l).1;
+        other = rw z (round_is k c i h l).1;
+        some = y;
         entries = a;
       }
     where
@@ -91,24 +92,6 @@ module _ {c n k : ℕ} {m : List ℕ} {w : Option ℕ} {locked : Locked} {got : 
           (rw (← z) (from_is (locked_of locked) runs s b t (rw z (round_is k c i h l).1) ∙ ap (steal_entries runs s t (cpu_at M t)) (sym (o M e u))))
           (done_still k runs (locked_of locked) _ (entries_done runs s t (cpu_at M t) (entries_of got) y))
 
-  -- nothing was found
-  pub not_found : c - 1 ≤ i → i ≤ c - 1 → entries_of got ≡ [] → t < c → Searched c n k m w locked (record { cpu = t; got = got })
-  unfolding targets steal_entries
-  not_found l g e d =
-      record {
-        is = λ M z u runs s b. whole M z u runs s b;
-        cpu = d;
-        other = λ q. absurd (q e);
-        entries = subst (All (EntryFits n)) (sym e) tt;
-      }
-    where
-      whole : (M : Machine) → m ≡ encode M → Fits c n M → (runs : Bool) (s : Stealing) → Begins c k M w s
-          → fold (steal_from k runs (locked_of locked)) s (targets k c) ≡ steal_entries runs s t (cpu_at M t) (entries_of got)
-      whole M z u runs s b =
-          rw e
-          (fold_none (steal_from k runs (locked_of locked)) s s (c - 1) (λ (j : ℕ). (k + (j + 1)) % c)
-          (λ j r. from_nothing (locked_of locked) runs s b _ (round_is k c j h r).1 (p.none M z u j (omega arith))))
-
 module _ {c n k : ℕ} {m : List ℕ} {w : Option ℕ} {locked : Locked} {i : ℕ} (p : Passed c n k i m w locked) where
   -- one CPU more gives up nothing
   pub passed_next : ((M : Machine) → m ≡ encode M → Fits c n M → [] ≡ offers k (locked_of locked) w (state_of k M) (cpu_at M ((k + (i + 1)) % c))) → Passed c n k (i + 1) m w locked
@@ -119,14 +102,15 @@ module _ {c n k : ℕ} {m : List ℕ} {w : Option ℕ} {locked : Locked} {i : �
             (λ q. let g : i ≤ j = ltb-false j i q in let r : i ≡ j = omega arith in rw (← r) (sym (o M e u)));
       }
 
+  -- nothing was found
+  pub not_found : k < c → c - 1 ≤ i → Searched c n k m w locked None
+  unfolding targets
+  not_found h l M z u runs s b =
+      fold_none (steal_from k runs (locked_of locked)) s s (c - 1) (λ (j : ℕ). (k + (j + 1)) % c)
+      (λ j r. from_nothing (locked_of locked) runs s b _ (round_is k c j h r).1 (p.none M z u j (omega arith)))
+
 pub passed_none : {c n k : ℕ} {m : List ℕ} {w : Option ℕ} {locked : Locked} → Passed c n k 0 m w locked
 passed_none = record { none = λ M e u j l. absurd (omega arith) }
-
--- the invariant
-pub record Outer (c n k : ℕ) (m : List ℕ) (w : Option ℕ) (locked : Locked) (got : Candidates) (t i : ℕ) : Type 0 where
-  pub none : entries_of got ≡ []
-  pub cpu : t < c
-  pub passed : Passed c n k i m w locked
 
 pub not_empty : (l : List Entry) → 0 < length l → (l ≡ [] → ⊥)
 not_empty l h e = let z : length l ≡ 0 = ap length e in omega arith

@@ -1,5 +1,5 @@
 -- The stealing as a whole. Assumes nothing.
-use Rattle.std.specs.Prelude.{Option, is_some}
+use Rattle.std.specs.Prelude.{Option, None, is_some}
 use mathlib.Core.Path.{◌≡◌, refl, sym, ap, ◌∙◌, subst}
 use mathlib.Core.Bool.{Bool, true, false}
 use mathlib.Core.List.{List, [], ◌∷◌}
@@ -18,14 +18,14 @@ use Rattle.machine.specs.Encode.{encode}
 use Rattle.machine.specs.Shape.{Fits}
 use Rattle.machine.proofs.Steps.{get_d_set}
 use Rattle.model.specs.State.{State, state_of, on_cpu}
-use Rattle.model.specs.Steal.{Stealing, Moving, count_steal, should_steal, move_entry, after_moving, steal_entries, steal}
+use Rattle.model.specs.Steal.{Stealing, Moving, count_steal, should_steal, move_entry, after_moving, targets, steal_entries, steal_from, steal}
 use Rattle.stages.specs.Stage.{Staged, Ranged, CpuBelow, put_state}
 use Rattle.stages.proofs.Compose.{state_put}
 use Rattle.steal_judge.specs.declared.Locked.{Locked}
 use Rattle.steal_judge.specs.Names.{locked_of, entries_of}
 use Rattle.steal_judge.specs.Judged.{interval}
 use Rattle.steal.specs.declared.search.Victim.{Victim}
-use Rattle.steal.specs.Search.{Begins, Searched}
+use Rattle.steal.specs.Search.{Begins, Found, Searched}
 use Rattle.steal.specs.Moves.{moving_of, put_moving, Moves, finished, machine_of, StealsAt, Steals}
 use Rattle.steal.proofs.Below.{below_counted}
 use Rattle.steal.proofs.Victims.{set_other}
@@ -86,20 +86,19 @@ module _ {c n k : ℕ} {m m1 : List ℕ} (h : k < c) (a : Staged c n k m m1 fals
             steals = λ M e o. let y : should_steal (state_of k M) w ≡ false = sym (d M e o) ∙ z in subst (StealsAt c n k m1 false w) (rw y) (at_start M e o);
           }
 
-      module _ {r : Bool} (d : (M : Machine) → m ≡ encode M → Fits c n M → r ≡ should_steal (state_of k M) w) (z : r ≡ true) (v : Victim) (s : Searched c n k m1 w locked v) where
-        all_is : (M : Machine) → m ≡ encode M → Fits c n M → all M ≡ steal_entries runs (start M) v.cpu (cpu_at (counted M) v.cpu) (entries_of v.got)
+      module _ {r : Bool} (d : (M : Machine) → m ≡ encode M → Fits c n M → r ≡ should_steal (state_of k M) w) (z : r ≡ true) where
+        -- the search, which is due
+        due_is_so : (M : Machine) → m ≡ encode M → Fits c n M → all M ≡ fold (steal_from k runs (locked_of locked)) (start M) (targets k c)
         unfolding steal
-        all_is M e o =
-            let y : should_steal (state_of k M) w ≡ true = sym (d M e o) ∙ z in
-            let p = a.stage M e o in
-            rw (y, o.cpus) (s.is (counted M) (p.after refl) (p.fits refl) runs (start M) (begins M o))
+        due_is_so M e o = let y : should_steal (state_of k M) w ≡ true = sym (d M e o) ∙ z in rw (y, o.cpus)
 
-        pub nothing_stolen : entries_of v.got ≡ [] → Steals c n k m m1 false w all
-        unfolding steal_entries
-        nothing_stolen q =
+        pub nothing_stolen : Searched c n k m1 w locked None → Steals c n k m m1 false w all
+        nothing_stolen s =
             record {
               image = a.image;
-              steals = λ M e o. subst (StealsAt c n k m1 false w) (sym (all_is M e o ∙ ap (steal_entries runs (start M) v.cpu (cpu_at (counted M) v.cpu)) q)) (at_start M e o);
+              steals = λ M e o.
+                  let p = a.stage M e o in
+                  subst (StealsAt c n k m1 false w) (sym (due_is_so M e o ∙ s (counted M) (p.after refl) (p.fits refl) runs (start M) (begins M o))) (at_start M e o);
             }
 
         entries_as : (l : Stealing) (t : ℕ) (p : Cpu) (es : List Entry) → (es ≡ [] → ⊥) → steal_entries runs l t p es ≡ after_moving t l.cpus (fold (move_entry runs) (record { state = l.state; victim = p; winner = l.winner }) es)
@@ -107,31 +106,34 @@ module _ {c n k : ℕ} {m m1 : List ℕ} (h : k < c) (a : Staged c n k m m1 fals
         entries_as l t p [] q = absurd (q refl)
         entries_as l t p (x ∷ xs) q = refl
 
-        -- the machine after the moves
-        machine_as : (M : Machine) (u : Moving) → v.cpu ≢ k → put_moving k v.cpu (finished u) (counted M) ≡ machine_of k (after_moving v.cpu M.cpus u)
-        machine_as M u o =
-            ap (λ (l : List Cpu). record { contexts = u.state.contexts; cpus = l })
-            (ap (λ (l : List Cpu). set l k (finished u).state.cpu) (set_other M.cpus k v.cpu (count_steal (cpu_at M k)) (finished u).victim o)
-            ∙ set-set (set M.cpus v.cpu (finished u).victim) k (count_steal (cpu_at M k)) (finished u).state.cpu)
+        module _ (v : Victim) (s : Found c n k m1 w locked v) where
+          all_is : (M : Machine) → m ≡ encode M → Fits c n M → all M ≡ steal_entries runs (start M) v.cpu (cpu_at (counted M) v.cpu) (entries_of v.got)
+          all_is M e o = let p = a.stage M e o in due_is_so M e o ∙ s.is (counted M) (p.after refl) (p.fits refl) runs (start M) (begins M o)
 
-        pub robbed : {m2 : List ℕ} {full : Bool} {w' : Option ℕ} → (entries_of v.got ≡ [] → ⊥)
-            → Moves c n k v.cpu m1 m2 full w w' (λ (u : Moving). finished (fold (move_entry runs) u (entries_of v.got))) → Steals c n k m m2 full w' all
-        robbed {m2} {full} {w'} q g =
-            record {
-              image = g.image;
-              steals = λ M e o.
-                  let p = a.stage M e o in
-                  let b = g.moves (counted M) (p.after refl) (p.fits refl) in
-                  let u : Moving = fold (move_entry runs) (moving_of k v.cpu w (counted M)) (entries_of v.got) in
-                  let y : all M ≡ after_moving v.cpu M.cpus u =
-                  all_is M e o ∙ entries_as (start M) v.cpu (cpu_at (counted M) v.cpu) (entries_of v.got) q
-                  ∙ ap (λ (x : State). after_moving v.cpu M.cpus (fold (move_entry runs) (record { state = x; victim = cpu_at (counted M) v.cpu; winner = w }) (entries_of v.got))) (sym (start_state M o)) in
-                  let x : put_moving k v.cpu (finished u) (counted M) ≡ machine_of k (after_moving v.cpu M.cpus u) = machine_as M u (s.other q) in
-                  subst (StealsAt c n k m2 full w') (sym y)
-                  (record {
-                    room = b.room;
-                    after = λ i. b.after i ∙ ap encode x;
-                    fits = λ i. subst (Fits c n) x (b.fits i);
-                    winner = b.winner;
-                  });
-            }
+          -- the machine after the moves
+          machine_as : (M : Machine) (u : Moving) → v.cpu ≢ k → put_moving k v.cpu (finished u) (counted M) ≡ machine_of k (after_moving v.cpu M.cpus u)
+          machine_as M u o =
+              ap (λ (l : List Cpu). record { contexts = u.state.contexts; cpus = l })
+              (ap (λ (l : List Cpu). set l k (finished u).state.cpu) (set_other M.cpus k v.cpu (count_steal (cpu_at M k)) (finished u).victim o)
+              ∙ set-set (set M.cpus v.cpu (finished u).victim) k (count_steal (cpu_at M k)) (finished u).state.cpu)
+
+          pub robbed : {m2 : List ℕ} {full : Bool} {w' : Option ℕ} → Moves c n k v.cpu m1 m2 full w w' (λ (u : Moving). finished (fold (move_entry runs) u (entries_of v.got))) → Steals c n k m m2 full w' all
+          robbed {m2} {full} {w'} g =
+              record {
+                image = g.image;
+                steals = λ M e o.
+                    let p = a.stage M e o in
+                    let b = g.moves (counted M) (p.after refl) (p.fits refl) in
+                    let u : Moving = fold (move_entry runs) (moving_of k v.cpu w (counted M)) (entries_of v.got) in
+                    let y : all M ≡ after_moving v.cpu M.cpus u =
+                    all_is M e o ∙ entries_as (start M) v.cpu (cpu_at (counted M) v.cpu) (entries_of v.got) s.some
+                    ∙ ap (λ (x : State). after_moving v.cpu M.cpus (fold (move_entry runs) (record { state = x; victim = cpu_at (counted M) v.cpu; winner = w }) (entries_of v.got))) (sym (start_state M o)) in
+                    let x : put_moving k v.cpu (finished u) (counted M) ≡ machine_of k (after_moving v.cpu M.cpus u) = machine_as M u s.other in
+                    subst (StealsAt c n k m2 full w') (sym y)
+                    (record {
+                      room = b.room;
+                      after = λ i. b.after i ∙ ap encode x;
+                      fits = λ i. subst (Fits c n) x (b.fits i);
+                      winner = b.winner;
+                    });
+              }

@@ -1,5 +1,5 @@
 -- The search for a victim: what the code finds, in the definition's words. Assumes nothing.
-use Rattle.std.specs.Prelude.{◌≡◌, Bool, false, List, [], ◌≢◌, ℕ, ◌+◌, ◌%◌, ◌<◌, get_or, if◌then◌else◌, Option}
+use Rattle.std.specs.Prelude.{◌≡◌, Bool, false, List, [], ◌≢◌, ℕ, ◌+◌, ◌%◌, ◌<◌, get_or, if◌then◌else◌, Option, None, Some}
 use Rattle.columns.specs.Common.{fold, All}
 use Rattle.entries.specs.declared.Entry.{Entry}
 use Rattle.percpu.specs.Cpu.{Cpu}
@@ -27,10 +27,17 @@ pub record Begins (c k : ℕ) (M : Machine) (w : Option ℕ) (l : Stealing) : Ty
 pub record Passed (c n k i : ℕ) (m : List ℕ) (w : Option ℕ) (locked : Locked) : Type 0 where
   pub none : (M : Machine) → m ≡ encode M → Fits c n M → (j : ℕ) → j < i → offers k (locked_of locked) w (state_of k M) (cpu_at M ((k + (j + 1)) % c)) ≡ []
 
--- the whole round is as stealing from CPU r.cpu what was found there; nothing where nothing was found
-pub record Searched (c n k : ℕ) (m : List ℕ) (w : Option ℕ) (locked : Locked) (r : Victim) : Type 0 where
+-- the whole round is as stealing from CPU v.cpu what was found there
+pub record Found (c n k : ℕ) (m : List ℕ) (w : Option ℕ) (locked : Locked) (v : Victim) : Type 0 where
   pub is : (M : Machine) → m ≡ encode M → Fits c n M → (runs : Bool) (l : Stealing) → Begins c k M w l
-      → fold (steal_from k runs (locked_of locked)) l (targets k c) ≡ steal_entries runs l r.cpu (cpu_at M r.cpu) (entries_of r.got)
-  pub cpu : r.cpu < c
-  pub other : (entries_of r.got ≡ [] → ⊥) → r.cpu ≢ k
-  pub entries : All (EntryFits n) (entries_of r.got)
+      → fold (steal_from k runs (locked_of locked)) l (targets k c) ≡ steal_entries runs l v.cpu (cpu_at M v.cpu) (entries_of v.got)
+  pub cpu : v.cpu < c
+  pub other : v.cpu ≢ k
+  pub some : entries_of v.got ≢ []
+  pub entries : All (EntryFits n) (entries_of v.got)
+
+-- where nobody was found the round changes nothing
+abbrev pub Searched : (c n k : ℕ) (m : List ℕ) (w : Option ℕ) (locked : Locked) → Option Victim → Type 0
+Searched c n k m w locked (Some v) = Found c n k m w locked v
+Searched c n k m w locked None =
+    (M : Machine) → m ≡ encode M → Fits c n M → (runs : Bool) (l : Stealing) → Begins c k M w l → fold (steal_from k runs (locked_of locked)) l (targets k c) ≡ l

@@ -18,8 +18,7 @@ pub fn give_up(b: &mut [u64], e: Entry)
     requires { (length b.old ≡ block_size) × (get_or b.old queue_count 0 ≤ 64) }
     ensures { (p : Cpu) → b.old ≡ cpu_words p → length p.queue ≤ 64 → Sorted entry_before p.queue → b.new ≡ cpu_words (give_up e p) }
 {
-    let key = e.key;
-    run_queue::remove(b, key);
+    run_queue::remove(b, e.key);
     b[places::TOTAL_WEIGHT] = b[places::TOTAL_WEIGHT].saturating_sub(e.weight);
 }
 
@@ -27,7 +26,7 @@ pub fn add_weight(b: &mut [u64], weight: u64)
     requires { (length b.old ≡ block_size) × (get_or b.old total_weight_place 0 ≤ b_moving) × (weight ≤ max_weight) }
     ensures { (p : Cpu) → b.old ≡ cpu_words p → b.new ≡ cpu_words (cpu_total_weight (p.block.total_weight + weight) p) }
 {
-    b[places::TOTAL_WEIGHT] = b[places::TOTAL_WEIGHT] + weight;
+    b[places::TOTAL_WEIGHT] += weight;
 }
 
 // What other CPUs read.

@@ -13,44 +13,42 @@ ghost use Rattle.percpu.specs.Places.{total_weight_place};
 
 use crate::block;
 use entries::Entry;
+use machine::CpuPlace;
 use percpu::places::BLOCK_SIZE;
 
-pub fn give_up(m: &mut [u64], c: usize, n: usize, t: usize, e: Entry)
-    requires image { Image c n m.old }
-    requires t_lt_c { t < c }
-    ensures { Staged c n t m.old m.new false (λ (s : State). on_cpu (λ (p : Cpu). give_up e p) s) }
+pub fn give_up(m: &mut [u64], cpu: CpuPlace, e: Entry)
+    requires image { Image cpu.c cpu.n m.old }
+    ensures { Staged cpu.c cpu.n cpu.k m.old m.new false (λ (s : State). on_cpu (λ (p : Cpu). give_up e p) s) }
 {
-    let at = machine::cpu_place(n, t);
+    let at = cpu.start();
     let end = at + BLOCK_SIZE;
     block::give_up(&mut m[at..end], e);
 }
 
-pub fn add_weight(m: &mut [u64], c: usize, n: usize, k: usize, weight: u64)
-    requires image { Image c n m.old }
-    requires k_lt_c { (k < c) × (weight ≤ max_weight) × (get_or m.old (cpu_place n k + total_weight_place) 0 ≤ b_moving) }
-    ensures { Staged c n k m.old m.new false (λ (s : State). on_cpu (λ (p : Cpu). cpu_total_weight (p.block.total_weight + weight) p) s) }
+pub fn add_weight(m: &mut [u64], cpu: CpuPlace, weight: u64)
+    requires image { Image cpu.c cpu.n m.old }
+    requires bounded { (weight ≤ max_weight) × (get_or m.old (cpu_place cpu.n cpu.k + total_weight_place) 0 ≤ b_moving) }
+    ensures { Staged cpu.c cpu.n cpu.k m.old m.new false (λ (s : State). on_cpu (λ (p : Cpu). cpu_total_weight (p.block.total_weight + weight) p) s) }
 {
-    let at = machine::cpu_place(n, k);
+    let at = cpu.start();
     let end = at + BLOCK_SIZE;
     block::add_weight(&mut m[at..end], weight);
 }
 
-pub fn publish(m: &mut [u64], c: usize, n: usize, k: usize)
-    requires image { Image c n m.old }
-    requires k_lt_c { k < c }
-    ensures { Staged c n k m.old m.new false (λ (s : State). on_cpu (λ (p : Cpu). published p) s) }
+pub fn publish(m: &mut [u64], cpu: CpuPlace)
+    requires image { Image cpu.c cpu.n m.old }
+    ensures { Staged cpu.c cpu.n cpu.k m.old m.new false (λ (s : State). on_cpu (λ (p : Cpu). published p) s) }
 {
-    let at = machine::cpu_place(n, k);
+    let at = cpu.start();
     let end = at + BLOCK_SIZE;
     block::publish(&mut m[at..end]);
 }
 
-pub fn publish_victim(m: &mut [u64], c: usize, n: usize, t: usize)
-    requires image { Image c n m.old }
-    requires t_lt_c { t < c }
-    ensures { Staged c n t m.old m.new false (λ (s : State). on_cpu (λ (p : Cpu). mark_stealable (published p)) s) }
+pub fn publish_victim(m: &mut [u64], cpu: CpuPlace)
+    requires image { Image cpu.c cpu.n m.old }
+    ensures { Staged cpu.c cpu.n cpu.k m.old m.new false (λ (s : State). on_cpu (λ (p : Cpu). mark_stealable (published p)) s) }
 {
-    let at = machine::cpu_place(n, t);
+    let at = cpu.start();
     let end = at + BLOCK_SIZE;
     block::publish_victim(&mut m[at..end]);
 }

@@ -1,5 +1,5 @@
 // Work stealing from other CPUs (`select_next_context`, context/switch.rs), in place on the image.
-// In every function m is the image of a machine of c CPUs and n contexts, k is this CPU and t the victim.
+// In every function m is an image (crate machine says why it stays apart), cpu the place in it of this CPU, and t the victim.
 #![tactic(auto)]
 
 mod block;
@@ -19,27 +19,27 @@ ghost use Rattle.steal_judge.specs.Names.{locked_of};
 ghost use Rattle.steal.specs.Moves.{winner_of, Steals};
 ghost use Rattle.stages.specs.Bounds.{t_timed, b_charged};
 
+use machine::CpuPlace;
+use moving::Theft;
 use percpu::places::BLOCK_SIZE;
 pub use search::Victim;
 use stages::NoRoom;
 use steal_judge::Locked;
 
-fn count_steal(m: &mut [u64], c: usize, n: usize, k: usize)
-    requires image { Image c n m.old }
-    requires k_lt_c { k < c }
-    ensures { Staged c n k m.old m.new false (λ (s : State). on_cpu (λ (p : Cpu). count_steal p) s) }
+fn count_steal(m: &mut [u64], cpu: CpuPlace)
+    requires image { Image cpu.c cpu.n m.old }
+    ensures { Staged cpu.c cpu.n cpu.k m.old m.new false (λ (s : State). on_cpu (λ (p : Cpu). count_steal p) s) }
 {
-    let at = machine::cpu_place(n, k);
+    let at = cpu.start();
     let end = at + BLOCK_SIZE;
     block::count_steal(&mut m[at..end]);
 }
 
-fn should_steal(m: &[u64], c: usize, n: usize, k: usize, w: Option<usize>) -> bool
-    requires image { Image c n m.now }
-    requires k_lt_c { k < c }
-    ensures { (M : Machine) → m.now ≡ encode M → Fits c n M → result ≡ should_steal (state_of k M) w }
+fn should_steal(m: &[u64], cpu: CpuPlace, w: Option<usize>) -> bool
+    requires image { Image cpu.c cpu.n m.now }
+    ensures { (M : Machine) → m.now ≡ encode M → Fits cpu.c cpu.n M → result ≡ should_steal (state_of cpu.k M) w }
 {
-    let b = stages::load_block(m, c, n, k);
+    let b = stages::load_block(m, cpu);
     let idle = b.sched_ctxt == b.idle_ctxt;
     steal_judge::should_steal(b.steal_counter, idle, w.is_some())
 }
@@ -47,26 +47,27 @@ fn should_steal(m: &[u64], c: usize, n: usize, k: usize, w: Option<usize>) -> bo
 // runs: the holder is runnable; locked: the contexts that the decision keeps locked; w: who has won before. Who has won then.
 pub fn steal(
     m: &mut [u64],
-    c: usize,
-    n: usize,
-    k: usize,
+    cpu: CpuPlace,
     runs: bool,
     locked: Locked,
     w: Option<usize>,
 ) -> Result<Option<usize>, NoRoom>
-    requires image { Image c n m.old }
-    requires k_lt_c { k < c }
-    requires ranged { Ranged c n t_timed b_charged m.old }
-    ensures { Steals c n k m.old m.new (is_err result) (winner_of result) (λ (M : Machine). steal k runs (locked_of locked) M.cpus w (state_of k M)) }
+    requires image { Image cpu.c cpu.n m.old }
+    requires ranged { Ranged cpu.c cpu.n t_timed b_charged m.old }
+    ensures { Steals cpu.c cpu.n cpu.k m.old m.new (is_err result) (winner_of result) (λ (M : Machine). steal cpu.k runs (locked_of locked) M.cpus w (state_of cpu.k M)) }
 {
-    let due = should_steal(m, c, n, k, w);
-    count_steal(m, c, n, k);
+    let due = should_steal(m, cpu, w);
+    count_steal(m, cpu);
     if !due {
         return Ok(w);
     }
-    let v = search::search(m, c, n, k, w, locked);
-    if v.got.len() == 0 {
+    let Some(v) = search::search(m, cpu, w, locked) else {
         return Ok(w);
-    }
-    moving::rob(m, c, n, k, v.cpu, runs, w, v.got)
+    };
+    let theft = Theft {
+        cpu,
+        from: v.cpu,
+        runs,
+    };
+    moving::rob(m, theft, w, v.got)
 }

@@ -48,12 +48,7 @@ impl Candidates {
         match self {
             Candidates::Nothing => false,
             Candidates::Single(a) => x == a.context_ref,
-            Candidates::Pair(a, b) => {
-                if x == a.context_ref {
-                    return true;
-                }
-                x == b.context_ref
-            }
+            Candidates::Pair(a, b) => x == a.context_ref || x == b.context_ref,
         }
     }
 
@@ -84,10 +79,7 @@ impl Candidates {
 pub fn should_steal(counter: u64, idle: bool, some: bool) -> bool
     ensures { result ≡ (counter % interval idle some == 0) }
 {
-    if idle {
-        if some {
-            return counter % STEAL_INTERVAL == 0;
-        }
+    if idle && !some {
         return counter % IDLE_STEAL_INTERVAL == 0;
     }
     counter % STEAL_INTERVAL == 0

@@ -16,27 +16,20 @@ fn is_free(w: Option<usize>, locked: Locked, got: Candidates, x: usize) -> bool
     !(locked.contains(x) || w == Some(x) || got.contains(numbers::word(x)))
 }
 
+#[tactic(auto, unfolding(crate::specs::Judged::may_move))]
 fn may_move(q: Context, cpu: u64) -> bool
     requires { cpu < 64 }
     ensures { result ≡ may_move cpu q }
 {
-    if !cpu_set::contains(q.sched_affinity, cpu) {
-        return false;
-    }
-    let status = q.status;
-    if !status.is_runnable() {
-        return false;
-    }
-    if q.running {
-        return false;
-    }
-    if q.currently_scheduled {
-        return false;
-    }
-    !(q.addr_space == 2)
+    cpu_set::contains(q.sched_affinity, cpu)
+        && q.status.is_runnable()
+        && !q.running
+        && !q.currently_scheduled
+        && q.addr_space != 2
 }
 
 // q is the record of context x, which is live.
+#[tactic(auto, unfolding(crate::specs::Judged::stolen_record))]
 pub fn can_be_stolen(
     q: Context,
     cpu: u64,
@@ -48,14 +41,7 @@ pub fn can_be_stolen(
     requires { cpu < 64 }
     ensures { result ≡ stolen_record cpu (locked_of locked) w (entries_of got) x q }
 {
-    let free = q.lock == 0;
-    if !free {
-        return false;
-    }
-    if !is_free(w, locked, got, x) {
-        return false;
-    }
-    may_move(q, cpu)
+    q.lock == 0 && is_free(w, locked, got, x) && may_move(q, cpu)
 }
 
 // A stolen record: as far from V here as it was from V there, a deadline by the slice that it has left.

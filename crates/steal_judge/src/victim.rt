@@ -8,6 +8,7 @@ const STEAL_THRESHOLD: usize = 2;
 const MAX_STEAL: usize = 2;
 
 // The length is tested as published, then as it is.
+#[tactic(auto, unfolding(crate::specs::Judged::has_enough))]
 pub fn can_steal_from(
     stealable: bool,
     published: usize,
@@ -18,27 +19,12 @@ pub fn can_steal_from(
     requires { (len ≤ 64) × (load ≤ 65) }
     ensures { result ≡ has_enough stealable published locked len load }
 {
-    if !stealable {
-        return false;
-    }
-    // as published + 1 < load + STEAL_THRESHOLD, without a sum that may wrap
-    if published < load + 1 {
-        return false;
-    }
-    if locked {
-        return false;
-    }
-    load + STEAL_THRESHOLD <= len + 1
+    // of the published length as load + STEAL_THRESHOLD <= published + 1, without a sum that may wrap
+    stealable && load + 1 <= published && !locked && load + STEAL_THRESHOLD <= len + 1
 }
 
 pub fn want(there: usize, here: usize) -> usize
     ensures { (result ≡ max 1 (min max_steal ((there - here) / 2))) × (1 ≤ result) × (result ≤ 2) }
 {
-    if there < here {
-        return 1;
-    }
-    if (there - here) / 2 < MAX_STEAL {
-        return 1;
-    }
-    MAX_STEAL
+    (there.saturating_sub(here) / 2).min(MAX_STEAL).max(1)
 }

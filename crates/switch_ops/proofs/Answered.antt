@@ -5,7 +5,7 @@ use mathlib.Core.Bool.{Bool, true, false, not, ◌&&◌}
 use Prim.Native.Nat.{ℕ, ◌<◌, ◌≤◌}
 use native.Mathlib.Omega.{arith}
 use mathlib.Core.List.{List}
-use lib.Dec.{ltb, eqb}
+use lib.Dec.{eqb}
 use borrow.Author.Tests.{ne_eqb, ltb-false}
 use Rattle.columns.proofs.Tests.{by_test, past}
 use Rattle.machine.specs.Machine.{Machine, context_at, cpu_at}
@@ -18,18 +18,12 @@ use Rattle.machine.proofs.LookUps.{live, present}
 use Rattle.model.specs.Turn.{elapsed}
 use Rattle.model.specs.Accepted.{Call, by_tick, by_switch, by_direct_switch, outcome}
 use Rattle.admission.specs.Refusals.{decision_locked, is_late, decision_refusal, direct_refusal}
-use Rattle.schedule.specs.Decides.{Told, Decides, DecidesAt}
+use Rattle.schedule.specs.Decides.{Told, DecidesAt}
 use Rattle.answer.specs.declared.Answer.{Answer}
 use Rattle.context_ops.specs.Reply.{Reply, reply, replied}
-use Rattle.switch_ops.specs.declared.Decision.{Decision}
 use Rattle.switch_ops.specs.declared.Decision.TheVariants.{Tick, Switch, DirectSwitchTo}
-use Rattle.switch_ops.specs.Reply.{call_of, refusal, decide_on, decide_by, decide, direct_switch_by, direct_switch, Replies, Attempts, TargetBelow}
+use Rattle.switch_ops.specs.Reply.{refusal, decide_on, decide_by, decide, direct_switch_by, direct_switch, Replies, Attempts, TargetBelow}
 use Rattle.numbers.specs.Limits.{max_elapsed}
-
--- the code's enum d is one of its variants, e; full' and r' are full and r as numbers
-pub followed : {c n : ℕ} {m m' : List ℕ} {full full' : Bool} {r r' : Told} (k time : ℕ) (d e : Decision) → d ≡ e → (full' ≡ full) × (r' ≡ r)
-    → Decides c n m m' full r (λ (M : Machine). outcome (call_of e) k time M) → Decides c n m m' full' r' (λ (M : Machine). outcome (call_of d) k time M)
-followed k time d e h g f = rw (h, g.0, g.1) f
 
 pub decodes : {c n : ℕ} (M : Machine) → Fits c n M → decode (encode M) ≡ M
 decodes M o =

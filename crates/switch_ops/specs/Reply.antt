@@ -1,6 +1,5 @@
 -- Operations 1 to 3: what a call answers of the machine M of an image m, and the image it leaves. Assumes nothing.
-use Rattle.std.specs.Prelude.{◌≡◌, ℕ, ◌<◌, List, eqb, if◌then◌else◌, None, Option, Some, Result, Ok, Err}
-use Rattle.table.specs.declared.NoRoom.{NoRoom}
+use Rattle.std.specs.Prelude.{◌≡◌, ℕ, ◌<◌, List, eqb, if◌then◌else◌, None, Option, Some}
 use Rattle.machine.specs.Machine.{Machine}
 use Rattle.machine.specs.Encode.{decode}
 use Rattle.machine.specs.LookUp.{look_up, get_percpu_block}
@@ -8,8 +7,6 @@ use Rattle.model.specs.Accepted.{Call, by_tick, by_switch, by_direct_switch, out
 use Rattle.admission.specs.Refusals.{decision_refusal, direct_refusal}
 use Rattle.answer.specs.declared.Answer.{Answer}
 use Rattle.context_ops.specs.Reply.{Reply, reply, refuse, replied}
-use Rattle.schedule.specs.Decides.{Told, told, undecided}
-use Rattle.switch_ops.specs.declared.Followed.{Followed}
 use Rattle.switch_ops.specs.declared.Decision.{Decision}
 use Rattle.switch_ops.specs.declared.Decision.TheVariants.{Tick, Switch, DirectSwitchTo}
 
@@ -18,14 +15,6 @@ abbrev pub call_of : Decision → Call
 call_of Tick = by_tick
 call_of Switch = by_switch
 call_of (DirectSwitchTo x) = by_direct_switch x
-
--- what the code passes on of a call; where there was no room nothing is said of it
-abbrev pub told_by : Followed → Told
-told_by f = told f.result f.rule
-
-abbrev pub followed_told : Result Followed NoRoom → Told
-followed_told (Ok f) = told_by f
-followed_told (Err e) = undecided 0
 
 -- refusals 6 to 8 of a call on CPU k, which is present; 0 for none
 abbrev pub refusal : Call → Machine → (k time : ℕ) → ℕ

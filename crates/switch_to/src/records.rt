@@ -14,14 +14,7 @@ use percpu::PercpuBlock;
 pub fn would_be_lost(b: PercpuBlock, q: Context) -> bool
     ensures { result ≡ is_lost b q }
 {
-    if b.sched_ctxt == b.current_ctxt {
-        return false;
-    }
-    if q.has_queue_key {
-        return false;
-    }
-    let status = q.status;
-    status.is_runnable()
+    b.sched_ctxt != b.current_ctxt && !q.has_queue_key && q.status.is_runnable()
 }
 
 pub fn leave(mut q: Context, b: PercpuBlock, time: u64) -> Context

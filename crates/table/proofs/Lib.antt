@@ -4,4 +4,5 @@ pub mod Search
 pub mod Places
 pub mod Rising
 pub mod InBlock
+pub mod Searched
 pub mod Sorted

@@ -1,3 +1,4 @@
 pub mod Rows
 pub mod First
 pub mod Keys
+pub mod Table

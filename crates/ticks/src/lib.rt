@@ -16,7 +16,8 @@ pub const NANOS_PER_TICK: u64 = 2_250_000;
 // the greatest remainder of a conversion
 pub const MAX_REMAINDER: u64 = NANOS_PER_TICK - 1;
 
-// A turn: its nanoseconds, and the scaled ticks that they are converted to.
+// A turn: its nanoseconds, and the scaled ticks that they are converted to. No ghost field bounds the ticks: the definitions
+// (`spent` of model) make a turn of any length, and a ghost field is one of the definitions' record, too (c).
 #[derive(Clone, Copy)]
 pub struct Spent {
     pub elapsed: u64,

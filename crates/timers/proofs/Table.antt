@@ -1,12 +1,12 @@
 -- The timers as a table of their CPU's block. Assumes nothing.
-use mathlib.Core.Path.{subst, ◌≡◌, refl, sym, ap, ◌∙◌}
-use mathlib.Core.Bool.{Bool, ◌&&◌, not}
+use mathlib.Core.Path.{◌≡◌, refl, sym, ap, ◌∙◌}
+use mathlib.Core.Bool.{not}
 use mathlib.Core.List.{List, [], ◌∷◌}
-use Prim.Native.Nat.{ℕ, ◌+◌, ◌-◌, ◌<◌, ◌≤◌}
+use Prim.Native.Nat.{ℕ, ◌+◌, ◌<◌, ◌≤◌}
 use native.Mathlib.Omega.{arith}
 use native.Mathlib.Nat.{zero-add}
-use lib.ListN.{length, get_or, set, take, drop}
-use lib.Dec.{eqb, ltb}
+use lib.ListN.{length, get_or, take, drop}
+use lib.Dec.{eqb}
 use borrow.Author.Tests.{eqb-true, le-ltb, le-leb, lt-leb, leb-true}
 use Rattle.columns.specs.Common.{keep}
 use Rattle.columns.specs.Blocks.{part, length_part}
@@ -14,7 +14,7 @@ use Rattle.columns.specs.Columns.{remove_at}
 use Rattle.columns.proofs.Tabulate.{part_get}
 use Rattle.entries.specs.declared.Key.{Key}
 use Rattle.entries.specs.declared.Timer.{Timer}
-use Rattle.entries.specs.Order.{before, sooner, is_due}
+use Rattle.entries.specs.Order.{before, sooner, is_due, timer_key}
 use Rattle.entries.specs.Sorted.{Sorted}
 use Rattle.entries.proofs.Orders.{sooner_wake}
 use Rattle.cpu_stats.specs.Words.{stats_words}
@@ -23,16 +23,15 @@ use Rattle.percpu.specs.Words.{block_words}
 use Rattle.percpu.specs.With.{cpu_timers}
 use Rattle.percpu.specs.Layout.{counts, columns, cpu_words, timer_at, no_timer}
 use Rattle.percpu.proofs.Read.{timer_is}
-use Rattle.table.specs.Keys.{key_at, is_before, has_key_at}
+use Rattle.table.specs.Keys.{key_at, is_before}
 use Rattle.columns.proofs.Tests.{by_test}
-use Rattle.table.specs.First.{Falls, first_not, lead}
+use Rattle.table.specs.First.{first_not, lead}
 use Rattle.table.proofs.Tables.{fields}
 use Rattle.table.proofs.Search.{first_is, first_at}
 use Rattle.table.proofs.Rising.{lead_keeps}
-use Rattle.table.specs.Rows.{each_column, word_removed}
-use Rattle.table.proofs.InBlock.{Table, Lies, entry_fields, zeros, count_is, block_remove}
-use Rattle.timers.specs.Put.{timer_key}
-use Rattle.percpu.specs.Places.{timer_wake_column, timer_context_ref_column}
+use Rattle.table.specs.Table.{row_removed}
+use Rattle.table.proofs.InBlock.{Table, Lies, entry_fields, count_is, block_out}
+use Rattle.percpu.specs.Places.{timers_count, timer_wake_column, timer_context_ref_column}
 
 -- the six columns of the queue come before
 abbrev pub timer_table : Table Timer
@@ -91,23 +90,18 @@ same_order a b =
     (λ t. let e : a.wake ≡ b.wake = eqb-true a.wake b.wake t in rw (t, le-ltb b.wake a.wake (omega arith)))
     (λ t. rw t)
 
--- what the search by keys finds is the timer's place
-module _ (b : List ℕ) (t : Timer) (k : Key) (e : k ≡ timer_key t) (n p : ℕ) where
-  pub found : (Falls (is_before b timer_wake_column timer_wake_column timer_context_ref_column k) n → p ≡ first_not (is_before b timer_wake_column timer_wake_column timer_context_ref_column k) 0 n) → Falls (λ (j : ℕ). sooner (timer_at b j) t) n → p ≡ first_not (λ (j : ℕ). sooner (timer_at b j) t) 0 n
+-- the order of the rows' keys is that of the timers
+module _ (b : List ℕ) (t : Timer) (k : Key) (e : k ≡ timer_key t) (i : ℕ) where
+  pub key_before : is_before b timer_wake_column timer_wake_column timer_context_ref_column k i ≡ sooner (timer_at b i) t
   unfolding key_at timer_at
-  found =
-      subst (λ (f : ℕ → Bool). Falls f n → p ≡ first_not f 0 n)
-      (λ i j. (ap (before (timer_key (timer_at b j))) e ∙ same_order (timer_at b j) t) i)
+  key_before = ap (before (timer_key (timer_at b i))) e ∙ same_order (timer_at b i) t
 
-  pub has_timer : (r : Bool) → r ≡ has_key_at b timer_wake_column timer_wake_column timer_context_ref_column n p k → r ≡ (ltb p n && not (sooner t (timer_at b p)))
+  pub key_after : before k (key_at b timer_wake_column timer_wake_column timer_context_ref_column i) ≡ sooner t (timer_at b i)
   unfolding key_at timer_at
-  has_timer r h =
-      h ∙ ap (λ (x : Bool). ltb p n && not x) (ap (λ (x : Key). before x (timer_key (timer_at b p))) e ∙ same_order t (timer_at b p))
+  key_after = ap (λ (x : Key). before x (timer_key (timer_at b i))) e ∙ same_order t (timer_at b i)
 
 -- a timer taken out and the count lowered
-pub timer_out : (b b' : List ℕ) (i : ℕ) → i < get_or b 22 0 → b' ≡ each_column (word_removed (get_or b 22 0) i) b timer_wake_column (zeros timer_table) → (c : Cpu) → b ≡ cpu_words c → length c.timers ≤ 64 → set b' 22 (get_or b 22 0 - 1) ≡ cpu_words (cpu_timers (remove_at i c.timers) c)
+pub timer_out : (b b' : List ℕ) (i : ℕ) → i < get_or b timers_count 0 → b' ≡ row_removed b timer_wake_column timers_count 2 (get_or b timers_count 0) i → (c : Cpu) → b ≡ cpu_words c → length c.timers ≤ 64 → b' ≡ cpu_words (cpu_timers (remove_at i c.timers) c)
 timer_out b b' i h e c hb g =
-    let n : get_or b 22 0 ≡ length c.timers = ap (λ (l : List ℕ). get_or l 22 0) hb ∙ count_is timer_table timer_lies c
-    in ap (λ (l : List ℕ). set l 22 (get_or b 22 0 - 1)) e
-    ∙ (λ j. set (each_column (word_removed (n j) i) (hb j) timer_wake_column (zeros timer_table)) 22 (n j - 1))
-    ∙ block_remove timer_table timer_lies c i (omega arith) g
+    let n : get_or b timers_count 0 ≡ length c.timers = ap (λ (l : List ℕ). get_or l timers_count 0) hb ∙ count_is timer_table timer_lies c
+    in e ∙ (λ j. row_removed (hb j) timer_wake_column timers_count 2 (n j) i) ∙ block_out timer_table timer_lies c i (omega arith) g

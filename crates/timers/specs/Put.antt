@@ -1,6 +1,5 @@
 -- A timer put into a CPU's set, or left out where there is no room. Assumes nothing.
 use Rattle.std.specs.Prelude.{Bool, ltb, length, if◌then◌else◌}
-use Rattle.entries.specs.declared.Key.{Key}
 use Rattle.entries.specs.declared.Timer.{Timer}
 use Rattle.entries.specs.Queue.{timer_insert, without_superseded}
 use Rattle.percpu.specs.Cpu.{Cpu}
@@ -16,7 +15,3 @@ timer_put t c = if no_room t c then c else cpu_timers (timer_insert t c.timers) 
 -- the set without the other timers of t's context
 abbrev pub newest : Timer → Cpu → Cpu
 newest t c = cpu_timers (without_superseded t c.timers) c
-
--- a timer as a key of the queue's order
-abbrev pub timer_key : Timer → Key
-timer_key t = record { vd = t.wake; rem_slice = t.wake; ctxt_id = t.context_ref }

@@ -9,13 +9,13 @@ ghost use Rattle.percpu.specs.Cpu.{Cpu};
 ghost use Rattle.percpu.specs.With.{cpu_timers};
 ghost use Rattle.percpu.specs.Layout.{cpu_words, timer_at};
 ghost use Rattle.table.specs.First.{lead};
-ghost use Rattle.timers.specs.Put.{no_room, timer_put, timer_key, newest};
+ghost use Rattle.timers.specs.Put.{no_room, timer_put, newest};
 ghost use Rattle.numbers.specs.Limits.{half_range};
 ghost use Rattle.percpu.specs.Places.{timers_count, block_size};
 
-use entries::{Key, Timer};
+use entries::Timer;
 use percpu::places::{TIMER_CONTEXT_REF, TIMER_WAKE, TIMERS_COUNT};
-use table::{NoRoom, TIMER_KEYS};
+use table::{NoRoom, TIMERS};
 
 pub fn timer(b: &[u64], i: usize) -> Timer
     requires { (length b.now ≡ block_size) × (i < 64) }
@@ -27,28 +27,12 @@ pub fn timer(b: &[u64], i: usize) -> Timer
     }
 }
 
-// A timer as a key: with the wake twice, only the context decides between equal wakes.
-fn key(t: Timer) -> Key
-    ensures { result ≡ timer_key t }
-{
-    Key {
-        vd: t.wake,
-        rem_slice: t.wake,
-        ctxt_id: t.context_ref,
-    }
-}
-
 // An equal pair adds nothing.
 pub fn insert(b: &mut [u64], t: Timer) -> Result<(), NoRoom>
     requires { (length b.old ≡ block_size) × (get_or b.old timers_count 0 ≤ 64) }
     ensures { (c : Cpu) → b.old ≡ cpu_words c → length c.timers ≤ 64 → Sorted sooner c.timers → (is_err result ≡ no_room t c) × (b.new ≡ cpu_words (timer_put t c)) }
 {
-    let n = b[TIMERS_COUNT] as usize;
-    let k = key(t);
-    let p = TIMER_KEYS.find(b, n, k);
-    let held = TIMER_KEYS.holds(b, n, p, k);
-    let values = [t.wake, t.context_ref];
-    table::put(b, TIMER_WAKE, TIMERS_COUNT, &values, n, p, held)
+    TIMERS.insert(b, t.into(), &[t.wake, t.context_ref])
 }
 
 // How many words at the front are no more than last.
@@ -79,9 +63,7 @@ pub fn remove(b: &mut [u64], i: usize)
     ensures timers_count_after { get_or b.new timers_count 0 ≡ get_or b.old timers_count 0 - 1 }
     ensures b_after { (c : Cpu) → b.old ≡ cpu_words c → length c.timers ≤ 64 → b.new ≡ cpu_words (cpu_timers (remove_at i c.timers) c) }
 {
-    let n = b[TIMERS_COUNT] as usize;
-    table::remove_row(b, TIMER_WAKE, 2, n, i);
-    b[TIMERS_COUNT] = (n - 1) as u64;
+    TIMERS.remove_at(b, i);
 }
 
 // Every other timer of t's context taken out, from the last to the first, so that a place is one of the set as it was.

@@ -1,5 +1,5 @@
 // The weight of a CPU, added up from its queue entries and the context in charge.
-// In every function m is the image of a machine of c CPUs and n contexts.
+// In every function m is the image of a machine of c CPUs and n contexts (crate machine says why the three stay apart).
 #![tactic(auto)]
 
 ghost use Rattle.std.specs.Prelude.{◌≡◌, ◌*◌, ◌<◌, ◌≤◌, length, get_or};
@@ -13,6 +13,7 @@ ghost use Rattle.total_weight.specs.TotalWeight.{total_weight_of, total_weight_a
 ghost use Rattle.total_weight.specs.Words.{weight_words, Light};
 
 use answer::Answer;
+use machine::CpuPlace;
 use percpu::places;
 use refusal::{Refusal, refused};
 
@@ -30,16 +31,15 @@ fn queue_weight(b: &[u64]) -> u64
     total
 }
 
-pub fn total_weight(m: &[u64], c: usize, n: usize, k: usize) -> u64
-    requires image { Image c n m.now }
-    requires k_lt_c { k < c }
-    ensures { (M : Machine) → m.now ≡ encode M → Fits c n M → result ≡ total_weight_of M k }
+pub fn total_weight(m: &[u64], cpu: CpuPlace) -> u64
+    requires image { Image cpu.c cpu.n m.now }
+    ensures { (M : Machine) → m.now ≡ encode M → Fits cpu.c cpu.n M → result ≡ total_weight_of M cpu.k }
 {
-    let at = machine::cpu_place(n, k);
+    let at = cpu.start();
     let end = at + places::BLOCK_SIZE;
     let queued = queue_weight(&m[at..end]);
     let x = numbers::index(m[at + places::SCHED_CTXT]);
-    let q = machine::load(m, c, n, x);
+    let q = machine::load(m, cpu.c, cpu.n, x);
     if q.is_active {
         return queued + weights::weight_of(q.prio);
     }
@@ -51,14 +51,8 @@ pub fn answer(m: &[u64], c: usize, n: usize, cpu: u64) -> Answer
     requires { Image c n m.now }
     ensures { (M : Machine) → m.now ≡ encode M → Fits c n M → result ≡ total_weight_answer M (get_percpu_block M cpu) }
 {
-    let p = machine::get_percpu_block(m, c, n, cpu);
-    let Some(k) = p else {
+    let Some(k) = machine::get_percpu_block(m, c, n, cpu) else {
         return refused(Refusal::Name);
     };
-    Answer {
-        refusal: 0,
-        result: total_weight(m, c, n, k),
-        interrupt: 0,
-        rule: 0,
-    }
+    answer::accepted(total_weight(m, CpuPlace { c, n, k }))
 }

@@ -12,20 +12,21 @@ ghost use Rattle.numbers.specs.Limits.{max_number};
 ghost use Rattle.trial.specs.Trial.{Tried};
 
 use answer::Answer;
+use machine::CpuPlace;
 use refusal::{Refusal, refused};
 use switch_ops::Decision;
 
-// On CPU k, which is present.
-fn switch_on(m: &mut [u64], c: usize, n: usize, k: usize, time: u64) -> Answer
-    requires image { Image c n m.old }
-    requires k_lt_c { (k < c) × (time ≤ max_number) }
-    requires ranged { Ranged c n max_number max_number m.old }
-    ensures { (M : Machine) → m.old ≡ encode M → Fits c n M → Attempts m.new result (decide_on m.old M k time by_switch) (outcome by_switch k time M).machine }
+// On a CPU that is present.
+fn switch_on(m: &mut [u64], cpu: CpuPlace, time: u64) -> Answer
+    requires image { Image cpu.c cpu.n m.old }
+    requires bounded { time ≤ max_number }
+    requires ranged { Ranged cpu.c cpu.n max_number max_number m.old }
+    ensures { (M : Machine) → m.old ≡ encode M → Fits cpu.c cpu.n M → Attempts m.new result (decide_on m.old M cpu.k time by_switch) (outcome by_switch cpu.k time M).machine }
 {
-    if let Err(refusal) = admission::check_decision(m, c, n, k, time) {
+    if let Err(refusal) = admission::check_decision(m, cpu, time) {
         return refused(refusal);
     }
-    switch_ops::attempt(m, c, n, k, time, Decision::Switch)
+    switch_ops::attempt(m, cpu, time, Decision::Switch)
 }
 
 // Operation 2 on an image that was checked. Where it is refused the image may be left half-way.
@@ -35,9 +36,8 @@ pub fn switch(m: &mut [u64], c: usize, n: usize, cpu: u64, time: u64) -> Answer
     requires ranged { Ranged c n max_number max_number m.old }
     ensures { (M : Machine) → m.old ≡ encode M → Fits c n M → Attempts m.new result (decide m.old M cpu time by_switch) (outcome by_switch cpu time M).machine }
 {
-    let p = machine::get_percpu_block(m, c, n, cpu);
-    match p {
-        Some(k) => switch_on(m, c, n, k, time),
+    match machine::get_percpu_block(m, c, n, cpu) {
+        Some(k) => switch_on(m, CpuPlace { c, n, k }, time),
         None => refused(Refusal::Name),
     }
 }
@@ -47,8 +47,7 @@ pub fn on_copy(image: &[u64], copy: &mut [u64], cpu: u64, time: u64) -> Answer
     requires { max_image_size ≤ length copy.old }
     ensures { Tried image.now (take (length image.now) copy.new) cpu time result }
 {
-    let checked = calls::check(image, time);
-    match checked {
+    match calls::check(image, time) {
         Err(refusal) => refused(refusal),
         Ok((c, n)) => {
             let len = image.len();
@@ -62,8 +61,7 @@ pub fn on_copy(image: &[u64], copy: &mut [u64], cpu: u64, time: u64) -> Answer
 pub fn in_place(m: &mut [u64], cpu: u64, time: u64) -> Answer
     ensures { Tried m.old m.new cpu time result }
 {
-    let checked = calls::check(m, time);
-    match checked {
+    match calls::check(m, time) {
         Err(refusal) => refused(refusal),
         Ok((c, n)) => switch(m, c, n, cpu, time),
     }

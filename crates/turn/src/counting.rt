@@ -9,6 +9,7 @@ ghost use Rattle.stages.specs.Stage.{Staged, Ranged};
 ghost use Rattle.numbers.specs.Limits.{max_number, half_range};
 ghost use Rattle.stages.specs.Bounds.{t_counted};
 
+use machine::CpuPlace;
 use percpu::PercpuBlock;
 
 fn counted(mut b: PercpuBlock) -> PercpuBlock
@@ -20,13 +21,12 @@ fn counted(mut b: PercpuBlock) -> PercpuBlock
     b
 }
 
-pub fn count_switch(m: &mut [u64], c: usize, n: usize, k: usize)
-    requires image { Image c n m.old }
-    requires k_lt_c { k < c }
-    requires ranged { Ranged c n t_counted max_number m.old }
-    ensures { Staged c n k m.old m.new false (λ (s : State). on_cpu count_switch s) }
+pub fn count_switch(m: &mut [u64], cpu: CpuPlace)
+    requires image { Image cpu.c cpu.n m.old }
+    requires ranged { Ranged cpu.c cpu.n t_counted max_number m.old }
+    ensures { Staged cpu.c cpu.n cpu.k m.old m.new false (λ (s : State). on_cpu count_switch s) }
 {
-    let b = stages::load_block(m, c, n, k);
+    let b = stages::load_block(m, cpu);
     let after = counted(b);
-    stages::store_block(m, c, n, k, after);
+    stages::store_block(m, cpu, after);
 }

@@ -1,5 +1,5 @@
 // The turn that ends: the switch is counted, its time is kept, and the holder of the CPU pays for it.
-// In every function m is the image of a machine of c CPUs and n contexts, and k is the CPU.
+// In every function m is an image (crate machine says why it stays apart), and cpu the place in it of the CPU that decides.
 #![tactic(auto)]
 
 mod counting;

@@ -12,6 +12,7 @@ ghost use Rattle.numbers.specs.Limits.{max_number, max_elapsed, half_range, nano
 ghost use Rattle.stages.specs.Bounds.{t_counted, b_woken};
 
 use cpu_stats::CpuState;
+use machine::CpuPlace;
 use percpu::PercpuBlock;
 use ticks::Spent;
 
@@ -39,36 +40,34 @@ fn timed(mut b: PercpuBlock, time: u64, elapsed: u64) -> PercpuBlock
 }
 
 // The turn's ticks. What is left over stays for the next decision, whoever is in charge.
-fn convert(m: &mut [u64], c: usize, n: usize, k: usize, elapsed: u64) -> Spent
-    requires image { Image c n m.old }
-    requires k_lt_c { (k < c) × (elapsed ≤ max_elapsed) }
-    ensures { Stage c n k m.old m.new false result (λ (s : State). on_cpu (carried elapsed) s) (λ (s : State). spent_by elapsed s.cpu) }
+fn convert(m: &mut [u64], cpu: CpuPlace, elapsed: u64) -> Spent
+    requires image { Image cpu.c cpu.n m.old }
+    requires bounded { elapsed ≤ max_elapsed }
+    ensures { Stage cpu.c cpu.n cpu.k m.old m.new false result (λ (s : State). on_cpu (carried elapsed) s) (λ (s : State). spent_by elapsed s.cpu) }
 {
-    let before = stages::remainder(m, c, n, k);
+    let before = stages::remainder(m, cpu);
     let r = ticks::convert(elapsed, before);
-    stages::store_remainder(m, c, n, k, r.remainder);
+    stages::store_remainder(m, cpu, r.remainder);
     Spent {
         elapsed,
         ticks: r.ticks,
     }
 }
 
-pub fn times(m: &mut [u64], c: usize, n: usize, k: usize, time: u64) -> Turn
-    requires image { Image c n m.old }
-    requires k_lt_c { (k < c) × (time ≤ max_number) }
-    requires ranged { Ranged c n t_counted b_woken m.old }
-    requires in_time { InTime c n k time m.old }
-    ensures { Stage c n k m.old m.new false result (λ (s : State). on_cpu (times time) s) (λ (s : State). turn_of time s.cpu) }
+pub fn times(m: &mut [u64], cpu: CpuPlace, time: u64) -> Turn
+    requires image { Image cpu.c cpu.n m.old }
+    requires bounded { time ≤ max_number }
+    requires ranged { Ranged cpu.c cpu.n t_counted b_woken m.old }
+    requires in_time { InTime cpu.c cpu.n cpu.k time m.old }
+    ensures { Stage cpu.c cpu.n cpu.k m.old m.new false result (λ (s : State). on_cpu (times time) s) (λ (s : State). turn_of time s.cpu) }
 {
-    let b = stages::load_block(m, c, n, k);
+    let b = stages::load_block(m, cpu);
     let elapsed = time.saturating_sub(b.schedule_time);
     let after = timed(b, time, elapsed);
-    stages::store_block(m, c, n, k, after);
-    let spent = convert(m, c, n, k, elapsed);
-    let s = b.stats;
-    let state = s.state;
+    stages::store_block(m, cpu, after);
+    let spent = convert(m, cpu, elapsed);
     Turn {
         spent,
-        was_idle: is_idle(state),
+        was_idle: is_idle(b.stats.state),
     }
 }

@@ -1,7 +1,7 @@
 -- A woken context enters the queue: one lemma for each need. Assumes nothing.
 use Rattle.std.specs.Prelude.{if◌then◌else◌}
 use mathlib.Core.Path.{◌≡◌, refl, sym, ap, ◌∙◌, subst}
-use mathlib.Core.Bool.{Bool, true, false}
+use mathlib.Core.Bool.{Bool, false}
 use mathlib.Core.List.{List}
 use Prim.Native.Nat.{ℕ, ◌+◌, ◌-◌, ◌<◌, ◌≤◌}
 use native.Mathlib.Omega.{arith}
@@ -77,16 +77,6 @@ abbrev without : Context → Bool → State → State
 without q b s = on_cpu (λ (p : Cpu). cpu_queue (if b then queue_remove (queue_key q) p.queue else p.queue) p) s
 
 module _ {c n : ℕ} {m : List ℕ} (k : ℕ) (q : Context) where
-  pub old_key_out : {m' : List ℕ} (key : Key) → q.has_queue_key ≡ true → key ≡ queue_key q
-      → Staged c n k m m' false (λ (s : State). on_cpu (λ (p : Cpu). cpu_queue (queue_remove key p.queue) p) s)
-      → Staged c n k m m' false (λ (s : State). on_cpu (λ (p : Cpu). cpu_queue (without_old_key q p.queue) p) s)
-  old_key_out key h e t =
-      stage_as t
-      (λ M z o. (
-        ap (λ (y : Key). on_cpu (λ (p : Cpu). cpu_queue (queue_remove y p.queue) p) (state_of k M)) e ∙ ap (λ (y : Bool). without q y (state_of k M)) (sym h),
-        λ y w. refl,
-      ))
-
   pub no_old_key : Image c n m → q.has_queue_key ≡ false → Staged c n k m m false (λ (s : State). on_cpu (λ (p : Cpu). cpu_queue (without_old_key q p.queue) p) s)
   no_old_key i h = stage_as (stage_none i) (λ M z o. (ap (λ (y : Bool). without q y (state_of k M)) (sym h), λ y w. refl))
 

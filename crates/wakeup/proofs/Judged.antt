@@ -18,7 +18,7 @@ use Rattle.stages.proofs.Compose.{stage_as}
 use Rattle.wakeup_judge.specs.declared.Wakeup.{Wakeup}
 use Rattle.wakeup_judge.specs.declared.WakeupResult.{WakeupResult}
 use Rattle.wakeup_judge.specs.declared.WakeupResult.TheVariants.{Dropped, Locked, WokenOnly, Entered}
-use Rattle.wakeup_judge.specs.Judge.{wake_of, wakeup_of, result_of, may_enter_at, judged}
+use Rattle.wakeup_judge.specs.Judge.{wakeup_of, result_of, may_enter_at, judged}
 use Rattle.wakeup_judge.proofs.Judging.{judged_is}
 use Rattle.wakeup.specs.Paced.{Paced, RecordFits, ResultFits}
 use Rattle.stages.proofs.Reading.{stage_none}
@@ -26,17 +26,14 @@ use Rattle.wakeup.proofs.Entering.{Loaded}
 use Rattle.numbers.specs.Limits.{max_number}
 
 -- put back, as the code found it
-abbrev back : Wakeup → Bool → State → State
-back w b s = put_back (if b then Some w.wake else None) w.context_ref s
-
 module _ {c n k : ℕ} {m m' : List ℕ} {r : Bool} (w : Wakeup) where
-  pub back_timer : w.by_timer ≡ true → Staged c n k m m' r (λ (s : State). insert_timer (record { wake = w.wake; context_ref = w.context_ref }) s)
-      → Staged c n k m m' r (λ (s : State). put_back (wake_of w) w.context_ref s)
-  back_timer h t = stage_as t (λ M e o. (ap (λ (b : Bool). back w b (state_of k M)) (sym h), λ y z. refl))
+  pub back_timer : (wake : ℕ) → w.wake ≡ Some wake → Staged c n k m m' r (λ (s : State). insert_timer (record { wake = wake; context_ref = w.context_ref }) s)
+      → Staged c n k m m' r (λ (s : State). put_back w.wake w.context_ref s)
+  back_timer wake h t = stage_as t (λ M e o. (ap (λ (y : Option ℕ). put_back y w.context_ref (state_of k M)) (sym h), λ y z. refl))
 
-  pub back_name : (x : ℕ) → w.by_timer ≡ false → x ≡ w.context_ref → Staged c n k m m' r (λ (s : State). push_local x s)
-      → Staged c n k m m' r (λ (s : State). put_back (wake_of w) w.context_ref s)
-  back_name x h q t = stage_as t (λ M e o. (ap (λ (y : ℕ). push_local y (state_of k M)) q ∙ ap (λ (b : Bool). back w b (state_of k M)) (sym h), λ y z. refl))
+  pub back_name : (x : ℕ) → w.wake ≡ None → x ≡ w.context_ref → Staged c n k m m' r (λ (s : State). push_local x s)
+      → Staged c n k m m' r (λ (s : State). put_back w.wake w.context_ref s)
+  back_name x h q t = stage_as t (λ M e o. (ap (λ (y : ℕ). push_local y (state_of k M)) q ∙ ap (λ (y : Option ℕ). put_back y w.context_ref (state_of k M)) (sym h), λ y z. refl))
 
 -- one lemma for each result
 module _ {c n k : ℕ} {m : List ℕ} (w : Wakeup) (r : WakeupResult) where
@@ -44,7 +41,7 @@ module _ {c n k : ℕ} {m : List ℕ} (w : Wakeup) (r : WakeupResult) where
   unfolding wake_as
   as_dropped i h = stage_as (stage_none i) (λ M e o. (ap (λ (y : WakeupResult). wake_as (state_of k M) (wakeup_of w) (result_of y)) (sym h), λ y z. refl))
 
-  pub as_locked : {m' : List ℕ} {b : Bool} → r ≡ Locked → Staged c n k m m' b (λ (s : State). put_back (wake_of w) w.context_ref s)
+  pub as_locked : {m' : List ℕ} {b : Bool} → r ≡ Locked → Staged c n k m m' b (λ (s : State). put_back w.wake w.context_ref s)
       → Staged c n k m m' b (λ (s : State). wake_as s (wakeup_of w) (result_of r))
   unfolding wake_as
   as_locked h t = stage_as t (λ M e o. (ap (λ (y : WakeupResult). wake_as (state_of k M) (wakeup_of w) (result_of y)) (sym h), λ y z. refl))
@@ -79,7 +76,7 @@ woken_fits {c} (Some t) q f =
 judged_fits : {c : ℕ} (current sched : ℕ) (w : Wakeup) (q : Context) → RecordFits c q → ResultFits c (judged current sched w q)
 unfolding judged
 judged_fits {c} current sched w q f =
-    fits_if (eqb w.context_ref sched) q.gone (eqb q.lock 0) (may_enter_at current sched w.context_ref (woken_by (wake_of w) q)) (woken_by (wake_of w) q) (woken_fits (wake_of w) q f)
+    fits_if (eqb w.context_ref sched) q.gone (eqb q.lock 0) (may_enter_at current sched w.context_ref (woken_by w.wake q)) (woken_by w.wake q) (woken_fits w.wake q f)
   where
     fits_if : (a g l b : Bool) (y : Context) → RecordFits c y → ResultFits c (if a then Dropped else if g then Dropped else if not l then Locked else if b then Entered y else WokenOnly y)
     fits_if true g l b y z = tt

@@ -1,5 +1,5 @@
 -- A wake-up by value, and what the definitions of the decision say of it. Assumes nothing.
-use Rattle.std.specs.Prelude.{Bool, not, ◌&&◌, ◌||◌, ℕ, ◌+◌, ◌<◌, ◌≤◌, eqb, if◌then◌else◌, None, Option, Some}
+use Rattle.std.specs.Prelude.{Bool, not, ◌&&◌, ◌||◌, ℕ, ◌+◌, ◌<◌, ◌≤◌, eqb, if◌then◌else◌}
 use Rattle.context.specs.declared.Context.{Context}
 use Rattle.context.specs.Status.{is_runnable}
 use Rattle.weights.specs.Weights.{weight}
@@ -12,12 +12,9 @@ use Rattle.wakeup_judge.specs.declared.WakeupResult.{WakeupResult}
 use Rattle.wakeup_judge.specs.declared.WakeupResult.TheVariants.{Dropped, Locked, WokenOnly, Entered}
 use Rattle.numbers.specs.Limits.{max_number}
 
-abbrev pub wake_of : Wakeup → Option ℕ
-wake_of w = if w.by_timer then Some w.wake else None
-
 -- the definition's wake-up, and its result
 abbrev pub wakeup_of : Wakeup → definition.Wakeup
-wakeup_of w = record { wake = wake_of w; context_ref = w.context_ref }
+wakeup_of w = record { wake = w.wake; context_ref = w.context_ref }
 
 abbrev pub result_of : WakeupResult → definition.WakeupResult
 result_of Dropped = definition.dropped
@@ -43,7 +40,7 @@ may_enter_at current sched x c =
 -- `wakeup_result`, of the two names and of the context's record
 unfoldable pub judged : (current sched : ℕ) → Wakeup → Context → WakeupResult
 judged current sched w c =
-    let q = definition.woken_by (wake_of w) c in
+    let q = definition.woken_by w.wake c in
     if eqb w.context_ref sched then Dropped else
     if c.gone then Dropped else
     if not (eqb c.lock 0) then Locked else

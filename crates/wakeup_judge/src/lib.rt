@@ -3,7 +3,7 @@
 
 ghost use Rattle.std.specs.Prelude.{◌≡◌, false, ◌≢◌, ◌<◌};
 ghost use Rattle.model.specs.Wakeup.{waits_for, woken_by, entering};
-ghost use Rattle.wakeup_judge.specs.Judge.{live_at, unreadable_at, wake_of, may_enter_at, judged, activated_block, Enterable};
+ghost use Rattle.wakeup_judge.specs.Judge.{live_at, unreadable_at, may_enter_at, judged, activated_block, Enterable};
 ghost use Rattle.numbers.specs.Limits.{half_range};
 
 use context::Context;
@@ -13,8 +13,7 @@ use percpu::PercpuBlock;
 // A context to be woken; `wake` is that of the timer that gave it, if a timer did.
 #[derive(Clone, Copy)]
 pub struct Wakeup {
-    pub by_timer: bool,
-    pub wake: u64,
+    pub wake: Option<u64>,
     pub context_ref: u64,
 }
 
@@ -31,14 +30,7 @@ pub enum WakeupResult {
 pub fn waits_for(c: Context, wake: u64) -> bool
     ensures { result ≡ waits_for wake c }
 {
-    let status = c.status;
-    if status.is_soft_blocked() {
-        if c.has_wake {
-            return c.wake == wake;
-        }
-        return false;
-    }
-    false
+    c.status.is_soft_blocked() && c.has_wake && c.wake == wake
 }
 
 // A due timer gives a wake-up: c, the record of its context, which is alive, can be read and still waits for that wake.
@@ -46,13 +38,7 @@ pub fn is_live(sched: u64, t: Timer, c: Context) -> bool
     requires { c.gone ≡ false }
     ensures { result ≡ live_at sched t c }
 {
-    if c.lock == 2 {
-        return false;
-    }
-    if t.context_ref == sched {
-        return false;
-    }
-    waits_for(c, t.wake)
+    c.lock != 2 && t.context_ref != sched && waits_for(c, t.wake)
 }
 
 // A due timer stays: c, the record of its context, which is alive, cannot be read.
@@ -60,46 +46,29 @@ pub fn is_unreadable(sched: u64, t: Timer, c: Context) -> bool
     requires { c.gone ≡ false }
     ensures { result ≡ unreadable_at sched t c }
 {
-    if c.lock == 2 {
-        return true;
-    }
-    t.context_ref == sched
+    c.lock == 2 || t.context_ref == sched
 }
 
 fn woken_by(w: Wakeup, mut c: Context) -> Context
-    ensures { result ≡ woken_by (wake_of w) c }
+    ensures { result ≡ woken_by w.wake c }
 {
-    if w.by_timer {
-        if waits_for(c, w.wake) {
+    match w.wake {
+        Some(wake) if waits_for(c, wake) => {
             c.wake_up();
-            return c;
+            c
         }
-        return c;
+        _ => c,
     }
-    c
 }
 
 // `current` and `sched` are the block's `current_ctxt` and `sched_ctxt`.
 fn may_enter(current: u64, sched: u64, x: u64, c: Context) -> bool
     ensures { result ≡ may_enter_at current sched x c }
 {
-    let status = c.status;
-    if !status.is_runnable() {
-        return false;
-    }
-    if c.currently_scheduled {
-        return false;
-    }
-    if !c.userspace {
-        return false;
-    }
-    if !c.running {
-        return true;
-    }
-    if x == current {
-        return x != sched;
-    }
-    false
+    c.status.is_runnable()
+        && !c.currently_scheduled
+        && c.userspace
+        && (!c.running || x == current && x != sched)
 }
 
 // c is the record of the context, which is alive and not in charge, as it was before.
@@ -107,12 +76,11 @@ pub fn judge(current: u64, sched: u64, w: Wakeup, c: Context) -> WakeupResult
     requires { (c.gone ≡ false) × (w.context_ref ≢ sched) }
     ensures { result ≡ judged current sched w c }
 {
-    let x = w.context_ref;
     if c.lock != 0 {
         return WakeupResult::Locked;
     }
     let q = woken_by(w, c);
-    if may_enter(current, sched, x, q) {
+    if may_enter(current, sched, w.context_ref, q) {
         return WakeupResult::Entered(q);
     }
     WakeupResult::WokenOnly(q)
@@ -123,10 +91,8 @@ pub fn enter_record(v: u64, mut c: Context) -> Context
     requires { Enterable v c }
     ensures { result ≡ entering v c }
 {
-    let vtime = c.vtime.max(v);
-    let vd = vtime + weights::slice_of(c.prio);
-    c.vtime = vtime;
-    c.vd = vd;
+    c.vtime = c.vtime.max(v);
+    c.vd = c.vtime + weights::slice_of(c.prio);
     c.rem_slice = weights::FULL_SLICE;
     c.is_active = true;
     c.with_new_key()
@@ -137,11 +103,9 @@ pub fn activate_block(mut b: PercpuBlock, c: Context) -> PercpuBlock
     requires { (c.prio < 40) × (b.total_weight < half_range) }
     ensures { result ≡ activated_block c b }
 {
-    if c.is_active {
-        return b;
+    if !c.is_active {
+        b.total_weight += weights::weight_of(c.prio);
+        b.published_weight = b.total_weight;
     }
-    let total_weight = b.total_weight + weights::weight_of(c.prio);
-    b.total_weight = total_weight;
-    b.published_weight = total_weight;
     b
 }

@@ -1,20 +1,24 @@
 -- The names of the interrupt list behind those of the local list. Assumes nothing.
-use mathlib.Core.Path.{◌≡◌, sym, ap, ◌∙◌}
-use Prim.Native.Nat.{ℕ, ◌+◌, ◌<◌, ◌≤◌}
+use mathlib.Core.Path.{◌≡◌, refl, sym, ap, ◌∙◌}
+use Prim.Native.Nat.{ℕ, ◌+◌, ◌-◌, ◌*◌, ◌<◌, ◌≤◌}
 use native.Mathlib.Omega.{arith}
 use native.Mathlib.Numerals.{add-one}
 use mathlib.Core.List.{List, [], ◌∷◌, ◌++◌, append_assoc, append-nil}
-use lib.ListN.{length, get_or, set, take, replicate}
+use lib.ListN.{length, get_or, set, take, drop, replicate}
 use lib.Seq.{take-suc, take_all}
 use Rattle.columns.specs.Columns.{pad}
-use Rattle.columns.specs.Blocks.{flat, splice, col_splice}
+use borrow.Rule.Slice.PartMut.{put_mid}
+use Rattle.columns.specs.Blocks.{flat, splice, col_splice, part_is, splice_is, length_part}
 use Rattle.percpu.specs.Cpu.{Cpu}
-use Rattle.percpu.specs.With.{cpu_local_wakeup_list, cpu_ipi_context_wakeup_list}
+use Rattle.percpu.specs.With.{cpu_local_wakeup_list}
 use Rattle.percpu.specs.Words.{block_words}
 use Rattle.percpu.specs.Layout.{cpu_words, counts, columns, last_words, front_length}
 use Rattle.percpu.proofs.Read.{ipi_is}
-use Rattle.wakeup_lists.proofs.Pushed.{local_listed, ipi_listed}
-use Rattle.percpu.specs.Places.{local_wakeup_list_column, ipi_context_wakeup_list_column}
+use Rattle.percpu.specs.Places.{ipi_context_wakeup_list_column}
+use Rattle.wakeup_lists.specs.declared.WakeupList.{WakeupList}
+use Rattle.wakeup_lists.specs.declared.WakeupList.TheVariants.{Local, Ipi}
+use Rattle.wakeup_lists.specs.Lists.{names_place, count_place, with_names}
+use Rattle.wakeup_lists.proofs.Pushed.{Listed, local_listed, ipi_listed}
 
 -- the first i names are behind the local ones
 abbrev pub appended : Cpu → ℕ → Cpu
@@ -44,22 +48,21 @@ appended_all b₀ b k i hk h f c e l =
     let n : length c.ipi_context_wakeup_list ≤ i = omega (arith, ipi_count c b₀ e)
     in f c e l ∙ rw (take_all i c.ipi_context_wakeup_list n)
 
--- the interrupt list's words cleared, and its count
-pub cleared : (b a : List ℕ) (c : Cpu) → b ≡ cpu_words c → a ≡ replicate 64 0
-    → set (splice b ipi_context_wakeup_list_column 64 a) 24 0 ≡ cpu_words (cpu_ipi_context_wakeup_list [] c)
-unfolding cpu_words pad
-cleared b a c e z =
-    let i : splice (cpu_words c) ipi_context_wakeup_list_column 64 (replicate 64 0) ≡ (block_words c.block ++ counts c) ++ (flat (columns (cpu_ipi_context_wakeup_list [] c)) ++ last_words c)
-    = col_splice (block_words c.block ++ counts c) (last_words c) (columns c) 25 9 (front_length c) (ipi_listed c).place []
-    ∙ ap (λ (k : List (List ℕ)). (block_words c.block ++ counts c) ++ (flat k ++ last_words c)) (sym ((ipi_listed c).other []))
-    in rw (z, e) (ap (λ (m : List ℕ). set m 24 0) i ∙ (ipi_listed c).counted [])
+-- a list's words cleared, and its count
+module _ {c : Cpu} {j count : ℕ} {l : List ℕ} {put : List ℕ → Cpu} (listed : Listed c j count l put) where
+  pub cleared : (b a : List ℕ) → b ≡ cpu_words c → a ≡ replicate 64 0 → set (splice b (25 + 64 * j) 64 a) count 0 ≡ cpu_words (put [])
+  unfolding cpu_words pad
+  cleared b a e z =
+      let i : splice (cpu_words c) (25 + 64 * j) 64 (replicate 64 0) ≡ (block_words c.block ++ counts c) ++ (flat (columns (put [])) ++ last_words c)
+      = col_splice (block_words c.block ++ counts c) (last_words c) (columns c) 25 j (front_length c) listed.place []
+      ∙ ap (λ (k : List (List ℕ)). (block_words c.block ++ counts c) ++ (flat k ++ last_words c)) (sym (listed.other []))
+      in rw (z, e) (ap (λ (m : List ℕ). set m count 0) i ∙ listed.counted [])
 
--- and the local list's
-pub cleared_local : (b a : List ℕ) (c : Cpu) → b ≡ cpu_words c → a ≡ replicate 64 0
-    → set (splice b local_wakeup_list_column 64 a) 23 0 ≡ cpu_words (cpu_local_wakeup_list [] c)
-unfolding cpu_words pad
-cleared_local b a c e z =
-    let i : splice (cpu_words c) local_wakeup_list_column 64 (replicate 64 0) ≡ (block_words c.block ++ counts c) ++ (flat (columns (cpu_local_wakeup_list [] c)) ++ last_words c)
-    = col_splice (block_words c.block ++ counts c) (last_words c) (columns c) 25 8 (front_length c) (local_listed c).place []
-    ∙ ap (λ (k : List (List ℕ)). (block_words c.block ++ counts c) ++ (flat k ++ last_words c)) (sym ((local_listed c).other []))
-    in rw (z, e) (ap (λ (m : List ℕ). set m 23 0) i ∙ (local_listed c).counted [])
+-- the names lent
+pub lent_length : (b : List ℕ) (names : ℕ) → names + 64 ≤ length b → length (take (names + 64 - names) (drop names b)) ≡ 64
+lent_length b names h = ap length (part_is b names (names + 64) 64 refl) ∙ length_part b names 64 h
+
+pub cleared_on : (list : WakeupList) (c : Cpu) (b a : List ℕ) (names count : ℕ) → b ≡ cpu_words c → names ≡ names_place list → count ≡ count_place list → a ≡ replicate 64 0
+    → set (put_mid names (names + 64 - names) b a) count 0 ≡ cpu_words (with_names list [] c)
+cleared_on Local c b a names count e hs ht z = rw (splice_is b names (names + 64) 64 a refl, hs, ht) (cleared (local_listed c) b a e z)
+cleared_on Ipi c b a names count e hs ht z = rw (splice_is b names (names + 64) 64 a refl, hs, ht) (cleared (ipi_listed c) b a e z)

@@ -1,43 +1,65 @@
 // The two wake-up lists of a CPU's block: `local_wakeup_list` and `ipi_context_wakeup_list`.
 #![tactic(auto)]
 
-ghost use Rattle.std.specs.Prelude.{◌≡◌, List, [], ◌∷◌, ◌++◌, ℕ, ◌+◌, ◌*◌, ◌<◌, ◌≤◌, length, get_or, take, replicate};
+ghost use Rattle.std.specs.Prelude.{◌≡◌, [], ◌++◌, ◌+◌, ◌<◌, ◌≤◌, length, get_or};
 ghost use Rattle.percpu.specs.Cpu.{Cpu};
 ghost use Rattle.percpu.specs.With.{cpu_local_wakeup_list, cpu_ipi_context_wakeup_list};
 ghost use Rattle.percpu.specs.Layout.{cpu_words};
-ghost use Rattle.percpu.specs.Places.{local_count, ipi_count, block_size};
-ghost use Rattle.percpu.specs.Lists.{cpu_push_local, cpu_push_ipi};
+ghost use Rattle.percpu.specs.Places.{local_count, ipi_count, ipi_context_wakeup_list_column, block_size};
+ghost use Rattle.wakeup_lists.specs.Lists.{names_place, count_place, with_names, cpu_push};
 
-use percpu::places::{
-    COLUMNS_END, IPI_CONTEXT_WAKEUP_LIST, IPI_COUNT, LOCAL_COUNT, LOCAL_WAKEUP_LIST,
-};
+use percpu::places::{IPI_CONTEXT_WAKEUP_LIST, IPI_COUNT, LOCAL_COUNT, LOCAL_WAKEUP_LIST};
 
-// x at the end of the local list, which has room.
-pub fn push_local(b: &mut [u64], x: u64)
-    requires { (length b.old ≡ block_size) × (get_or b.old local_count 0 < 64) }
-    ensures b_after { (c : Cpu) → b.old ≡ cpu_words c → b.new ≡ cpu_words (cpu_push_local x c) }
-    ensures local_count_after { get_or b.new local_count 0 ≡ get_or b.old local_count 0 + 1 }
-{
-    let n = numbers::index(b[LOCAL_COUNT]);
-    columns::insert_at(&mut b[LOCAL_WAKEUP_LIST..IPI_CONTEXT_WAKEUP_LIST], n, n, x);
-    b[LOCAL_COUNT] = numbers::word(n + 1);
+// `Ipi` is the one that another CPU's interrupt drains.
+#[derive(Clone, Copy)]
+pub enum WakeupList {
+    Local,
+    Ipi,
 }
 
-// x at the end of the list that another CPU's interrupt drains, which has room.
-pub fn push_ipi(b: &mut [u64], x: u64)
-    requires { (length b.old ≡ block_size) × (get_or b.old ipi_count 0 < 64) }
-    ensures { (c : Cpu) → b.old ≡ cpu_words c → b.new ≡ cpu_words (cpu_push_ipi x c) }
-{
-    let n = numbers::index(b[IPI_COUNT]);
-    columns::insert_at(&mut b[IPI_CONTEXT_WAKEUP_LIST..COLUMNS_END], n, n, x);
-    b[IPI_COUNT] = numbers::word(n + 1);
+impl WakeupList {
+    // Where its 64 names begin.
+    fn names(self) -> usize
+        ensures { (result ≡ names_place self) × (result ≤ ipi_context_wakeup_list_column) }
+    {
+        match self {
+            WakeupList::Local => LOCAL_WAKEUP_LIST,
+            WakeupList::Ipi => IPI_CONTEXT_WAKEUP_LIST,
+        }
+    }
+
+    // Where their count stands.
+    pub fn count(self) -> usize
+        ensures { (result ≡ count_place self) × (result ≤ ipi_count) }
+    {
+        match self {
+            WakeupList::Local => LOCAL_COUNT,
+            WakeupList::Ipi => IPI_COUNT,
+        }
+    }
 }
 
-fn clear(a: &mut [u64])
-    requires { length a.old ≡ 64 }
-    ensures { a.new ≡ replicate 64 0 }
+// x at the end of a list, which has room.
+pub fn push(b: &mut [u64], list: WakeupList, x: u64)
+    requires { (length b.old ≡ block_size) × (get_or b.old (count_place list) 0 < 64) }
+    ensures b_after { (c : Cpu) → b.old ≡ cpu_words c → b.new ≡ cpu_words (cpu_push list x c) }
+    ensures count_after { get_or b.new (count_place list) 0 ≡ get_or b.old (count_place list) 0 + 1 }
 {
-    a.fill(0);
+    let names = list.names();
+    let count = list.count();
+    let n = numbers::index(b[count]);
+    columns::insert_at(&mut b[names..names + 64], n, n, x);
+    b[count] = numbers::word(n + 1);
+}
+
+// A list emptied; the words that it frees are 0.
+pub fn clear(b: &mut [u64], list: WakeupList)
+    requires { length b.old ≡ block_size }
+    ensures { (c : Cpu) → b.old ≡ cpu_words c → b.new ≡ cpu_words (with_names list [] c) }
+{
+    let names = list.names();
+    b[names..names + 64].fill(0);
+    b[list.count()] = 0;
 }
 
 // The names of the interrupt list behind those of the local list, which has room for them.
@@ -48,7 +70,7 @@ fn append_ipi(b: &mut [u64])
     let k = numbers::index(b[IPI_COUNT]);
     for i in 0..k {
         let x = b[IPI_CONTEXT_WAKEUP_LIST + i];
-        push_local(b, x);
+        push(b, WakeupList::Local, x);
     }
 }
 
@@ -58,15 +80,5 @@ pub fn drain_ipi(b: &mut [u64])
     ensures { (c : Cpu) → b.old ≡ cpu_words c → length c.ipi_context_wakeup_list ≤ 64 → b.new ≡ cpu_words (cpu_local_wakeup_list (c.local_wakeup_list ++ c.ipi_context_wakeup_list) (cpu_ipi_context_wakeup_list [] c)) }
 {
     append_ipi(b);
-    clear(&mut b[IPI_CONTEXT_WAKEUP_LIST..COLUMNS_END]);
-    b[IPI_COUNT] = 0;
-}
-
-// The local list emptied; the words that it frees are 0.
-pub fn clear_local(b: &mut [u64])
-    requires { length b.old ≡ block_size }
-    ensures { (c : Cpu) → b.old ≡ cpu_words c → b.new ≡ cpu_words (cpu_local_wakeup_list [] c) }
-{
-    clear(&mut b[LOCAL_WAKEUP_LIST..IPI_CONTEXT_WAKEUP_LIST]);
-    b[LOCAL_COUNT] = 0;
+    clear(b, WakeupList::Ipi);
 }

@@ -5,7 +5,6 @@ use native.Mathlib.Omega.{arith}
 use mathlib.Core.List.{List, [], ◌∷◌, ◌++◌, append-nil}
 use lib.ListN.{length, set, take, drop, length-append, length-drop, take-append-drop}
 use lib.Seq.{split_at, drop-drop, take_all, length-slice}
-use borrow.Author.Tests.{lt-ltb, le-ltb}
 use Rattle.columns.specs.Columns.{column_remove}
 use Rattle.columns.specs.Blocks.{part, splice, part_mid, splice_mid, length_part}
 use Rattle.window.specs.declared.Record.{Record}
@@ -82,15 +81,6 @@ module _ (w x y : List ℕ) (l : length w ≡ window_size) (e : x ≡ column_rem
 
   pub drops_size : (n : ℕ) → n ≡ 255 → y ≡ column_remove (part contexts_moved 257 256) 256 0 → length (set (splice contexts_moved 257 256 y) 0 n) ≡ length w
   drops_size n h f = ap length (drops n h f) ∙ length_without w l ∙ sym l
-
--- with room, and without
-pub adds_last : (w w' : List ℕ) (r : Record) (count : ℕ) → count ≡ count_of w → count < 256 → w' ≡ appended w r → w' ≡ added w r
-unfolding added
-adds_last w w' r count e h f = rw (lt-ltb (count_of w) capacity (omega arith)) f
-
-pub adds_moved : (w v w' : List ℕ) (r : Record) (count : ℕ) → count ≡ count_of w → 256 ≤ count → v ≡ without_oldest w → w' ≡ appended v r → w' ≡ added w r
-unfolding added
-adds_moved w v w' r count e h f g = rw (le-ltb (count_of w) capacity (omega arith), ← f) g
 
 pub moved_count : (w v : List ℕ) → v ≡ without_oldest w → count_of v < capacity
 unfolding without_oldest

@@ -52,10 +52,7 @@ fn in_range(w: &[u64], count: usize, n: u64) -> bool
     ensures { result ≡ every (λ i. is_in_range n (record_at w.now i)) count }
 {
     for i in 0..count {
-        if n <= w[CONTEXTS + i] {
-            return false;
-        }
-        if numbers::MAX_ELAPSED < w[TIMES + i] {
+        if n <= w[CONTEXTS + i] || numbers::MAX_ELAPSED < w[TIMES + i] {
             return false;
         }
     }
@@ -100,15 +97,14 @@ fn append(w: &mut [u64], r: Record)
 }
 
 // Adds a record; the oldest leaves first where the window is full.
+#[tactic(auto, unfolding(crate::specs::Window::added))]
 pub fn add(w: &mut [u64], r: Record)
     requires { (length w.old ≡ window_size) × (count_of w.old ≤ capacity) }
     ensures { w.new ≡ added w.old r }
 {
-    if numbers::index(w[COUNT]) < CAPACITY {
-        append(w, r);
-        return;
+    if CAPACITY <= numbers::index(w[COUNT]) {
+        drop_oldest(w);
     }
-    drop_oldest(w);
     append(w, r);
 }
 
@@ -145,10 +141,5 @@ pub fn share(w: &[u64], n: u64, whose: Whose) -> Answer
     if let Err(refusal) = check(w, n) {
         return refused(refusal);
     }
-    Answer {
-        refusal: 0,
-        result: sum(w, n, whose),
-        interrupt: 0,
-        rule: 0,
-    }
+    answer::accepted(sum(w, n, whose))
 }

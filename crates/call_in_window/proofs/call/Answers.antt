@@ -16,5 +16,5 @@ add-requires c = let p = passes c.word.result c.args.window.now (sym c.in_defaul
 pub returns-then-a-ne0 : goal.returns-then-a-ne0
 returns-then-a-ne0 c = decided _ _ _ _ _ c.call-a.ensures _ _ _ c.contexts-n.ensures (c.in_default.ensures ∙ ap (λ (k : ℕ). refusal k c.args.window.now) c.word.ensures) _ c.turn-holder.ensures c.if-a-ne0.true refl c.add.ensures
 
-pub returns : goal.returns
-returns c = undecided _ _ _ _ _ c.call-a.ensures _ _ _ c.contexts-n.ensures (c.in_default.ensures ∙ ap (λ (k : ℕ). refusal k c.args.window.now) c.word.ensures) c.if-a-ne0.false refl
+pub returns-else-a-ne0 : goal.returns-else-a-ne0
+returns-else-a-ne0 c = undecided _ _ _ _ _ c.call-a.ensures _ _ _ c.contexts-n.ensures (c.in_default.ensures ∙ ap (λ (k : ℕ). refusal k c.args.window.now) c.word.ensures) c.if-a-ne0.false refl

@@ -1,18 +1,29 @@
-use Rattle.candidate.proofs.Apart.{absent_cpu, gone_context, off_context, on_context}
+use mathlib.Core.Path.{◌∙◌, sym}
+use Rattle.std.proofs.lemmas.Result.{err_from_is_err_and}
+use Rattle.candidate.proofs.Apart.{missed, met, absent_cpu, gone_context, off_context, on_context}
 use Rattle.candidate.proofs.candidate.Goals as goal
 
--- src/lib.rt:70:9
-pub returns-in_default : goal.returns-in_default
-returns-in_default c = λ M e o. absent_cpu M _ _ _ (c.get_percpu_block-p.ensures M e o) c.in_default.is
+pub returns-in_err-k : goal.returns-in_err-k
+returns-in_err-k c = λ M e o.
+    let p = err_from_is_err_and c.from_residual.result c.from_residual.ensures.1 in
+    let w = missed _ _ (sym c.ok_or.ensures.value ∙ c.in_err-k.was) in
+    rw (p.1, p.2, w.1) (absent_cpu M _ _ _ (c.get_percpu_block.ensures M e o) w.0)
 
--- src/lib.rt:74:9
-pub returns-in_default-l : goal.returns-in_default-l
-returns-in_default-l c = λ M e o. gone_context M _ _ _ (c.get_percpu_block-p.ensures M e o) _ c.in-Some.is _ (c.look_up-l.ensures M e o) c.in_default-l.is
+pub returns-in_err-x : goal.returns-in_err-x
+returns-in_err-x c = λ M e o.
+    let p = err_from_is_err_and c.from_residual-in_err-x.result c.from_residual-in_err-x.ensures.1 in
+    let k = met _ _ (sym c.ok_or.ensures.value ∙ c.in_ok-k.was) in
+    let w = missed _ _ (sym c.ok_or-2.ensures.value ∙ c.in_err-x.was) in
+    rw (p.1, p.2, w.1) (gone_context M _ _ _ (c.get_percpu_block.ensures M e o) _ k _ (c.look_up.ensures M e o) w.0)
 
--- src/lib.rt:77:9
 pub returns-then-on_none : goal.returns-then-on_none
-returns-then-on_none c = λ M e o. off_context M _ _ _ (c.get_percpu_block-p.ensures M e o) _ c.in-Some.is _ (c.look_up-l.ensures M e o) _ c.in-Some-l.is _ (c.on_none.ensures M e o) c.if-on_none.true
+returns-then-on_none c = λ M e o.
+    let k = met _ _ (sym c.ok_or.ensures.value ∙ c.in_ok-k.was) in
+    let x = met _ _ (sym c.ok_or-2.ensures.value ∙ c.in_ok-x.was) in
+    off_context M _ _ _ (c.get_percpu_block.ensures M e o) _ k _ (c.look_up.ensures M e o) _ x _ (c.on_none.ensures M e o) c.if-on_none.true
 
--- src/lib.rt:64:1
 pub returns : goal.returns
-returns c = λ M e o. on_context M _ _ _ (c.get_percpu_block-p.ensures M e o) _ c.in-Some.is _ (c.look_up-l.ensures M e o) _ c.in-Some-l.is _ (c.on_none.ensures M e o) c.if-on_none.false
+returns c = λ M e o.
+    let k = met _ _ (sym c.ok_or.ensures.value ∙ c.in_ok-k.was) in
+    let x = met _ _ (sym c.ok_or-2.ensures.value ∙ c.in_ok-x.was) in
+    on_context M _ _ _ (c.get_percpu_block.ensures M e o) _ k _ (c.look_up.ensures M e o) _ x _ (c.on_none.ensures M e o) c.if-on_none.false

@@ -1,7 +1,5 @@
 use Rattle.candidate.proofs.Apart.{one_on, one_off, all_off}
-use Rattle.candidate.specs.Candidate.{not_on}
 use Rattle.columns.proofs.Tests.{every_none}
-use mathlib.Core.Bool.{true}
 use Rattle.candidate.proofs.on_none.Goals as goal
 
 -- src/lib.rt:55:5

@@ -3,7 +3,7 @@ use Rattle.machine.specs.Shape.{Fits}
 use Rattle.machine.specs.Encode.{encode}
 use Rattle.machine.specs.Machine.{Machine, cpu_at}
 use Rattle.columns.specs.Common.{every}
-use Prim.Native.Nat.{ℕ, ◌-◌}
+use Prim.Native.Nat.{ℕ}
 use mathlib.Core.Bool.{true}
 use mathlib.Core.Path.{◌≡◌}
 use Rattle.candidate.proofs.on_none.Given as goal

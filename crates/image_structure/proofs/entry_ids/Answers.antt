@@ -2,7 +2,6 @@ use Rattle.image_ranges.proofs.Named.{queue_count, entry_name}
 use Rattle.image_structure.specs.Structure.{id_of, entry_ids}
 use Rattle.columns.proofs.Tests.{every_none, every_next, every_no, every_end}
 use borrow.Author.Tests.{eq-eqb, ne_eqb}
-use mathlib.Core.Bool.{true}
 use mathlib.Core.Path.{sym, ap, ◌∙◌}
 use native.Mathlib.Omega.{arith}
 use Rattle.image_structure.proofs.entry_ids.Goals as goal

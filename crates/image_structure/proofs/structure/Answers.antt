@@ -1,7 +1,6 @@
 use Rattle.image_structure.proofs.Structured.{lent_in_range, lent_structure}
-use Rattle.image_structure.specs.Structure.{structure, block_structure}
+use Rattle.image_structure.specs.Structure.{structure}
 use Rattle.columns.proofs.Tests.{every_none, every_next, every_no, every_end}
-use mathlib.Core.Bool.{true}
 use mathlib.Core.Path.{sym, ◌∙◌}
 use borrow.Author.Rules.{rules}
 use native.Mathlib.Omega.{arith}

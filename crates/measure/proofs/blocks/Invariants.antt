@@ -1,4 +1,3 @@
-use Prim.Native.Nat.{◌-◌}
 use Rattle.measure.specs.Measured.{BlocksMeasured}
 use Rattle.measure.proofs.blocks.Given as goal
 

@@ -1,6 +1,5 @@
-use Prim.Native.Nat.{◌-◌}
 use Rattle.measure.specs.Measured.{Greatest}
 use Rattle.measure.proofs.greatest.Given as goal
 
-abbrev pub invariant-loop-i : goal.invariant-loop-i
-invariant-loop-i l = Greatest l.m l.from l.i l.most l.top
+abbrev pub invariant-loop-word : goal.invariant-loop-word
+invariant-loop-word l = Greatest l.words 0 l.word-index l.most l.top

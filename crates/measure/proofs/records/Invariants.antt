@@ -1,4 +1,3 @@
-use Prim.Native.Nat.{◌-◌}
 use Rattle.measure.specs.Measured.{RecordsMeasured}
 use Rattle.measure.proofs.records.Given as goal
 

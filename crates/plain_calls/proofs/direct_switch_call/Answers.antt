@@ -5,12 +5,12 @@ use Rattle.plain_calls.proofs.direct_switch_call.Goals as goal
 
 -- src/lib.rt:128:34
 pub direct_switch_to-requires : goal.direct_switch_to-requires
-direct_switch_to-requires c = record { image = call_image _ _ _ c.check-checked.ensures _ _ (ap numbered c.in-Ok.is); time_le_max_number = call_time _ _ _ c.check-checked.ensures _ _ (ap numbered c.in-Ok.is); ranged = call_ranged _ _ _ c.check-checked.ensures _ _ (ap numbered c.in-Ok.is) }
+direct_switch_to-requires c = record { image = call_image _ _ _ c.check.ensures _ _ (ap numbered c.in-Ok.is); time_le_max_number = call_time _ _ _ c.check.ensures _ _ (ap numbered c.in-Ok.is); ranged = call_ranged _ _ _ c.check.ensures _ _ (ap numbered c.in-Ok.is) }
 
 -- src/lib.rt:122:1
 pub returns-in-Err : goal.returns-in-Err
-returns-in-Err c = call_refused _ _ _ c.check-checked.ensures _ _ (ap numbered c.in-Err.is) c.refused.ensures
+returns-in-Err c = call_refused _ _ _ c.check.ensures _ _ (ap numbered c.in-Err.is) c.refused.ensures
 
 -- src/lib.rt:122:1
 pub returns-in-Ok : goal.returns-in-Ok
-returns-in-Ok c = call_done _ _ _ c.check-checked.ensures _ _ _ (ap numbered c.in-Ok.is) c.direct_switch_to.ensures
+returns-in-Ok c = call_done _ _ _ c.check.ensures _ _ _ (ap numbered c.in-Ok.is) c.direct_switch_to.ensures

@@ -6,12 +6,12 @@ use Rattle.plain_calls.proofs.tick_call.Goals as goal
 
 -- src/lib.rt:106:34
 pub decide-requires : goal.decide-requires
-decide-requires c = record { image = call_image _ _ _ c.check-checked.ensures _ _ (ap numbered c.in-Ok.is); time_le_max_number = (call_time _ _ _ c.check-checked.ensures _ _ (ap numbered c.in-Ok.is), tick_no_target); ranged = call_ranged _ _ _ c.check-checked.ensures _ _ (ap numbered c.in-Ok.is) }
+decide-requires c = record { image = call_image _ _ _ c.check.ensures _ _ (ap numbered c.in-Ok.is); time_le_max_number = (call_time _ _ _ c.check.ensures _ _ (ap numbered c.in-Ok.is), tick_no_target); ranged = call_ranged _ _ _ c.check.ensures _ _ (ap numbered c.in-Ok.is) }
 
 -- src/lib.rt:100:1
 pub returns-in-Err : goal.returns-in-Err
-returns-in-Err c = call_refused _ _ _ c.check-checked.ensures _ _ (ap numbered c.in-Err.is) c.refused.ensures
+returns-in-Err c = call_refused _ _ _ c.check.ensures _ _ (ap numbered c.in-Err.is) c.refused.ensures
 
 -- src/lib.rt:100:1
 pub returns-in-Ok : goal.returns-in-Ok
-returns-in-Ok c = call_done _ _ _ c.check-checked.ensures _ _ _ (ap numbered c.in-Ok.is) c.decide.ensures
+returns-in-Ok c = call_done _ _ _ c.check.ensures _ _ _ (ap numbered c.in-Ok.is) c.decide.ensures

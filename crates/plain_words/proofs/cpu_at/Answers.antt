@@ -9,8 +9,8 @@ slice_bounds-load_cpu-end c = omega (arith, sized c.requires.image)
 
 -- src/lib.rt:160:5
 pub load_cpu-requires : goal.load_cpu-requires
-load_cpu-requires c = (lent_long _ _ c.cpu_place-at.ensures c.requires.k_lt_c c.requires.image, lent_counted _ _ c.cpu_place-at.ensures c.requires.k_lt_c c.requires.image)
+load_cpu-requires c = (lent_long _ _ c.start-at.ensures c.args.cpu.present c.requires.image, lent_counted _ _ c.start-at.ensures c.args.cpu.present c.requires.image)
 
 -- src/lib.rt:152:1
 pub returns : goal.returns
-returns c = cpu_found _ _ c.cpu_place-at.ensures c.requires.k_lt_c c.requires.image _ c.load_cpu.ensures
+returns c = cpu_found _ _ c.start-at.ensures c.args.cpu.present c.requires.image _ c.load_cpu.ensures

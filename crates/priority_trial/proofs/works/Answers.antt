@@ -5,7 +5,7 @@ use Rattle.priority_trial.proofs.works.Goals as goal
 
 -- src/lib.rt:48:9
 pub put-requires : goal.put-requires
-put-requires c = record { image = copy_image _ c.requires.ready _ c.copy.ensures (search rules); k_lt_c = (c.requires.ready.cpu_below, c.requires.ready.below, c.requires.copy_len.1) }
+put-requires c = record { image = copy_image _ c.requires.ready _ c.copy.ensures (search rules); bounded = (c.requires.ready.below, c.requires.copy_len.1) }
 
 -- src/lib.rt:49:9
 pub returns-then-not-put : goal.returns-then-not-put

@@ -10,8 +10,8 @@ bounds-m-at-2 c = simp length-set (omega (arith, c.context_place-at.ensures, c.r
 
 -- src/lib.rt:57:1
 pub shape_of-m : goal.shape_of-m
-shape_of-m c = c.block-a.auto.m ∙ simp length-set
+shape_of-m c = c.block.auto.m ∙ simp length-set
 
 -- src/lib.rt:57:1
 pub returns : goal.returns
-returns c = asleep_plays _ c.args.m.now _ c.args.cpu c.args.x _ _ c.args.time c.context_place-at.ensures c.word.ensures c.block-a.ensures
+returns c = asleep_plays _ c.args.m.now _ c.args.cpu c.args.x _ _ c.args.time c.context_place-at.ensures c.word.ensures c.block.ensures

@@ -15,4 +15,4 @@ returns-in-Yield c = rw c.in-Yield.is (plays_yield _ _ _ _ _ _ c.switched-in-Yie
 
 -- src/lib.rt:69:1
 pub returns-else-asleep : goal.returns-else-asleep
-returns-else-asleep c = rw c.in-Block.is (refused_block _ _ _ _ _ _ c.asleep.ensures c.if-asleep.false)
+returns-else-asleep c = rw (c.in-Block.is, c.if-asleep.false) (refused_block _ _ _ _ _ _ c.asleep.ensures c.if-asleep.false)

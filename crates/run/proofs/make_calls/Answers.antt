@@ -6,7 +6,7 @@ use Rattle.run.proofs.make_calls.Goals as goal
 
 -- src/lib.rt:57:5
 pub loop-i-init : goal.loop-i-init
-loop-i-init c = (loop_first _ _ _ _ c.requires.1, search rules, unknown _ _ c.nothing-s.ensures)
+loop-i-init c = (loop_first _ _ _ _ c.requires.1, search rules, unknown _ _)
 
 -- src/lib.rt:58:13
 pub call_at-requires : goal.call_at-requires

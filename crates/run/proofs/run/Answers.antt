@@ -1,14 +1,14 @@
 use Rattle.run.proofs.Running.{unfit_calls, unfit_answers, all_made}
 use native.Mathlib.Omega.{arith}
+use Rattle.run.proofs.run.Goals.{then-calls-ne0-via-then-calls-ne0, then-calls-ne0-via-else-calls-ne0+then-answers-calls}
 use Rattle.run.proofs.run.Goals as goal
 
--- src/lib.rt:66:9
 pub returns-then-calls-ne0 : goal.returns-then-calls-ne0
-returns-then-calls-ne0 c = unfit_calls _ _ _ c.if-calls-ne0.true
-
--- src/lib.rt:69:9
-pub returns-then-answers-calls : goal.returns-then-answers-calls
-returns-then-answers-calls c = unfit_answers _ _ _ c.if-calls-ne0.false c.if-answers-calls.true
+returns-then-calls-ne0 c =
+    elim c.then-calls-ne0.branch [
+      | then-calls-ne0-via-then-calls-ne0 w ↦ unfit_calls _ _ _ w.if-calls-ne0.true
+      | then-calls-ne0-via-else-calls-ne0+then-answers-calls w ↦ unfit_answers _ _ _ w.if-calls-ne0.false w.if-answers-calls.true
+    ]
 
 -- src/lib.rt:72:5
 pub make_calls-requires : goal.make_calls-requires

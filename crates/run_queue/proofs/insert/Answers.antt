@@ -11,4 +11,4 @@ use Rattle.run_queue.proofs.insert.Goals as goal
 
 pub returns : goal.returns
 unfolding row key_at entry_at
-returns c = λ k hb g u. puts queue_table queue_lies entry_before entries_ordered c.args.e c.args.b.now _ _ _ refl c.find-p.ensures.1 c.holds-held.ensures.0 k hb g u _ _ c.put.ensures.0 c.put.ensures.1
+returns c = λ k hb g u. puts queue_table queue_lies entry_before entries_ordered c.args.e c.args.b.now _ _ (λ i. refl) (λ i. refl) k hb g u _ _ c.insert.ensures

@@ -8,7 +8,7 @@ pub slice_bounds-entry-end : goal.slice_bounds-entry-end
 slice_bounds-entry-end c = omega (arith, sized c.requires.image)
 
 pub entry-requires : goal.entry-requires
-entry-requires c = (search rules, omega (arith, queue_small c.requires.image _ c.requires.k_lt_c.0))
+entry-requires c = (search rules, omega (arith, queue_small c.requires.image _ c.args.cpu.present))
 
 pub returns : goal.returns
-returns c = entry_read c.requires.image _ _ c.cpu_place-at.ensures c.requires.k_lt_c.0 c.requires.k_lt_c.1 _ c.entry.ensures
+returns c = entry_read c.requires.image _ _ c.start-at.ensures c.args.cpu.present c.requires.bounded _ c.entry.ensures

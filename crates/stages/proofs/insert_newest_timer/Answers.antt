@@ -11,7 +11,7 @@ pub slice_bounds-insert_newest-end : goal.slice_bounds-insert_newest-end
 slice_bounds-insert_newest-end c = omega (arith, sized c.requires.image)
 
 pub insert_newest-requires : goal.insert_newest-requires
-insert_newest-requires c = (search rules, subst (λ y. y ≤ 64) (sym (lent_word c.args.m.now c.args.n c.args.k 22 c.cpu_place-at.ensures (omega arith))) (timers_small c.requires.image _ c.requires.k_lt_c.0))
+insert_newest-requires c = (search rules, subst (λ y. y ≤ 64) (sym (lent_word c.args.m.now c.args.cpu.n c.args.cpu.k 22 c.start-at.ensures (omega arith))) (timers_small c.requires.image _ c.args.cpu.present))
 
 pub returns : goal.returns
-returns c = staged_newest c.requires.image _ c.cpu_place-at.ensures c.requires.k_lt_c.0 _ _ _ c.requires.k_lt_c.1 c.insert_newest.ensures
+returns c = staged_newest c.requires.image _ c.start-at.ensures c.args.cpu.present _ _ _ c.requires.bounded c.insert_newest.ensures

@@ -7,4 +7,4 @@ pub slice_bounds-load-end : goal.slice_bounds-load-end
 slice_bounds-load-end c = omega (arith, sized c.requires.image)
 
 pub returns : goal.returns
-returns c = λ M e o. c.load.ensures _ (lent_is _ _ c.cpu_place-at.ensures c.requires.k_lt_c M e o)
+returns c = λ M e o. c.load.ensures _ (lent_is _ _ c.start-at.ensures c.args.cpu.present M e o)

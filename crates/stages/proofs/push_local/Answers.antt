@@ -7,4 +7,4 @@ pub slice_bounds-push_local-end : goal.slice_bounds-push_local-end
 slice_bounds-push_local-end c = omega (arith, sized c.requires.image)
 
 pub returns : goal.returns
-returns c = staged_name c.requires.image _ c.cpu_place-at.ensures c.requires.k_lt_c.0 _ _ _ _ c.requires.k_lt_c.1 c.word-name.ensures c.push_local.ensures
+returns c = staged_name c.requires.image _ c.start-at.ensures c.args.cpu.present _ _ _ _ c.requires.bounded c.word-name.ensures c.push_local.ensures

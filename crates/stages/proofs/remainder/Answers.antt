@@ -10,4 +10,4 @@ pub bounds-m-at : goal.bounds-m-at
 bounds-m-at c = omega (arith, sized c.requires.image)
 
 pub returns : goal.returns
-returns c = let z = word_from c.args.m.now remainder_place c.cpu_place-at.ensures refl in (omega (arith, remainder_small c.requires.image _ c.requires.k_lt_c, z), λ M e o. z ∙ remainder_read _ _ c.requires.k_lt_c M e o)
+returns c = let z = word_from c.args.m.now remainder_place c.start-at.ensures refl in (omega (arith, remainder_small c.requires.image _ c.args.cpu.present, z), λ M e o. z ∙ remainder_read _ _ c.args.cpu.present M e o)

@@ -7,4 +7,4 @@ pub slice_bounds-store-end : goal.slice_bounds-store-end
 slice_bounds-store-end c = omega (arith, sized c.requires.image)
 
 pub returns : goal.returns
-returns c = staged_block c.requires.image _ c.cpu_place-at.ensures c.requires.k_lt_c _ _ c.requires.block_fits c.store.ensures
+returns c = staged_block c.requires.image _ c.start-at.ensures c.args.cpu.present _ _ c.requires.block_fits c.store.ensures

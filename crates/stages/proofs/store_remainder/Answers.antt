@@ -7,4 +7,4 @@ pub slice_bounds-store_remainder-end : goal.slice_bounds-store_remainder-end
 slice_bounds-store_remainder-end c = omega (arith, sized c.requires.image)
 
 pub returns : goal.returns
-returns c = staged_remainder c.requires.image _ c.cpu_place-at.ensures c.requires.k_lt_c.0 _ _ c.requires.k_lt_c.1 c.store_remainder.ensures
+returns c = staged_remainder c.requires.image _ c.start-at.ensures c.args.cpu.present _ _ c.requires.bounded c.store_remainder.ensures

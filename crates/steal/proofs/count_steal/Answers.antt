@@ -10,4 +10,4 @@ pub slice_bounds-count_steal-end : goal.slice_bounds-count_steal-end
 slice_bounds-count_steal-end c = omega (arith, sized c.requires.image)
 
 pub returns : goal.returns
-returns c = staged_cpu c.requires.image _ c.cpu_place-at.ensures c.requires.k_lt_c _ (λ (p : Cpu). count_steal p) (λ p o e. c.count_steal.ensures p e) (λ p o. fits_counted _ p o)
+returns c = staged_cpu c.requires.image _ c.start-at.ensures c.args.cpu.present _ (λ (p : Cpu). count_steal p) (λ p o e. c.count_steal.ensures p e) (λ p o. fits_counted _ p o)

@@ -11,13 +11,13 @@ pub bounds-m-at-2 : goal.bounds-m-at-2
 bounds-m-at-2 c = omega (arith, sized c.requires.image)
 
 pub overflow_add-result-3 : goal.overflow_add-result-3
-overflow_add-result-3 c = omega (arith, small_counts c.requires.image _ c.cpu_place-at.ensures c.requires.k_lt_c)
+overflow_add-result-3 c = omega (arith, small_counts c.requires.image _ c.start-at.ensures c.args.cpu.present)
 
 pub bounds-m-at-3 : goal.bounds-m-at-3
 bounds-m-at-3 c = omega (arith, sized c.requires.image)
 
 pub overflow_add-result-5 : goal.overflow_add-result-5
-overflow_add-result-5 c = omega (arith, small_counts c.requires.image _ c.cpu_place-at.ensures c.requires.k_lt_c)
+overflow_add-result-5 c = omega (arith, small_counts c.requires.image _ c.start-at.ensures c.args.cpu.present)
 
 pub returns : goal.returns
-returns c = λ M e o. counts_are _ _ c.cpu_place-at.ensures c.requires.k_lt_c M e o
+returns c = λ M e o. counts_are _ _ c.start-at.ensures c.args.cpu.present M e o

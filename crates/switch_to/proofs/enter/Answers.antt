@@ -7,13 +7,13 @@ use Rattle.switch_to.proofs.Recorded.{comes_fits, current_fits}
 use Rattle.switch_to.proofs.enter.Goals as goal
 
 pub come-after-requires : goal.come-after-requires
-come-after-requires c = omega (arith, c.requires.k_lt_c.0, c.requires.image.fits.bounds.1)
+come-after-requires c = omega (arith, c.args.cpu.present, c.requires.image.fits.bounds.1)
 
 pub store_context-requires : goal.store_context-requires
-store_context-requires c = record { image = c.requires.image; k_lt_c = c.requires.k_lt_c; context_fits = comes_fits _ c.args.time _ c.come-after.ensures c.requires.k_lt_c.0 (context_fits c.requires.image _ c.requires.k_lt_c.1 c.load-q.ensures) }
+store_context-requires c = record { image = c.requires.image; bounded = c.requires.bounded; context_fits = comes_fits _ c.args.time _ c.come-after.ensures c.args.cpu.present (context_fits c.requires.image _ c.requires.bounded c.load-q.ensures) }
 
 pub store_block-requires : goal.store_block-requires
-store_block-requires c = record { image = c.store_context.ensures.image refl; k_lt_c = c.requires.k_lt_c.0; block_fits = current_fits c.args.b c.come-after.result _ c.become_current-block.ensures c.requires.k_lt_c.1 c.requires.block_fits }
+store_block-requires c = record { image = c.store_context.ensures.image refl; block_fits = current_fits c.args.b c.come-after.result _ c.become_current-block.ensures c.requires.bounded c.requires.block_fits }
 
 pub returns : goal.returns
-returns c = entered_as c.args.time c.args.x c.args.b _ c.requires.k_lt_c.0 c.load-q.ensures c.come-after.ensures c.become_current-block.ensures c.store_context.ensures c.store_block.ensures
+returns c = entered_as c.args.time c.args.x c.args.b _ c.args.cpu.present c.load-q.ensures c.come-after.ensures c.become_current-block.ensures c.store_context.ensures c.store_block.ensures

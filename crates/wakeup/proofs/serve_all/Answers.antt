@@ -1,4 +1,4 @@
-use mathlib.Core.Bool.{false}
+use Rattle.std.specs.Prelude.{None}
 use Rattle.std.proofs.lemmas.Result.{err_from_is_err_and}
 use Rattle.wakeup.proofs.Serving.{serve_start, serve_named, serve_paced, serve_no_room, serve_next, serve_end}
 use mathlib.Core.Path.{refl}
@@ -8,13 +8,13 @@ pub loop-w-init : goal.loop-w-init
 loop-w-init c = serve_start _ c.requires.image c.requires.paced
 
 pub serve_one-requires : goal.serve_one-requires
-serve_one-requires c = record { image = c.loop-w.invariant.served.image refl; k_lt_c = (c.requires.k_lt_c.0, serve_named c.requires.k_lt_c.0 c.loop-w.invariant c.loop-w-test.true _ c.requires.k_lt_c.2); paced = serve_paced c.requires.k_lt_c.0 c.loop-w.invariant c.loop-w-test.true (record { by_timer = false; wake = 0; context_ref = 0 }) c.requires.k_lt_c.1 }
+serve_one-requires c = record { image = c.loop-w.invariant.served.image refl; bounded = (serve_named c.args.cpu.present c.loop-w.invariant c.loop-w-test.true _ c.requires.bounded.1); paced = serve_paced c.args.cpu.present c.loop-w.invariant c.loop-w-test.true (record { wake = None; context_ref = 0 }) c.requires.bounded.0 }
 
 pub returns-in_err-serve_one : goal.returns-in_err-serve_one
-returns-in_err-serve_one c = let p = err_from_is_err_and c.from_residual.result c.from_residual.ensures.1 in rw p.1 (serve_no_room c.requires.k_lt_c.0 c.loop-w.invariant c.loop-w-test.true _ refl c.in_err-serve_one.ensures)
+returns-in_err-serve_one c = let p = err_from_is_err_and c.from_residual.result c.from_residual.ensures.1 in rw p.1 (serve_no_room c.args.cpu.present c.loop-w.invariant c.loop-w-test.true _ refl c.in_err-serve_one.ensures)
 
 pub loop-w-preserved : goal.loop-w-preserved
-loop-w-preserved c = serve_next c.requires.k_lt_c.0 c.loop-w.invariant c.loop-w-test.true _ c.requires.k_lt_c.2 refl c.in_ok-serve_one.ensures
+loop-w-preserved c = serve_next c.args.cpu.present c.loop-w.invariant c.loop-w-test.true _ c.requires.bounded.1 refl c.in_ok-serve_one.ensures
 
 pub returns : goal.returns
 returns c = serve_end c.loop-w.invariant c.loop-w-test.false

@@ -13,7 +13,7 @@ pub slice_bounds-due-end : goal.slice_bounds-due-end
 slice_bounds-due-end c = omega (arith, sized c.requires.image)
 
 pub due-requires : goal.due-requires
-due-requires c = (search rules, subst (λ y. y ≤ 64) (sym (lent_word c.args.m.now c.args.n c.args.k timers_count c.cpu_place-at.ensures (omega arith))) (timers_small c.requires.image _ c.requires.k_lt_c.0), search rules)
+due-requires c = (search rules, subst (λ y. y ≤ 64) (sym (lent_word c.args.m.now c.args.cpu.n c.args.cpu.k timers_count c.start-at.ensures (omega arith))) (timers_small c.requires.image _ c.args.cpu.present), search rules)
 
 pub returns : goal.returns
-returns c = due_read c.requires.image _ c.cpu_place-at.ensures c.requires.k_lt_c.0 _ _ c.due.ensures
+returns c = due_read c.requires.image _ c.start-at.ensures c.args.cpu.present _ _ c.due.ensures

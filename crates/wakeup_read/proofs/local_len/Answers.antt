@@ -10,4 +10,4 @@ pub bounds-m-at : goal.bounds-m-at
 bounds-m-at c = omega (arith, sized c.requires.image)
 
 pub returns : goal.returns
-returns c = let z = word_from c.args.m.now local_count c.cpu_place-at.ensures c.index.ensures in (z, omega (arith, local_small c.requires.image _ c.requires.k_lt_c, z), λ M e o. z ∙ local_counted _ _ c.requires.k_lt_c M e o)
+returns c = let z = word_from c.args.m.now local_count c.start-at.ensures c.index.ensures in (z, omega (arith, local_small c.requires.image _ c.args.cpu.present, z), λ M e o. z ∙ local_counted _ _ c.args.cpu.present M e o)

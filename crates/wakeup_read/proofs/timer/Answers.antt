@@ -9,7 +9,7 @@ pub slice_bounds-timer-end : goal.slice_bounds-timer-end
 slice_bounds-timer-end c = omega (arith, sized c.requires.image)
 
 pub timer-requires : goal.timer-requires
-timer-requires c = (search rules, omega (arith, timers_small c.requires.image _ c.requires.k_lt_c.0))
+timer-requires c = (search rules, omega (arith, timers_small c.requires.image _ c.args.cpu.present))
 
 pub returns : goal.returns
-returns c = timer_read c.requires.image _ c.cpu_place-at.ensures c.requires.k_lt_c.0 _ c.requires.k_lt_c.1 _ c.timer.ensures
+returns c = timer_read c.requires.image _ c.start-at.ensures c.args.cpu.present _ c.requires.bounded _ c.timer.ensures

@@ -1,12 +1,11 @@
-use Rattle.window.proofs.Adding.{adds_last, adds_moved, moved_count}
-use borrow.Author.Rules.{rules}
+use Rattle.window.proofs.Adding.{moved_count}
+use native.Mathlib.Omega.{arith}
 use Rattle.window.proofs.add.Goals as goal
+use Rattle.window.proofs.add.Goals.{then-index-ge-CAPACITY, else-index-ge-CAPACITY}
 
-pub returns-then-index-lt-CAPACITY : goal.returns-then-index-lt-CAPACITY
-returns-then-index-lt-CAPACITY c = adds_last _ _ _ _ c.index.ensures c.if-index-lt-CAPACITY.true c.append.ensures
-
-pub append-requires-2 : goal.append-requires-2
-append-requires-2 c = (search rules, moved_count _ _ c.drop_oldest.ensures)
-
-pub returns : goal.returns
-returns c = adds_moved _ _ _ _ _ c.index.ensures c.if-index-lt-CAPACITY.false c.drop_oldest.ensures c.append-2.ensures
+pub append-requires : goal.append-requires
+append-requires c =
+    elim c.if-index-ge-CAPACITY.branch [
+      | then-index-ge-CAPACITY w ↦ rw w.w-is (omega arith, moved_count _ _ w.drop_oldest.ensures)
+      | else-index-ge-CAPACITY w ↦ rw w.w-is (omega arith, omega (arith, w.if-index-ge-CAPACITY.false))
+    ]

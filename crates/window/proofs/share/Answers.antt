@@ -12,4 +12,4 @@ pub sum-requires : goal.sum-requires
 sum-requires c = passes _ _ (sym c.in_default.ensures ∙ refl)
 
 pub returns : goal.returns
-returns c = share_given _ _ _ _ _ c.in_default.ensures refl c.sum.ensures
+returns c = c.accepted.ensures ∙ share_given _ _ _ _ _ c.in_default.ensures refl c.sum.ensures

@@ -5,10 +5,10 @@ use Rattle.handover.proofs.Handed.{taken_fits, sched_fits, taken_over_as}
 use Rattle.handover.proofs.handing.take_over.Goals as goal
 
 pub store_context-requires : goal.store_context-requires
-store_context-requires c = record { image = c.requires.image; k_lt_c = c.requires.k_lt_c; context_fits = taken_fits c.load-q.result c.args.time c.take-after.ensures (context_fits c.requires.image _ c.requires.k_lt_c.1 c.load-q.ensures) }
+store_context-requires c = record { image = c.requires.image; bounded = c.requires.bounded; context_fits = taken_fits c.load-q.result c.args.time c.take-after.ensures (context_fits c.requires.image _ c.requires.bounded c.load-q.ensures) }
 
 pub store_block-requires : goal.store_block-requires
-store_block-requires c = record { image = c.store_context.ensures.image refl; k_lt_c = c.requires.k_lt_c.0; block_fits = sched_fits c.args.b _ _ c.word.ensures c.requires.k_lt_c.1 c.requires.block_fits }
+store_block-requires c = record { image = c.store_context.ensures.image refl; block_fits = sched_fits c.args.b _ _ c.word.ensures c.requires.bounded c.requires.block_fits }
 
 pub returns : goal.returns
-returns c = taken_over_as c.args.time c.args.x _ c.args.b c.load-q.result c.requires.k_lt_c.0 c.word.ensures c.load-q.ensures c.take-after.ensures c.store_context.ensures c.store_block.ensures
+returns c = taken_over_as c.args.time c.args.x _ c.args.b c.load-q.result c.args.cpu.present c.word.ensures c.load-q.ensures c.take-after.ensures c.store_context.ensures c.store_block.ensures

@@ -1,7 +1,6 @@
 use Rattle.image_ranges.proofs.Checked.{block_lent}
-use Rattle.image_ranges.specs.Ranges.{block_in_range, blocks_in_range_to}
+use Rattle.image_ranges.specs.Ranges.{blocks_in_range_to}
 use Rattle.columns.proofs.Tests.{every_none, every_next, every_no, every_end}
-use mathlib.Core.Bool.{true}
 use mathlib.Core.Path.{sym, ◌∙◌}
 use Rattle.image_ranges.proofs.ranges.blocks_in_range.Goals as goal
 

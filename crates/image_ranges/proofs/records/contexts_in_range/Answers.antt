@@ -1,7 +1,6 @@
 use Rattle.image_ranges.proofs.Checked.{context_lent}
-use Rattle.image_ranges.specs.Ranges.{context_in_range, contexts_in_range_to}
+use Rattle.image_ranges.specs.Ranges.{contexts_in_range_to}
 use Rattle.columns.proofs.Tests.{every_none, every_next, every_no, every_end}
-use mathlib.Core.Bool.{true}
 use mathlib.Core.Path.{sym, ◌∙◌}
 use native.Mathlib.Omega.{arith}
 use Rattle.image_ranges.proofs.records.contexts_in_range.Goals as goal

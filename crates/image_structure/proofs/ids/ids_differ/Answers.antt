@@ -1,10 +1,7 @@
 use Rattle.image_structure.proofs.Structured.{unseen, seen_more}
 use Rattle.image_structure.specs.Structure.{ids_differ}
-use borrow.Author.Tests.{eqb-true}
 use lib.ListN.{length-set}
 use Rattle.columns.proofs.Tests.{every_none, every_next, every_no, every_end}
-use borrow.Author.Tests.{not-false}
-use mathlib.Core.Bool.{true}
 use mathlib.Core.Path.{refl, sym, ◌∙◌}
 use native.Mathlib.Omega.{arith}
 use Rattle.image_structure.proofs.ids.ids_differ.Goals as goal
@@ -13,7 +10,7 @@ pub loop-y-init : goal.loop-y-init
 loop-y-init c = (refl, (λ x h. absurd (omega arith)), every_none _)
 
 pub is_new_if-requires : goal.is_new_if-requires
-is_new_if-requires c = record { record_size_in_bounds = (omega arith, omega arith); true_value = (λ e. unseen c.args.m.now c.loop-y.seen _ _ _ c.id_of-id.ensures c.index-h.ensures c.loop-y.invariant.1 (eqb-true _ 0 (not-false _ e))) }
+is_new_if-requires c = record { record_size_in_bounds = (omega arith, omega arith); true_value = (λ e. unseen c.args.m.now c.loop-y.seen _ _ _ c.id_of-id.ensures c.index-h.ensures c.loop-y.invariant.1 e) }
 
 pub returns-then-not-is_new_if : goal.returns-then-not-is_new_if
 unfolding ids_differ

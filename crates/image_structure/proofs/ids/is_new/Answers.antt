@@ -1,7 +1,6 @@
-use Rattle.image_structure.specs.Structure.{id_of, is_new}
+use Rattle.image_structure.specs.Structure.{is_new}
 use Rattle.columns.proofs.Tests.{every_none, every_next, every_no, every_end}
 use borrow.Author.Tests.{eq-eqb, ne_eqb}
-use mathlib.Core.Bool.{true}
 use mathlib.Core.Path.{sym, ◌∙◌}
 use Rattle.image_structure.proofs.ids.is_new.Goals as goal
 

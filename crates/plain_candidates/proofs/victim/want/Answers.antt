@@ -1,6 +1,5 @@
 use Rattle.plain_candidates.proofs.Gathered.{wanted_is}
 use Rattle.plain_candidates.proofs.victim.want.Goals as goal
 
--- src/victim.rt:72:1
 pub returns : goal.returns
 returns c = (wanted_is c.args.n c.args.s c.requires c.args.v c.half_of.ensures.0, c.half_of.ensures.1)

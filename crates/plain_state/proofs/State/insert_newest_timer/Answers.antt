@@ -4,8 +4,5 @@ use Rattle.plain_state.proofs.State.insert_newest_timer.Goals as goal
 pub with_timers-requires : goal.with_timers-requires
 with_timers-requires c = record { sound = c.requires; flat = beside_flat c.args.n c.args.self c.requires c.args.t c.without_superseded-q.ensures }
 
-pub insert_timer-requires : goal.insert_timer-requires
-insert_timer-requires c = c.with_timers.ensures.sound
-
 pub returns : goal.returns
 returns c = newest c.args.n c.args.self c.requires c.args.t c.without_superseded-q.ensures c.with_timers.ensures c.insert_timer.ensures

@@ -1,10 +1,9 @@
 -- What the code leaves of the four that call one another. Assumes nothing.
-use Rattle.std.proofs.Common.{sym, ◌∙◌, rules}
-use native.Mathlib.Omega.{arith}
+use Rattle.std.proofs.Common.{sym, ◌∙◌}
 use borrow.Author.Tests.{ne_eqb}
 use Rattle.rival.specs.Game.{forces_after}
 use Rattle.rival.proofs.Choices.{first_is, first_none, all_of}
-use Rattle.rival.proofs.Telling.{own_told, told_round}
+use Rattle.rival.proofs.Telling.{own_told}
 use Rattle.rival.proofs.Turning.{told_end, told_writer, told_rival}
 use Rattle.rival.proofs.turns.+forces.Goals as goal
 
@@ -14,24 +13,20 @@ forces-returns-then-rounds-eq0 t c =
 
 pub forces-returns-then-own : goal.forces-returns-then-own
 forces-returns-then-own t c =
-    told_writer c.args.p c.args.time c.args.m.now c.args.rounds _ c.if-rounds-eq0.false (sym c.in_charge.ensures ∙ c.if-own.true ∙ c.word.ensures) c.writer_turn.ensures
+    c.is_some.ensures ∙ told_writer c.args.p c.args.time c.args.m.now c.args.rounds _ c.if-rounds-eq0.false (sym c.in_charge.ensures ∙ c.if-own.true ∙ c.word.ensures) c.writer_turn.ensures
 
 pub forces-returns : goal.forces-returns
 forces-returns t c =
     told_rival c.args.p c.args.time c.args.m.now c.args.rounds c.if-rounds-eq0.false
     (own_told c.args.p c.args.m.now _ _ c.in_charge.ensures c.word.ensures ∙ ne_eqb _ _ c.if-own.false) c.rival_turn.ensures
 
-pub forces_after-returns : goal.forces_after-returns
-forces_after-returns t c =
-    told_round c.args.p _ _ _ _ _ c.args.m.now _ _ _ _ c.word.ensures c.copy.ensures (search rules) c.play.ensures _ _ c.if-not-play.false c.nanos.ensures c.forces.ensures
+pub writer_turn-returns-then-forces_after : goal.writer_turn-returns-then-forces_after
+writer_turn-returns-then-forces_after t c =
+    sym (first_is (forces_after c.args.p c.args.rounds c.args.time c.args.m.now c.args.p.writer) _ c.loop-choice-test.true c.loop-choice.invariant (sym c.forces_after.ensures ∙ c.if-forces_after.true))
+
+pub writer_turn-returns : goal.writer_turn-returns
+writer_turn-returns t c = sym (first_none (forces_after c.args.p c.args.rounds c.args.time c.args.m.now c.args.p.writer) _ c.loop-choice-test.false c.loop-choice.invariant)
 
 pub rival_turn-returns : goal.rival_turn-returns
 rival_turn-returns t c =
-    all_of (forces_after c.args.p c.args.rounds c.args.time c.args.m.now c.args.p.rival) _ _ _ c.choices-choices.ensures (omega arith) c.loop-i.invariant
-
-pub writer_turn-returns-then-wins : goal.writer_turn-returns-then-wins
-writer_turn-returns-then-wins t c =
-    sym (first_is (forces_after c.args.p c.args.rounds c.args.time c.args.m.now c.args.p.writer) _ c.loop-i.auto.i c.loop-i-test.true c.loop-i.invariant (search rules))
-
-pub writer_turn-returns : goal.writer_turn-returns
-writer_turn-returns t c = sym (first_none (forces_after c.args.p c.args.rounds c.args.time c.args.m.now c.args.p.writer) _ c.loop-i-test.false c.loop-i.invariant)
+    all_of (forces_after c.args.p c.args.rounds c.args.time c.args.m.now c.args.p.rival) _ _ (rw c.choices-choice-items.ensures at c.loop-choice-test.false) c.loop-choice.invariant

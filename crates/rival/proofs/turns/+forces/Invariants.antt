@@ -1,6 +1,7 @@
 -- What the four that call one another keep, and what falls from one to the next. Assumes nothing.
 use Rattle.std.proofs.Common.{◌-◌, ◌*◌, true, false}
 use Rattle.rival.specs.Game.{forces_after}
+use Rattle.rival.specs.Reached.{choices, choices_against}
 use Rattle.rival.proofs.Choices.{Before}
 use Rattle.rival.proofs.turns.+forces.Given as goal
 
@@ -16,8 +17,8 @@ decreases-writer_turn l = 3 * l.rounds - 1
 abbrev pub decreases-forces_after : goal.decreases-forces_after
 decreases-forces_after l = 3 * l.rounds - 2
 
-abbrev pub invariant-rival_turn-loop-i : goal.invariant-rival_turn-loop-i
-invariant-rival_turn-loop-i l = Before (forces_after l.p l.rounds l.time l.m l.p.rival) true l.i
+abbrev pub invariant-rival_turn-loop-choice : goal.invariant-rival_turn-loop-choice
+invariant-rival_turn-loop-choice l = Before (forces_after l.p l.rounds l.time l.m l.p.rival) true (choices_against l.p l.m) l.choice-index
 
-abbrev pub invariant-writer_turn-loop-i : goal.invariant-writer_turn-loop-i
-invariant-writer_turn-loop-i l = Before (forces_after l.p l.rounds l.time l.m l.p.writer) false l.i
+abbrev pub invariant-writer_turn-loop-choice : goal.invariant-writer_turn-loop-choice
+invariant-writer_turn-loop-choice l = Before (forces_after l.p l.rounds l.time l.m l.p.writer) false choices l.choice-index

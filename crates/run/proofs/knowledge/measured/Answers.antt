@@ -15,9 +15,9 @@ pub returns-then-is_in_range : goal.returns-then-is_in_range
 returns-then-is_in_range c = c.on_known.ensures
 
 -- src/knowledge.rt:70:9
-pub on_image-a-requires : goal.on_image-a-requires
-on_image-a-requires c = record { image = passed_image _ _ _ _ c.requires.0 c.requires.1 c.requires.2; time_le_max_number = passed_time _ _ _ _ c.requires.0 c.requires.1 c.requires.2; ranged = passed_ranged _ _ _ _ c.requires.0 c.requires.1 c.requires.2 }
+pub on_image-answer-requires : goal.on_image-answer-requires
+on_image-answer-requires c = record { image = passed_image _ _ _ _ c.requires.0 c.requires.1 c.requires.2; time_le_max_number = passed_time _ _ _ _ c.requires.0 c.requires.1 c.requires.2; ranged = passed_ranged _ _ _ _ c.requires.0 c.requires.1 c.requires.2 }
 
 -- src/knowledge.rt:62:1
 pub returns : goal.returns
-returns c = passed_makes _ _ _ _ c.requires.0 c.requires.1 c.requires.2 _ _ _ refl c.nothing.ensures c.on_image-a.ensures
+returns c = passed_makes _ _ _ _ c.requires.0 c.requires.1 c.requires.2 _ _ _ refl c.on_image-answer.ensures

@@ -11,8 +11,8 @@ call_bounds-after-requires c = record { image = known_image c.requires.known; in
 pub on_image-answer-requires : goal.on_image-answer-requires
 on_image-answer-requires c = record { image = known_image c.requires.known; time_le_max_number = c.requires.time_le_max_number; ranged = known_ranged c.requires.known }
 
-pub returns-then-known : goal.returns-then-known
-returns-then-known c = known_makes _ _ c.requires.known c.requires.time_le_max_number c.on_image-answer.ensures _ _ c.call_bounds-after.ensures (sym c.is_in_range-known.ensures ∙ c.if-known.true)
+pub returns-then-is_in_range : goal.returns-then-is_in_range
+returns-then-is_in_range c = known_makes _ _ c.requires.known c.requires.time_le_max_number c.on_image-answer.ensures _ c.call_bounds-after.ensures (sym c.is_in_range.ensures ∙ c.if-is_in_range.true)
 
 pub returns : goal.returns
-returns c = over_makes _ _ c.requires.known c.requires.time_le_max_number c.on_image-answer.ensures _ c.nothing.ensures
+returns c = over_makes _ _ c.requires.known c.requires.time_le_max_number c.on_image-answer.ensures _

@@ -3,4 +3,4 @@ use Rattle.run.proofs.knowledge.unmeasured.Goals as goal
 
 -- src/knowledge.rt:105:1
 pub returns : goal.returns
-returns c = unmeasured_makes _ _ _ _ _ c.call-a.ensures c.nothing.ensures
+returns c = unmeasured_makes _ _ _ _ _ c.call-answer.ensures

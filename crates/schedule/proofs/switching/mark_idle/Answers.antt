@@ -8,7 +8,7 @@ use Rattle.schedule.proofs.Inner.{idle_as, idle_fits}
 use Rattle.schedule.proofs.switching.mark_idle.Goals as goal
 
 pub store_block-requires : goal.store_block-requires
-store_block-requires c = record { image = c.requires.image; k_lt_c = c.requires.k_lt_c; block_fits = idle_fits _ _ (block_fits c.requires.image _ c.requires.k_lt_c c.load_block-b.ensures) }
+store_block-requires c = record { image = c.requires.image; block_fits = idle_fits _ _ (block_fits c.requires.image _ c.args.cpu.present c.load_block-b.ensures) }
 
 pub returns : goal.returns
 returns c = stored_as (λ (p : Cpu). cpu_stats (stats_state Idle p.block.stats) p) c.store_block.ensures (λ M e o. idle_as _ _ _ (c.load_block-b.ensures M e o) c.set_state.ensures)

@@ -4,7 +4,7 @@ use Rattle.schedule.proofs.Inner.{as_nobody, as_somebody, as_full}
 use Rattle.schedule.proofs.switching.switch_as.Goals as goal
 
 pub switch_unless_current-requires : goal.switch_unless_current-requires
-switch_unless_current-requires c = record { image = c.requires.image; k_lt_c = (c.requires.k_lt_c.0, c.requires.k_lt_c.2 _ c.in-Some.is, c.requires.k_lt_c.1); ranged = c.requires.ranged }
+switch_unless_current-requires c = record { image = c.requires.image; bounded = (c.requires.bounded.1 _ c.in-Some.is, c.requires.bounded.0); ranged = c.requires.ranged }
 
 pub returns-in-None : goal.returns-in-None
 returns-in-None c = as_nobody c.args.time c.in-None.is c.mark_idle.ensures

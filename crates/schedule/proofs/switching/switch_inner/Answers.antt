@@ -6,16 +6,16 @@ use Rattle.schedule.proofs.Inner.{back_ranged, direct_is, begin_again, switched_
 use Rattle.schedule.proofs.switching.switch_inner.Goals as goal
 
 pub try_direct_switch_back-requires : goal.try_direct_switch_back-requires
-try_direct_switch_back-requires c = record { image = c.requires.image; k_lt_c = c.requires.k_lt_c; ranged = back_ranged c.args.time c.requires.can_begin }
+try_direct_switch_back-requires c = record { image = c.requires.image; bounded = c.requires.bounded; ranged = back_ranged c.args.time c.requires.can_begin }
 
 pub decide-requires : goal.decide-requires
-decide-requires c = let t = direct_is c.if-back.false c.in_ok-back.ensures in record { image = t.image refl; k_lt_c = c.requires.k_lt_c; can_begin = begin_again c.args.time (try_direct_switch_back c.args.k c.args.time) t c.requires.image c.requires.can_begin }
+decide-requires c = let t = direct_is c.if-branch.false c.in_ok-try_direct_switch_back.ensures in record { image = t.image refl; bounded = c.requires.bounded; can_begin = begin_again c.args.time (try_direct_switch_back c.args.cpu.k c.args.time) t c.requires.image c.requires.can_begin }
 
-pub returns-in_err-back : goal.returns-in_err-back
-returns-in_err-back c = let p = err_from_is_err_and c.from_residual.result c.from_residual.ensures.1 in rw p.1 (no_room_back c.args.time c.in_err-back.ensures)
+pub returns-in_err-try_direct_switch_back : goal.returns-in_err-try_direct_switch_back
+returns-in_err-try_direct_switch_back c = let p = err_from_is_err_and c.from_residual.result c.from_residual.ensures.1 in rw p.1 (no_room_back c.args.time c.in_err-try_direct_switch_back.ensures)
 
-pub returns-then-back : goal.returns-then-back
-returns-then-back c = switched_back c.args.time (direct_is c.if-back.true c.in_ok-back.ensures)
+pub returns-then-branch : goal.returns-then-branch
+returns-then-branch c = switched_back c.args.time (direct_is c.if-branch.true c.in_ok-try_direct_switch_back.ensures)
 
 pub returns : goal.returns
-returns c = not_back c.args.time (direct_is c.if-back.false c.in_ok-back.ensures) c.requires.image c.decide.ensures
+returns c = not_back c.args.time (direct_is c.if-branch.false c.in_ok-try_direct_switch_back.ensures) c.requires.image c.decide.ensures

@@ -6,10 +6,10 @@ pub loop-key-init : goal.loop-key-init
 loop-key-init c = remove_none c.requires.image
 
 pub remove_key-requires : goal.remove_key-requires
-remove_key-requires c = record { image = c.loop-key.invariant.image refl; k_lt_c = c.requires.k_lt_c }
+remove_key-requires c = record { image = c.loop-key.invariant.image refl }
 
 pub loop-key-preserved : goal.loop-key-preserved
-loop-key-preserved c = remove_next _ _ _ c.requires.k_lt_c c.loop-key-test.true c.loop-key.invariant c.remove_key.ensures
+loop-key-preserved c = remove_next _ _ _ c.args.cpu.present c.loop-key-test.true c.loop-key.invariant c.remove_key.ensures
 
 pub returns : goal.returns
 returns c = remove_all _ c.loop-key-test.false c.loop-key.invariant

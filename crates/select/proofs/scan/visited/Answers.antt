@@ -8,7 +8,7 @@ pub returns-in-Pass : goal.returns-in-Pass
 returns-in-Pass c = record { scans = visited_pass _ c.args.t c.args.w c.args.e _ c.requires.image (ap visit_of c.in-Pass.is); grown = grown_none c.requires.room }
 
 pub give_up-requires : goal.give_up-requires
-give_up-requires c = record { contexts_to_remove_bound = (c.requires.room.keys, c.requires.room.sum, c.requires.room.size); weight_le_max_weight = c.requires.entry_fits.light }
+give_up-requires c = record { contexts_to_remove_bound = (c.requires.room.keys, c.requires.room.sum); weight_le_max_weight = c.requires.entry_fits.light }
 
 pub returns-in-Gone : goal.returns-in-Gone
 returns-in-Gone c = record { scans = visited_gone _ c.args.t c.args.w c.args.e _ c.requires.image (ap visit_of c.in-Gone.is) c.give_up.ensures.0 c.give_up.ensures.1; grown = grown_given_up c.requires.room _ c.give_up.ensures.0 c.requires.entry_fits.light }

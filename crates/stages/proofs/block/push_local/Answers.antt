@@ -6,4 +6,4 @@ pub returns-then-b-ge64 : goal.returns-then-b-ge64
 returns-then-b-ge64 c = λ p e. (local_full _ p e c.if-b-ge64.true, λ f. never f)
 
 pub returns : goal.returns
-returns c = λ p e. (local_room _ p e c.if-b-ge64.false, λ f. c.push_local.ensures.b_after p e)
+returns c = λ p e. (local_room _ p e c.if-b-ge64.false, λ f. c.push.ensures.b_after p e)

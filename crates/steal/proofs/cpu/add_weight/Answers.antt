@@ -15,7 +15,7 @@ pub slice_bounds-add_weight-end : goal.slice_bounds-add_weight-end
 slice_bounds-add_weight-end c = omega (arith, sized c.requires.image)
 
 pub add_weight-requires : goal.add_weight-requires
-add_weight-requires c = (search rules, subst (λ y. y ≤ b_moving) (sym (lent_word c.args.m.now c.args.n c.args.k 20 c.cpu_place-at.ensures (omega arith))) c.requires.k_lt_c.2, c.requires.k_lt_c.1)
+add_weight-requires c = (search rules, subst (λ y. y ≤ b_moving) (sym (lent_word c.args.m.now c.args.cpu.n c.args.cpu.k 20 c.start-at.ensures (omega arith))) c.requires.bounded.1, c.requires.bounded.0)
 
 pub returns : goal.returns
-returns c = staged_cpu c.requires.image _ c.cpu_place-at.ensures c.requires.k_lt_c.0 _ (λ (p : Cpu). cpu_total_weight (p.block.total_weight + c.args.weight) p) (λ p o e. c.add_weight.ensures p e) (λ p o. fits_weight _ _ p o)
+returns c = staged_cpu c.requires.image _ c.start-at.ensures c.args.cpu.present _ (λ (p : Cpu). cpu_total_weight (p.block.total_weight + c.args.weight) p) (λ p o e. c.add_weight.ensures p e) (λ p o. fits_weight _ _ p o)

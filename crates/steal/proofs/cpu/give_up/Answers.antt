@@ -14,7 +14,7 @@ pub slice_bounds-give_up-end : goal.slice_bounds-give_up-end
 slice_bounds-give_up-end c = omega (arith, sized c.requires.image)
 
 pub give_up-requires : goal.give_up-requires
-give_up-requires c = (search rules, subst (λ y. y ≤ 64) (sym (lent_word c.args.m.now c.args.n c.args.t 21 c.cpu_place-at.ensures (omega arith))) (queue_small c.requires.image _ c.requires.t_lt_c))
+give_up-requires c = (search rules, subst (λ y. y ≤ 64) (sym (lent_word c.args.m.now c.args.cpu.n c.args.cpu.k 21 c.start-at.ensures (omega arith))) (queue_small c.requires.image _ c.args.cpu.present))
 
 pub returns : goal.returns
-returns c = staged_cpu c.requires.image _ c.cpu_place-at.ensures c.requires.t_lt_c _ (λ (p : Cpu). give_up c.args.e p) (λ p o e. c.give_up.ensures p e o.queue o.keys_rise) (λ p o. fits_given_up _ c.args.e p o)
+returns c = staged_cpu c.requires.image _ c.start-at.ensures c.args.cpu.present _ (λ (p : Cpu). give_up c.args.e p) (λ p o e. c.give_up.ensures p e o.queue o.keys_rise) (λ p o. fits_given_up _ c.args.e p o)

@@ -10,4 +10,4 @@ pub slice_bounds-publish_victim-end : goal.slice_bounds-publish_victim-end
 slice_bounds-publish_victim-end c = omega (arith, sized c.requires.image)
 
 pub returns : goal.returns
-returns c = staged_cpu c.requires.image _ c.cpu_place-at.ensures c.requires.t_lt_c _ (λ (p : Cpu). mark_stealable (published p)) (λ p o e. c.publish_victim.ensures p e) (λ p o. fits_marked _ p o)
+returns c = staged_cpu c.requires.image _ c.start-at.ensures c.args.cpu.present _ (λ (p : Cpu). mark_stealable (published p)) (λ p o e. c.publish_victim.ensures p e) (λ p o. fits_marked _ p o)

@@ -7,13 +7,13 @@ use Rattle.steal.proofs.Movable.{movable_first, movable_second}
 use Rattle.steal.proofs.moving.move_two.Goals as goal
 
 pub move_entry-requires : goal.move_entry-requires
-move_entry-requires c = record { image = c.requires.image; k_lt_c = (c.requires.k_lt_c.0, c.requires.k_lt_c.1, c.requires.k_lt_c.2, c.requires.k_lt_c.3); movable = movable_first c.requires.k_lt_c.0 c.requires.ranged }
+move_entry-requires c = record { image = c.requires.image; bounded = (c.requires.bounded.0); movable = movable_first c.args.theft.cpu.present c.requires.ranged }
 
 pub returns-in_err-first : goal.returns-in_err-first
-returns-in_err-first c = let p = err_from_is_err_and c.from_residual.result c.from_residual.ensures.1 in rw p.1 (moves_full (λ (v : Moving). move_entry c.args.runs v c.args.b) refl c.in_err-first.ensures (move_stays_full c.args.runs c.args.b))
+returns-in_err-first c = let p = err_from_is_err_and c.from_residual.result c.from_residual.ensures.1 in rw p.1 (moves_full (λ (v : Moving). move_entry c.args.theft.runs v c.args.b) refl c.in_err-first.ensures (move_stays_full c.args.theft.runs c.args.b))
 
 pub move_entry-requires-2 : goal.move_entry-requires-2
-move_entry-requires-2 c = record { image = c.in_ok-first.ensures.image refl; k_lt_c = (c.requires.k_lt_c.0, c.requires.k_lt_c.1, c.requires.k_lt_c.2, c.requires.k_lt_c.4); movable = movable_second c.args.runs c.args.a c.requires.k_lt_c.0 c.requires.k_lt_c.1 c.requires.ranged c.requires.k_lt_c.3 refl c.in_ok-first.ensures }
+move_entry-requires-2 c = record { image = c.in_ok-first.ensures.image refl; bounded = (c.requires.bounded.1); movable = movable_second c.args.theft.runs c.args.a c.args.theft.cpu.present c.args.theft.present c.requires.ranged c.requires.bounded.0 refl c.in_ok-first.ensures }
 
 pub returns : goal.returns
-returns c = moves_then (λ (v : Moving). move_entry c.args.runs v c.args.b) c.requires.k_lt_c.0 c.requires.k_lt_c.1 c.requires.k_lt_c.2 refl c.in_ok-first.ensures c.move_entry-2.ensures
+returns c = moves_then (λ (v : Moving). move_entry c.args.theft.runs v c.args.b) c.args.theft.cpu.present c.args.theft.present c.args.theft.other refl c.in_ok-first.ensures c.move_entry-2.ensures

@@ -4,10 +4,10 @@ use native.Mathlib.Omega.{arith}
 use Rattle.steal.proofs.moving.queue_in.Goals as goal
 
 pub store_context-requires : goal.store_context-requires
-store_context-requires c = record { image = c.requires.image; k_lt_c = (c.requires.k_lt_c.0, omega (arith, c.requires.k_lt_c.1.name, c.requires.k_lt_c.2)); context_fits = keyed_fits c.args.q c.with_new_key-keyed.ensures c.requires.context_fits }
+store_context-requires c = record { image = c.requires.image; bounded = (omega (arith, c.requires.bounded.0.name, c.requires.bounded.1)); context_fits = keyed_fits c.args.q c.with_new_key-keyed.ensures c.requires.context_fits }
 
 pub insert_entry-requires : goal.insert_entry-requires
-insert_entry-requires c = record { image = c.store_context.ensures.image refl; k_lt_c = c.requires.k_lt_c.0; entry_fits = entry_fits c.args.q c.args.e c.entry-new.ensures c.requires.k_lt_c.1 }
+insert_entry-requires c = record { image = c.store_context.ensures.image refl; entry_fits = entry_fits c.args.q c.args.e c.entry-new.ensures c.requires.bounded.0 }
 
 pub returns : goal.returns
-returns c = queued c.args.e c.args.q c.requires.k_lt_c.0 c.store_context.ensures c.insert_entry.ensures c.requires.k_lt_c.2 c.with_new_key-keyed.ensures c.entry-new.ensures
+returns c = queued c.args.e c.args.q c.args.cpu.present c.store_context.ensures c.insert_entry.ensures c.requires.bounded.1 c.with_new_key-keyed.ensures c.entry-new.ensures

@@ -11,10 +11,10 @@ pub returns-in_err-winner : goal.returns-in_err-winner
 returns-in_err-winner c = let p = err_from_is_err_and c.from_residual.result c.from_residual.ensures.1 in rw p.1 (moves_full finished refl c.in_err-winner.ensures (λ v h. h))
 
 pub publish_victim-requires : goal.publish_victim-requires
-publish_victim-requires c = record { image = c.in_ok-winner.ensures.image refl; t_lt_c = c.requires.k_lt_c.1 }
+publish_victim-requires c = record { image = c.in_ok-winner.ensures.image refl }
 
 pub publish-requires : goal.publish-requires
-publish-requires c = record { image = c.publish_victim.ensures.image refl; k_lt_c = c.requires.k_lt_c.0 }
+publish-requires c = record { image = c.publish_victim.ensures.image refl }
 
 pub returns : goal.returns
-returns c = moves_finish finished c.requires.k_lt_c.0 c.requires.k_lt_c.1 c.requires.k_lt_c.2 refl c.in_ok-winner.ensures (victim_then (λ (p : Cpu). mark_stealable (published p)) finished c.requires.k_lt_c.2 c.publish_victim.ensures c.publish.ensures (λ M e o. (refl, refl, λ z. refl)))
+returns c = moves_finish finished c.args.theft.cpu.present c.args.theft.present c.args.theft.other refl c.in_ok-winner.ensures (victim_then (λ (p : Cpu). mark_stealable (published p)) finished c.args.theft.other c.publish_victim.ensures c.publish.ensures (λ M e o. (refl, refl, λ z. refl)))

@@ -1,9 +1,9 @@
-use Rattle.steal.proofs.Round.{Outer}
+use Rattle.steal.specs.Search.{Passed}
 use Rattle.steal.proofs.Offered.{Inner}
 use Rattle.steal.proofs.search.search.Given as goal
 
 abbrev pub invariant-loop-j : goal.invariant-loop-j
-invariant-loop-j l = Inner l.c l.n l.k l.len l.want l.m l.w l.locked l.got l.t l.j
+invariant-loop-j l = Inner l.cpu.c l.cpu.n l.cpu.k l.len l.want l.m l.w l.locked l.got l.t l.j
 
-abbrev pub invariant-search : goal.invariant-search
-invariant-search l = Outer l.c l.n l.k l.m l.w l.locked l.got l.t l.i
+abbrev pub invariant-loop-i : goal.invariant-loop-i
+invariant-loop-i l = Passed l.cpu.c l.cpu.n l.cpu.k l.i l.m l.w l.locked

@@ -7,10 +7,10 @@ use Rattle.numbers.specs.Limits.{half_range}
 use Rattle.turn.proofs.counting.count_switch.Goals as goal
 
 pub counted-after-requires : goal.counted-after-requires
-counted-after-requires c = counters_below c.args.k half_range (omega arith) c.requires.ranged c.requires.k_lt_c c.load_block-b.ensures
+counted-after-requires c = counters_below c.args.cpu.k half_range (omega arith) c.requires.ranged c.args.cpu.present c.load_block-b.ensures
 
 pub store_block-requires : goal.store_block-requires
-store_block-requires c = record { image = c.requires.image; k_lt_c = c.requires.k_lt_c; block_fits = counted_fits _ _ c.counted-after.ensures (block_fits c.requires.image _ c.requires.k_lt_c c.load_block-b.ensures) }
+store_block-requires c = record { image = c.requires.image; block_fits = counted_fits _ _ c.counted-after.ensures (block_fits c.requires.image _ c.args.cpu.present c.load_block-b.ensures) }
 
 pub returns : goal.returns
 returns c = stored_as count_switch c.store_block.ensures (λ M e o. counted_as _ _ _ (c.load_block-b.ensures M e o) c.counted-after.ensures)

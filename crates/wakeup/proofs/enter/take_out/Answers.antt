@@ -13,7 +13,7 @@ pub slice_bounds-remove-end : goal.slice_bounds-remove-end
 slice_bounds-remove-end c = omega (arith, sized c.requires.image)
 
 pub remove-requires : goal.remove-requires
-remove-requires c = (search rules, subst (λ y. y ≤ 64) (sym (lent_word c.args.m.now c.args.n c.args.k queue_count c.cpu_place-at.ensures (omega arith))) (queue_small c.requires.image _ c.requires.k_lt_c))
+remove-requires c = (search rules, subst (λ y. y ≤ 64) (sym (lent_word c.args.m.now c.args.cpu.n c.args.cpu.k queue_count c.start-at.ensures (omega arith))) (queue_small c.requires.image _ c.args.cpu.present))
 
 pub returns : goal.returns
-returns c = taken_staged c.requires.image _ c.cpu_place-at.ensures c.requires.k_lt_c _ _ c.remove.ensures
+returns c = taken_staged c.requires.image _ c.start-at.ensures c.args.cpu.present _ _ c.remove.ensures

@@ -3,7 +3,7 @@ use Rattle.wakeup_read.proofs.Draining.{all_drained}
 use Rattle.wakeup_read.proofs.take_out.drain.Goals as goal
 
 pub clear_local-requires : goal.clear_local-requires
-clear_local-requires c = record { image = c.drain_timers.ensures.image refl; k_lt_c = c.requires.k_lt_c.0 }
+clear_local-requires c = record { image = c.drain_timers.ensures.image refl }
 
 pub returns : goal.returns
-returns c = all_drained _ c.requires.k_lt_c.0 c.drain_timers.ensures c.clear_local.ensures
+returns c = all_drained _ c.args.cpu.present c.drain_timers.ensures c.clear_local.ensures

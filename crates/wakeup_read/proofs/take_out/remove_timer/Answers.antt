@@ -13,7 +13,7 @@ pub slice_bounds-remove-end : goal.slice_bounds-remove-end
 slice_bounds-remove-end c = omega (arith, sized c.requires.image)
 
 pub remove-requires : goal.remove-requires
-remove-requires c = (search rules, subst (λ y. y ≤ 64) (sym (lent_word c.args.m.now c.args.n c.args.k timers_count c.cpu_place-at.ensures (omega arith))) (timers_small c.requires.image _ c.requires.k_lt_c.0), subst (λ y. c.args.i < y) (sym (lent_word c.args.m.now c.args.n c.args.k timers_count c.cpu_place-at.ensures (omega arith))) c.requires.k_lt_c.1)
+remove-requires c = (search rules, subst (λ y. y ≤ 64) (sym (lent_word c.args.m.now c.args.cpu.n c.args.cpu.k timers_count c.start-at.ensures (omega arith))) (timers_small c.requires.image _ c.args.cpu.present), subst (λ y. c.args.i < y) (sym (lent_word c.args.m.now c.args.cpu.n c.args.cpu.k timers_count c.start-at.ensures (omega arith))) c.requires.bounded)
 
 pub returns : goal.returns
-returns c = removal_staged c.requires.image _ c.cpu_place-at.ensures c.requires.k_lt_c.0 _ _ c.remove.ensures.b_after
+returns c = removal_staged c.requires.image _ c.start-at.ensures c.args.cpu.present _ _ c.remove.ensures.b_after

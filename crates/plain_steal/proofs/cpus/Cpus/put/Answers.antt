@@ -1,6 +1,5 @@
 use Rattle.plain_steal.proofs.Robbed.{cpu_put}
 use Rattle.plain_steal.proofs.cpus.Cpus.put.Goals as goal
 
--- src/cpus.rt:27:5
 pub returns : goal.returns
 returns c = cpu_put c.args.c c.args.self c.requires.0 c.args.j c.requires.2 c.args.p c.requires.1

@@ -1,9 +1,0 @@
-use Rattle.context_ops.proofs.Operated.{fits_at, fits_blocked_as, blocked_reply}
-use Rattle.context.specs.declared.Status.TheVariants.{Stopped}
-use Rattle.context_ops.proofs.hard_block_live.Goals as goal
-
-pub store_changed-requires : goal.store_changed-requires
-store_changed-requires c = record { image = c.requires.image; x_lt_n = c.requires.x_lt_n; context_fits = fits_blocked_as Stopped c.hard_block-done.ensures (fits_at c.requires.image _ _ c.requires.x_lt_n c.load-q.ensures) }
-
-pub returns : goal.returns
-returns c = λ M e o. blocked_reply _ Stopped _ M _ _ (c.load-q.ensures M e o) c.hard_block-done.ensures (c.store_changed.ensures M e o)
