@@ -22,7 +22,7 @@ use Rattle.steal_judge.specs.Judged.{has_enough}
 use Rattle.plain_model.specs.Rank.{by_rank}
 use Rattle.plain_model.specs.Steal.{can_be_stolen, take_candidate, candidates}
 use Rattle.plain_lists.specs.Lists.{Queue}
-use Rattle.plain_lists.specs.Lists.{entries_of, Stands}
+use Rattle.plain_lists.specs.Lists.{entries_of, Sized, Stands}
 use Rattle.plain_lists.proofs.Listing.{length_items}
 use Rattle.plain_state.specs.declared.Cpu.{Cpu}
 use Rattle.plain_state.specs.declared.State.{State}
@@ -32,15 +32,15 @@ use Rattle.plain_candidates.specs.Stolen.{stolen_record}
 use Rattle.plain_candidates.proofs.Judging.{stolen_is}
 
 -- one entry
-pub candidate_taken : (k : ℕ) (locked : List ℕ) (cs : List Context) (w : Option ℕ) (wanted : ℕ) (got : Queue) (e : Entry) {x : ℕ} {q : Context} {b d : Bool} {r : Queue} → x ≡ e.context_ref
+pub candidate_taken : (k : ℕ) (locked : List ℕ) (cs : List Context) (w : Option ℕ) (wanted : ℕ) (got : Queue) (e : Entry) {x : ℕ} {q : Context} {b d : Bool} {r : Queue} → Sized got → x ≡ e.context_ref
     → q ≡ context_at cs x → b ≡ stolen_record k locked w (entries_of got) x q → d ≡ (ltb got.len wanted && b)
     → Stands r (if d then entries_of got ++ (e ∷ []) else entries_of got) → Stands r (take_candidate k locked cs w wanted (entries_of got) e)
-candidate_taken k locked cs w wanted got e {x} {q} {b} {d} {r} hx hq hb hd t =
+candidate_taken k locked cs w wanted got e {x} {q} {b} {d} {r} s hx hq hb hd t =
     let y : b ≡ can_be_stolen k locked cs w (entries_of got) e
     = hb ∙ ap (stolen_record k locked w (entries_of got) x) (hq ∙ ap (context_at cs) hx) ∙ ap (λ (z : ℕ). stolen_record k locked w (entries_of got) z (context_at cs e.context_ref)) hx
     ∙ stolen_is k locked cs w (entries_of got) e
     in let z : d ≡ (ltb (length (entries_of got)) wanted && can_be_stolen k locked cs w (entries_of got) e)
-    = hd ∙ ap (λ (a : Bool). ltb got.len wanted && a) y ∙ ap (λ (a : ℕ). ltb a wanted && can_be_stolen k locked cs w (entries_of got) e) (sym (length_items got))
+    = hd ∙ ap (λ (a : Bool). ltb got.len wanted && a) y ∙ ap (λ (a : ℕ). ltb a wanted && can_be_stolen k locked cs w (entries_of got) e) (sym (length_items got s))
     in subst (λ (a : Bool). Stands r (if a then entries_of got ++ (e ∷ []) else entries_of got)) z t
 
 -- all entries, in their turns
@@ -54,8 +54,8 @@ module _ (k : ℕ) (locked : List ℕ) (cs : List Context) (w : Option ℕ) (wan
 
   pub gathering : (n : ℕ) (q turns got : Queue) (xs : List Entry) → All (EntryFits n) (entries_of q) → Stands turns (by_rank entry_before (entries_of q)) → xs ≡ entries_of turns → Stands got [] → got.len ≡ 0 → Gathering n xs got 0
   gathering n q turns got xs a t same g e =
-      let u : turns.len ≤ 64 = turns.fits.used in
-      let l : length xs ≡ turns.len = ap length same ∙ length_items turns in
+      let u : turns.len ≤ 64 = t.sized.used in
+      let l : length xs ≡ turns.len = ap length same ∙ length_items turns t.sized in
       record {
         fit = subst (All (EntryFits n)) (sym (same ∙ t.is)) (all_placed (EntryFits n) entries_ordered (entries_of q) a);
         many = omega arith;
@@ -96,15 +96,15 @@ module _ (k : ℕ) (locked : List ℕ) (cs : List Context) (w : Option ℕ) (wan
 -- the victim
 module _ (n : ℕ) (s : State) (o : Sound n s) where
   here : length (entries_of s.cpu.queue) ≡ s.cpu.queue.len
-  here = length_items s.cpu.queue
+  here = length_items s.cpu.queue o.queue
 
-  module _ (v : Cpu) where
+  module _ (v : Cpu) (z : Sized v.queue) where
     pub can_steal : {load published : ℕ} {a b : Bool} → load ≡ my_load (state_in n s) → published ≡ v.block.queue_len → a ≡ has_enough v.block.stealable published v.block.queue_locked v.queue.len load
         → b ≡ (v.block.present && a) → b ≡ can_steal_from (state_in n s) (cpu_in v)
     unfolding can_steal_from has_enough
     can_steal {load} {published} {a} {b} hl hp ha hb =
         hb
-        ∙ ap (λ (y : Bool). v.block.present && y) (ha ∙ (let y : v.queue.len ≡ length (entries_of v.queue) = sym (length_items v.queue) in λ i. has_enough v.block.stealable (hp i) v.block.queue_locked (y i) (hl i)))
+        ∙ ap (λ (y : Bool). v.block.present && y) (ha ∙ (let y : v.queue.len ≡ length (entries_of v.queue) = sym (length_items v.queue z) in λ i. has_enough v.block.stealable (hp i) v.block.queue_locked (y i) (hl i)))
         ∙ apart v.block.present v.block.stealable (leb (my_load (state_in n s) + 2) (v.block.queue_len + 1)) (not v.block.queue_locked) (leb (my_load (state_in n s) + 2) (length (entries_of v.queue) + 1))
       where
         apart : (p a b c d : Bool) → (p && (a && b && c && d)) ≡ (p && a && b && c && d)
@@ -113,4 +113,4 @@ module _ (n : ℕ) (s : State) (o : Sound n s) where
 
     pub wanted_is : {r : ℕ} → r ≡ max 1 (min max_steal ((v.queue.len - s.cpu.queue.len) / 2)) → r ≡ want (state_in n s) (cpu_in v)
     unfolding want
-    wanted_is e = rw (here, length_items v.queue) e
+    wanted_is e = rw (here, length_items v.queue z) e

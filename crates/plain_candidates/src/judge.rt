@@ -4,7 +4,7 @@ ghost use Rattle.std.specs.Prelude.{◌≡◌, ◌<◌};
 ghost use Rattle.model.specs.Steal.{member, contexts_of};
 ghost use Rattle.steal_judge.specs.Judged.{may_move};
 ghost use Rattle.plain_model.specs.Steal.{is_held};
-ghost use Rattle.plain_lists.specs.Lists.{entries_of};
+ghost use Rattle.plain_lists.specs.Lists.{entries_of, Sized};
 ghost use Rattle.plain_candidates.specs.Stolen.{locked_of, stolen_record};
 
 use context::Context;
@@ -34,15 +34,17 @@ impl Locked {
     }
 }
 
-// One of the entries taken is context x's.
+// One of the entries taken is context x's. They are counted, as `any` would leave at the first.
 fn is_taken(got: Queue, x: u64) -> bool
+    requires { Sized got }
     ensures { result ≡ member x (contexts_of (entries_of got)) }
 {
-    got.as_slice().iter().any(|e| x == e.context_ref)
+    got.as_slice().iter().filter(|e| x == e.context_ref).count() != 0
 }
 
 // The decision holds its lock.
 fn is_held(t: Thief, got: Queue, x: usize) -> bool
+    requires { Sized got }
     ensures { result ≡ is_held (locked_of t.locked) t.winner (entries_of got) x }
 {
     t.locked.contains(x) || t.winner == Some(x) || is_taken(got, numbers::word(x))
@@ -63,7 +65,7 @@ fn may_move(q: Context, cpu: u64) -> bool
 // q is the record of context x.
 #[tactic(auto, unfolding(crate::specs::Stolen::stolen_record))]
 pub fn can_be_stolen(t: Thief, got: Queue, x: usize, q: Context) -> bool
-    requires { t.cpu < 64 }
+    requires { (Sized got) × (t.cpu < 64) }
     ensures { result ≡ stolen_record t.cpu (locked_of t.locked) t.winner (entries_of got) x q }
 {
     !q.gone && q.lock == 0 && !is_held(t, got, x) && may_move(q, numbers::word(t.cpu))

@@ -2,6 +2,7 @@
 ghost use Rattle.std.specs.Prelude.{◌≡◌, ◌-◌, ◌/◌, ◌≤◌, min, max};
 ghost use Rattle.model.specs.Steal.{max_steal, my_load, can_steal_from, want};
 ghost use Rattle.steal_judge.specs.Judged.{has_enough};
+ghost use Rattle.plain_lists.specs.Lists.{Sized};
 ghost use Rattle.plain_state.specs.States.{cpu_in, state_in, Sound};
 
 use plain_state::{Cpu, State};
@@ -34,7 +35,7 @@ fn has_enough(stealable: bool, published: usize, locked: bool, len: usize, load:
 
 #[tactic(auto, unfolding(model::specs::Steal::can_steal_from))]
 pub fn can_steal_from(s: State, n: usize, v: Cpu) -> bool
-    requires { Sound n s }
+    requires { (Sound n s) × (Sized v.queue) }
     ensures { result ≡ can_steal_from (state_in n s) (cpu_in v) }
 {
     let b = v.block;
@@ -51,7 +52,7 @@ fn half_of(there: usize, here: usize) -> usize
 
 // Half of what it has more, at least one and at most MAX_STEAL.
 pub fn want(s: State, n: usize, v: Cpu) -> usize
-    requires { Sound n s }
+    requires { (Sound n s) × (Sized v.queue) }
     ensures { (result ≡ want (state_in n s) (cpu_in v)) × (result ≤ 2) }
 {
     half_of(v.queue.len, s.cpu.queue.len)

@@ -11,7 +11,7 @@ ghost use Rattle.model.specs.State.{put_context};
 ghost use Rattle.model.specs.Steal.{first_wins};
 ghost use Rattle.plain_model.specs.State.{insert_entry};
 ghost use Rattle.plain_model.specs.Steal.{give_up, move_entry};
-ghost use Rattle.plain_lists.specs.Lists.{entries_of};
+ghost use Rattle.plain_lists.specs.Lists.{entries_of, Sized};
 ghost use Rattle.plain_state.specs.States.{cpu_in, state_in, Sound, Became, Tracks};
 ghost use Rattle.stages.specs.Bounds.{b_moving};
 ghost use Rattle.weights.specs.Weights.{max_weight};
@@ -124,7 +124,7 @@ fn move_entry(m: Moving, n: usize, runs: bool, e: Entry) -> Moving
 
 // At most two entries.
 pub fn move_entries(m: Moving, n: usize, runs: bool, es: Queue) -> Moving
-    requires sound { (Sound n m.state) × (CpuSound m.victim) × (es.len ≤ 2) }
+    requires sound { (Sound n m.state) × (CpuSound m.victim) × (Sized es) × (es.len ≤ 2) }
     requires all { (All (EntryFits n) (entries_of es)) × (MovedBelow n 0 (state_in n m.state)) }
     ensures { MovingTracks n result (fold (move_entry runs) (moving_in n m) (entries_of es)) }
 {

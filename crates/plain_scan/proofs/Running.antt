@@ -33,8 +33,8 @@ by_rank_fits n q a = all_in (EntryFits n) (by_rank entry_before q) (λ e i. all_
 pub runs : (n : ℕ) (t : Scanner) (s : Scan) (q w : Queue) (xs : List Entry) → Sound n s → s.leaving.len ≡ 0 → s.weight_change ≡ 0 → All (EntryFits n) (entries_of q)
     → Stands w (by_rank entry_before (entries_of q)) → xs ≡ entries_of w → Running n t (scan_of n s) xs s 0
 runs n t s q w xs o l z a p e =
-    let u : w.len ≤ 64 = w.fits.used in
-    let m : length xs ≡ w.len = ap length e ∙ length_items w in
+    let u : w.len ≤ 64 = p.sized.used in
+    let m : length xs ≡ w.len = ap length e ∙ length_items w p.sized in
     record {
       few = omega arith;
       fit = subst (λ (x : List Entry). All (EntryFits n) x) (sym (e ∙ p.is)) (by_rank_fits n (entries_of q) a);

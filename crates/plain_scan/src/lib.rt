@@ -13,7 +13,7 @@ ghost use Rattle.plain_scan.specs.Scanned.{scan_of, record_in, passed_over, Soun
 ghost use Rattle.columns.specs.Common.{All};
 ghost use Rattle.entries.specs.Order.{entry_before};
 ghost use Rattle.plain_model.specs.Rank.{by_rank};
-ghost use Rattle.plain_lists.specs.Lists.{entries_of};
+ghost use Rattle.plain_lists.specs.Lists.{entries_of, Sized};
 
 use context::Context;
 use entries::Entry;
@@ -123,7 +123,7 @@ impl Scan {
 
     // Every entry of a queue in its turn, from the start of a scan on.
     pub fn run(self, n: usize, t: Scanner, q: Queue) -> Scan
-        requires sound { (Sound n self) × (t.cpu_id < 64) }
+        requires sound { (Sound n self) × (Sized q) × (t.cpu_id < 64) }
         requires len_value { (self.leaving.len ≡ 0) × (self.weight_change ≡ 0) × (All (EntryFits n) (entries_of q)) }
         ensures { Ran n t (scan_of n self) (by_rank entry_before (entries_of q)) result }
     {

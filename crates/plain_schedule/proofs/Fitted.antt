@@ -138,7 +138,7 @@ all_ranged zero l a b = tt
 all_ranged (suc c) [] a b = tt
 all_ranged (suc c) (p ∷ l) a b =
     let z : p.queue.len ≤ 64 = a.0.queue.used in
-    (record { below = b.0; few = rw (length_items p.queue) z }, all_ranged c l a.1 b.1)
+    (record { below = b.0; few = rw (length_items p.queue a.0.queue) z }, all_ranged c l a.1 b.1)
 
 pub cpus_ranged : {n c : ℕ} (x : Cpus) → CpusSound c x → CpusReady n (cpus_in c x) → All (CpuRanged t_timed b_charged) (cpus_in c x)
 cpus_ranged {c = c} x o r = all_ranged c x.cpus o.each r.below

@@ -65,7 +65,7 @@ module _ (n : ℕ) (s : State) (f : Scan) (o : Sound n s) (g : scanned.Sound n f
         sound = record { few = o.few; contexts = g.contexts; queue = t.sized; timers = o.timers; local = o.local; ipi = o.ipi; flat = o.flat };
         is =
             ap (λ (z : List Entry). placed_as z len total) t.is
-            ∙ ap (λ (m : ℕ). placed_as left m total) (e ∙ sym (length_items q) ∙ ap length t.is)
+            ∙ ap (λ (m : ℕ). placed_as left m total) (e ∙ sym (length_items q t.sized) ∙ ap length t.is)
             ∙ ap (λ (m : ℕ). placed_as left (length left) m) w;
       }
 

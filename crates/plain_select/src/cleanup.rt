@@ -5,7 +5,7 @@ ghost use Rattle.percpu.specs.With.{cpu_v};
 ghost use Rattle.model.specs.State.{on_cpu};
 ghost use Rattle.select_judge.specs.Values.{WinnerBelow};
 ghost use Rattle.plain_model.specs.Choice.{without_keys, cleaned_up, dequeued, taken_out, chosen};
-ghost use Rattle.plain_lists.specs.Lists.{entries_of, Stands};
+ghost use Rattle.plain_lists.specs.Lists.{entries_of, Sized, Stands};
 ghost use Rattle.plain_state.specs.States.{state_in, Sound, Became};
 ghost use Rattle.plain_scan.specs.Scanned as scans;
 ghost use Rattle.plain_choice.specs.Table.{choice_of};
@@ -17,6 +17,7 @@ use plain_state::State;
 
 // A queue without the keys of the entries that leave.
 fn without_keys(q: Queue, leaving: Queue) -> Queue
+    requires { (Sized q) × (Sized leaving) }
     ensures { Stands result (without_keys (entries_of q) (map (λ (e : Entry). e.key) (entries_of leaving))) }
 {
     let mut out = q;

@@ -18,6 +18,7 @@ ghost use Rattle.plain_scan.specs.Scanned as scans;
 ghost use Rattle.plain_choice.specs.Table.{choice_of};
 ghost use Rattle.plain_select.specs.Started.{Started, BestContext};
 
+pub use cleanup::chosen;
 use entries::Entry;
 use percpu::PercpuBlock;
 use plain_choice::Choice;
@@ -116,7 +117,7 @@ pub fn select(s: State, n: usize, k: usize, time: u64) -> Selected
     let f = scan(s, n, k, time, h);
     let w = choose(f, n, h);
     Selected {
-        state: cleanup::chosen(s, n, w, f),
+        state: chosen(s, n, w, f),
         choice: w,
     }
 }

@@ -31,7 +31,7 @@ use Rattle.plain_lists.specs.Lists.{entries_of}
 use Rattle.plain_lists.proofs.Listing.{length_items}
 use Rattle.plain_state.specs.States.{Names}
 use Rattle.plain_state.specs.declared.State as code
-use Rattle.plain_state.specs.States.{list_of, timer_of, state_in, Sound}
+use Rattle.plain_state.specs.States.{list_of, timer_of, state_in, NamesSized, Sound}
 use Rattle.plain_state.specs.Fits.{CpuFitsInAnyOrder, StateFits}
 pub use Rattle.plain_state.proofs.Parts.{all_behind, all_left, all_put, all_placed, queue_fits, timers_fit, local_fits, block_fits, remainder_fits}
 
@@ -118,13 +118,13 @@ module _ {n : ℕ} (p : Cpu) (o : CpuFitsInAnyOrder n p) where
         remainder = o.remainder;
       }
 
-names_few : (l : Names) → length (list_of l) ≤ 64
-names_few l = let u : l.len ≤ 64 = l.fits.used in rw (length_items l) u
+names_few : (l : Names) → NamesSized l → length (list_of l) ≤ 64
+names_few l s = let u : l.len ≤ 64 = s.used in rw (length_items l s) u
 
 -- the state of the code
 pub sound_fits : {n : ℕ} (s : code.State) → Sound n s → StateFits n (state_in n s) → CpuFits n (placed_cpu (state_in n s).cpu)
 sound_fits {n} s o f =
     let q : s.cpu.queue.len ≤ 64 = o.queue.used in
     let t : s.cpu.timers.len ≤ 64 = o.timers.used in
-    placed_fits (state_in n s).cpu f.cpu (rw (length_items s.cpu.queue) q)
-    (rw (length-map (entries_of s.cpu.timers) timer_of, length_items s.cpu.timers) t) (names_few s.cpu.local) (names_few s.cpu.ipi)
+    placed_fits (state_in n s).cpu f.cpu (rw (length_items s.cpu.queue o.queue) q)
+    (rw (length-map (entries_of s.cpu.timers) timer_of, length_items s.cpu.timers o.timers) t) (names_few s.cpu.local o.local) (names_few s.cpu.ipi o.ipi)

@@ -7,7 +7,7 @@ ghost use Rattle.entries.specs.declared.Entry.{Entry};
 ghost use Rattle.model.specs.State.{at, put_context, push_local};
 ghost use Rattle.plain_model.specs.State.{insert_entry, insert_timer, insert_newest_timer, remove_key};
 ghost use Rattle.plain_state.specs.States.{timer_of, stands_beside, state_in, queue_put, timers_put, Sound, Became, Tracks};
-ghost use Rattle.plain_lists.specs.Lists.{entries_of, Stands};
+ghost use Rattle.plain_lists.specs.Lists.{entries_of, Sized, Stands};
 
 use context::Context;
 use entries::{Entry, Key, Timer};
@@ -65,6 +65,7 @@ pub fn timer_of(e: Entry) -> Timer
 
 // The timers without every other of t's context.
 fn without_superseded(q: Queue, t: Timer) -> Queue
+    requires { Sized q }
     ensures { Stands result (keep (stands_beside t) (entries_of q)) }
 {
     q.retain(|e| !t.supersedes(timer_of(*e)))
@@ -98,7 +99,8 @@ impl State {
 
     // The state with another queue, whose length is published.
     fn with_queue(mut self, n: usize, q: Queue) -> State
-        requires { Sound n self }
+        requires sound { Sound n self }
+        requires sized { Sized q }
         ensures { Became n result (queue_put (entries_of q) q.len false (state_in n self)) }
     {
         self.cpu.block.queue_len = numbers::word(q.len);
@@ -129,7 +131,7 @@ impl State {
     // The state with other timers.
     fn with_timers(mut self, n: usize, q: Queue) -> State
         requires sound { Sound n self }
-        requires flat { All (λ (e : Entry). e.key.rem_slice ≡ 0) (entries_of q) }
+        requires sized { (Sized q) × (All (λ (e : Entry). e.key.rem_slice ≡ 0) (entries_of q)) }
         ensures { Became n result (timers_put (map timer_of (entries_of q)) false (state_in n self)) }
     {
         self.cpu.timers = q;

@@ -8,8 +8,7 @@ use Rattle.model.specs.State.{on_cpu}
 use Rattle.model.specs.Steal as model_steal
 use Rattle.model.specs.Steal.{published, mark_stealable}
 use Rattle.plain_model.specs.Steal.{move_entry, steal_entries}
-use Rattle.plain_lists.specs.Lists.{Queue}
-use Rattle.plain_lists.specs.Lists.{entries_of}
+use Rattle.plain_lists.specs.Lists.{Queue, entries_of, Sized}
 use Rattle.plain_lists.proofs.Listing.{length_items}
 use Rattle.plain_lists.proofs.Arrays.{take_set}
 use Rattle.plain_state.specs.declared.Cpu.{Cpu}
@@ -53,10 +52,10 @@ empty_list (x ∷ l) e = absurd (omega arith)
 
 -- from CPU t, which is v
 module _ (n c t : ℕ) (runs : Bool) (l : Stealing) (v : Cpu) (es : Queue) where
-  pub nothing_stolen : StealingSound n c l → es.len ≡ 0 → StealingTracks n c l (steal_entries runs (stealing_in n c l) t (cpu_in v) (entries_of es))
+  pub nothing_stolen : StealingSound n c l → Sized es → es.len ≡ 0 → StealingTracks n c l (steal_entries runs (stealing_in n c l) t (cpu_in v) (entries_of es))
   unfolding steal_entries
-  nothing_stolen o h =
-      let e : entries_of es ≡ [] = empty_list (entries_of es) (length_items es ∙ h) in
+  nothing_stolen o s h =
+      let e : entries_of es ≡ [] = empty_list (entries_of es) (length_items es s ∙ h) in
       steals_as (sym (ap (steal_entries runs (stealing_in n c l) t (cpu_in v)) e)) (steals_itself n c l o)
 
   abbrev begin : model_steal.Moving
@@ -70,12 +69,12 @@ module _ (n c t : ℕ) (runs : Bool) (l : Stealing) (v : Cpu) (es : Queue) where
   robbed_is [] h = absurd (h refl)
   robbed_is (x ∷ xs) h = refl
 
-  pub some_robbed : {m : Moving} {here : State} {there : Cpu} {after : Cpus} → es.len ≢ 0 → MovingTracks n m (fold (move_entry runs) begin (entries_of es))
+  pub some_robbed : {m : Moving} {here : State} {there : Cpu} {after : Cpus} → Sized es → es.len ≢ 0 → MovingTracks n m (fold (move_entry runs) begin (entries_of es))
       → Became n here (on_cpu published (state_in n m.state)) → CpuBecame there (mark_stealable (published (cpu_in m.victim))) → CpusBecame c after (set (cpus_in c l.cpus) t (cpu_in there))
       → StealingTracks n c (record { state = here; cpus = after; winner = m.winner; done = true }) (steal_entries runs (stealing_in n c l) t (cpu_in v) (entries_of es))
-  some_robbed {m} {here} {there} {after} h a b d e =
+  some_robbed {m} {here} {there} {after} s h a b d e =
       let M : model_steal.Moving = fold (move_entry runs) begin (entries_of es) in
-      steals_as {L = finished M} (robbed_is (entries_of es) (λ y. h (sym (length_items es) ∙ y)))
+      steals_as {L = finished M} (robbed_is (entries_of es) (λ y. h (sym (length_items es s) ∙ y)))
       (record {
         sound = record { state = b.sound; cpus = e.sound };
         room = ap (λ (y : model.State). y.no_room) b.is ∙ a.room;

@@ -28,7 +28,7 @@ module _ (n c k t : ℕ) (runs : Bool) (locked : List ℕ) (l : Stealing) (v : C
     (he : Stands es (candidates k locked (state_in n l.state).contexts l.winner wanted (entries_of v.queue))) where
   pub few_wanted : wanted ≤ 2 → es.len ≤ 2
   few_wanted h =
-      let a : length (entries_of es) ≡ es.len = length_items es in
+      let a : length (entries_of es) ≡ es.len = length_items es he.sized in
       let b : length (candidates k locked (state_in n l.state).contexts l.winner wanted (entries_of v.queue)) ≤ wanted
       = candidates_few k locked (state_in n l.state).contexts l.winner wanted (entries_of v.queue) in
       let d : length (entries_of es) ≤ wanted = subst (λ (x : List Entry). length x ≤ wanted) (sym he.is) b in

@@ -9,7 +9,7 @@ ghost use Rattle.columns.specs.Common.{fold, All};
 ghost use Rattle.machine.specs.Shape.{EntryFits};
 ghost use Rattle.plain_model.specs.State.{placed};
 ghost use Rattle.plain_model.specs.Steal.{targets, steal_entries, steal_from, steal};
-ghost use Rattle.plain_lists.specs.Lists.{entries_of};
+ghost use Rattle.plain_lists.specs.Lists.{entries_of, Sized};
 ghost use Rattle.plain_state.specs.States.{cpu_in, state_in, Sound};
 ghost use Rattle.plain_state.specs.Fits.{StateFits};
 ghost use Rattle.plain_candidates.specs.Stolen.{locked_of};
@@ -52,7 +52,7 @@ pub struct Stealing {
 
 // Entries of CPU t, which is v, are moved; a victim that gives nothing up does not count.
 fn steal_entries(l: Stealing, by: Caller, runs: bool, t: usize, v: Cpu, es: Queue) -> Stealing
-    requires stealing_sound { (StealingSound by.n by.c l) × (CpuSound v) × (es.len ≤ 2) × (t < by.c) }
+    requires stealing_sound { (StealingSound by.n by.c l) × (CpuSound v) × (Sized es) × (es.len ≤ 2) × (t < by.c) }
     requires all { (All (EntryFits by.n) (entries_of es)) × (MovedBelow by.n 0 (state_in by.n l.state)) }
     ensures { StealingTracks by.n by.c result (steal_entries runs (stealing_in by.n by.c l) t (cpu_in v) (entries_of es)) }
 {

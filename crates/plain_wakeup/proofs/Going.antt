@@ -99,8 +99,8 @@ module _ (n time : ℕ) (before : State) (xs : List Entry) where
 
     pub timers_start : (s : State) → Sound n s → StateFits n (state_in n before) → (s.no_room ≡ false → Wakeable n max_number (state_in n s)) → Timers s s 0
     timers_start s p f r =
-        let u : turns.len ≤ 64 = turns.fits.used in
-        let l : length xs ≡ turns.len = ap length e ∙ length_items turns in
+        let u : turns.len ≤ 64 = t.sized.used in
+        let l : length xs ≡ turns.len = ap length e ∙ length_items turns t.sized in
         record {
           going = going_start n (timer_step (state_in n before) time) (Named n) (map timer_of xs) s (rw as_many (omega arith))
               (subst (λ (l : List Timer). All (Named n) l) (sym turns_are) (all_placed (Named n) timers_ordered (state_in n before).cpu.timers f.cpu.timers)) p r;

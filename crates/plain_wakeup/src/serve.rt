@@ -4,7 +4,7 @@ ghost use Rattle.numbers.specs.Limits.{max_number, half_range};
 ghost use Rattle.entries.specs.Order.{is_due};
 ghost use Rattle.model.specs.Wakeup.{is_live_timer, woken_by};
 ghost use Rattle.plain_model.specs.Wakeup.{put_back, without_old_key, enter, serve_wakeup};
-ghost use Rattle.plain_lists.specs.Lists.{entries_of, Stands};
+ghost use Rattle.plain_lists.specs.Lists.{entries_of, Sized, Stands};
 ghost use Rattle.plain_state.specs.States.{state_in, Sound, Became, Tracks};
 ghost use Rattle.stages.specs.Bounds.{b_waking};
 ghost use Rattle.wakeup_judge.specs.Judge.{Enterable};
@@ -36,6 +36,7 @@ fn put_back(s: State, n: usize, w: Wakeup) -> State
 
 // Without the key that the context had.
 fn without_old_key(q: Queue, c: Context) -> Queue
+    requires { Sized q }
     ensures { Stands result (without_old_key c (entries_of q)) }
 {
     if c.has_queue_key {

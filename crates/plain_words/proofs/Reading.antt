@@ -25,13 +25,10 @@ use Rattle.machine.proofs.Places.{lent_is}
 use Rattle.machine.specs.Machine.{Machine, context_at, cpu_at, no_context, no_cpu}
 use Rattle.machine.specs.Encode.{encode, cpu_place}
 use Rattle.machine.specs.Shape.{Fits, Image}
-use Rattle.plain_lists.specs.Lists.{Queue}
-use Rattle.plain_lists.specs.Lists.{Stands}
-use Rattle.plain_state.specs.States.{Names}
+use Rattle.plain_lists.specs.Lists.{Queue, Sized, Stands}
 use Rattle.plain_state.specs.declared.Cpu.{Cpu}
-use Rattle.plain_state.specs.States.{timer_of, cpu_in, CpuSound}
+use Rattle.plain_state.specs.States.{Names, timer_of, cpu_in, NamesSized, CpuSound}
 use Rattle.plain_words.specs.Words.{Counted, Short, CpuRead, TimersRead, NamesRead, ContextsRead, CpusRead}
-use Rattle.plain_lists.proofs.Listing.{sized}
 use Rattle.plain_lists.proofs.Filling.{Filled, filled_next, filled_all}
 use Rattle.plain_words.proofs.Filled.{filled_map, filled_is, filled_alike}
 
@@ -55,27 +52,27 @@ module _ (w : List ℕ) where
   abbrev pub IsTimer : ℕ → Entry → Type 0
   IsTimer j e = (timer_of e ≡ timer_at w j) × (e.key.rem_slice ≡ 0)
 
-  pub queue_read : (r : Queue) → ((j : ℕ) → j < 64 → IsEntry j (get_or r.items j no_entry)) → Stands r (tabulate r.len (entry_at w))
-  queue_read r f =
-      let u : r.len ≤ 64 = r.fits.used in
-      record { sized = sized r; is = filled_is no_entry (entry_at w) 64 r.len r.items r.fits.places u (λ j b. f j (omega arith)) }
+  pub queue_read : (r : Queue) → Sized r → ((j : ℕ) → j < 64 → IsEntry j (get_or r.items j no_entry)) → Stands r (tabulate r.len (entry_at w))
+  queue_read r s f =
+      let u : r.len ≤ 64 = s.used in
+      record { sized = s; is = filled_is no_entry (entry_at w) 64 r.len r.items s.places u (λ j b. f j (omega arith)) }
 
-  pub timers_read : (r : Queue) → ((j : ℕ) → j < 64 → IsTimer j (get_or r.items j no_entry)) → TimersRead w r.len r
-  timers_read r f =
-      let u : r.len ≤ 64 = r.fits.used in
-      let b : length r.items ≡ 64 = r.fits.places in
+  pub timers_read : (r : Queue) → Sized r → ((j : ℕ) → j < 64 → IsTimer j (get_or r.items j no_entry)) → TimersRead w r.len r
+  timers_read r s f =
+      let u : r.len ≤ 64 = s.used in
+      let b : length r.items ≡ 64 = s.places in
       record {
-        sized = sized r;
+        sized = s;
         is = filled_map no_entry timer_of (timer_at w) 64 r.len r.items b u (λ j c. (f j (omega arith)).0);
         flat = filled_alike no_entry (λ (e : Entry). e.key.rem_slice ≡ 0) r.len r.items (omega arith) (λ j c. (f j (omega arith)).1);
       }
 
-  pub names_read : (at : ℕ) (r : Names) → at + 64 ≤ length w → r.items ≡ take 64 (drop at w) → NamesRead w at r.len r
-  names_read at r h e =
-      let u : r.len ≤ 64 = r.fits.used in
+  pub names_read : (at : ℕ) (r : Names) → NamesSized r → at + 64 ≤ length w → r.items ≡ take 64 (drop at w) → NamesRead w at r.len r
+  names_read at r s h e =
+      let u : r.len ≤ 64 = s.used in
       record {
-        sized = sized r;
-        is = filled_is 0 (λ (j : ℕ). get_or w (at + j) 0) 64 r.len r.items r.fits.places u
+        sized = s;
+        is = filled_is 0 (λ (j : ℕ). get_or w (at + j) 0) 64 r.len r.items s.places u
             (λ j b. ap (λ (l : List ℕ). get_or l j 0) e ∙ get_or-take 64 (drop at w) j 0 (omega arith) ∙ get_or-drop at w j 0);
       }
 

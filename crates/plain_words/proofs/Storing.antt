@@ -3,7 +3,7 @@ use mathlib.Core.Path.{◌≡◌, refl, sym, ap, ◌∙◌}
 use mathlib.Core.List.{List, [], ◌∷◌, ◌++◌, map, append-nil}
 use Prim.Native.Nat.{ℕ, zero, suc, ◌+◌, ◌-◌, ◌<◌, ◌≤◌}
 use native.Mathlib.Omega.{arith}
-use lib.ListN.{length, get_or, set, take, drop, length-drop, replicate, length-replicate}
+use lib.ListN.{length, get_or, set, take, drop, length-drop}
 use lib.Seq.{length-take-le, ext_get_or, get_or-take, take_all}
 use borrow.Rule.Slice.PartMut.{put_mid}
 use Rattle.columns.specs.Common.{All, tabulate}
@@ -11,7 +11,7 @@ use Rattle.columns.specs.Blocks.{splice, splice_is, splice_mid}
 use Rattle.context.specs.declared.Context.{Context}
 use Rattle.context.specs.Words.{context_words, record_size}
 use Rattle.percpu.specs.Cpu as model
-use Rattle.percpu.specs.Layout.{cpu_words, no_entry}
+use Rattle.percpu.specs.Layout.{cpu_words}
 use Rattle.percpu.specs.Places.{block_size}
 use Rattle.percpu.specs.Words.{block_words, length_block_words}
 use Rattle.percpu.specs.declared.PercpuBlock.{PercpuBlock}
@@ -22,7 +22,6 @@ use Rattle.machine.proofs.Places.{context_splice, cpu_splice}
 use Rattle.plain_lists.proofs.Arrays.{read_front}
 use Rattle.plain_state.specs.declared.Cpu.{Cpu}
 use Rattle.plain_words.specs.Stored.{ImageSized, Encoded, placed_in, with_contexts, with_cpus}
-use Rattle.plain_lists.specs.Fits.{Fits}
 use Rattle.plain_lists.proofs.Filling.{Filled, filled_none, filled_next, filled_all}
 use Rattle.plain_words.proofs.Filled.{filled_is, filled_map}
 
@@ -91,18 +90,15 @@ module _ (c n : ℕ) (cs : List Context) where
             in t.is ∙ ap (λ (ds : List Context). encode (with_contexts ds M)) v;
       }
 
-pub nothing : {A : Type 0} {a : A} → Fits 64 (replicate 64 a) 0
-nothing {a = a} = record { places = length-replicate 64 a; used = omega arith }
-
 -- what is read past the end
 abbrev pub nobody : Cpu
 nobody =
     record {
       block = no_cpu.block;
-      queue = record { items = replicate 64 no_entry; len = 0; fits = nothing };
-      timers = record { items = replicate 64 no_entry; len = 0; fits = nothing };
-      local = record { items = replicate 64 0; len = 0; fits = nothing };
-      ipi = record { items = replicate 64 0; len = 0; fits = nothing };
+      queue = record { items = []; len = 0 };
+      timers = record { items = []; len = 0 };
+      local = record { items = []; len = 0 };
+      ipi = record { items = []; len = 0 };
       remainder = 0;
     }
 

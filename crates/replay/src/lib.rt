@@ -18,14 +18,58 @@ mod case;
 mod listed;
 mod read_only;
 
-use std::io;
-use std::io::{BufRead, BufReader};
+ghost use Rattle.std.specs.Prelude.{◌≡◌, ◌+◌, ◌≤◌, length, IfOk};
 
-// Replays the cases that standard input lists, each on a line of its own.
-pub fn run(rt: &(impl Input + Print + AllocGlobal)) -> io::Result<()> {
-    let alloc = rt.alloc();
-    for line in BufReader::new(alloc, rt.reader())?.lines(alloc) {
-        case::replay(rt, alloc, line?.as_str())?;
+use std::io;
+use std::io::Read;
+
+// As long a line and its end may be.
+const SPACE: usize = 65536;
+
+// Behind the last line end.
+fn lines_end(text: &[u8]) -> usize
+    ensures { result ≤ length text.now }
+{
+    match text.iter().rposition(|b| *b == b'\n') {
+        Some(i) => i + 1,
+        None => 0,
+    }
+}
+
+// Reads behind the first `have` bytes: how many were read.
+fn read_behind<R: Read>(reader: &mut R, text: &mut [u8], have: usize) -> usize
+    requires { have ≤ length text.old }
+    ensures { have + result ≤ length text.new }
+{
+    reading::read_full(reader, &mut text[have..])
+}
+
+// Replays the whole lines of the first `have` bytes, and moves what is behind them to the front: how many bytes that is.
+fn take_lines(rt: &impl Print, text: &mut [u8], have: usize) -> io::Result<usize>
+    requires { have ≤ length text.old }
+    ensures len { length text.new ≡ length text.old }
+    ensures left { IfOk result (λ left. left ≤ length text.new) }
+{
+    let end = lines_end(&text[..have]);
+    case::replay(rt, &text[..end])?;
+    text.copy_within(end..have, 0);
+    Ok(have - end)
+}
+
+fn run_in<R: Read>(rt: &impl Print, reader: &mut R, text: &mut [u8]) -> io::Result<()> {
+    let mut have = 0;
+    for _ in 0..u64::MAX {
+        let got = read_behind(reader, text, have);
+        if got == 0 {
+            return Ok(());
+        }
+        have = take_lines(rt, text, have + got)?;
     }
     Ok(())
+}
+
+// Replays the cases that standard input lists, each on a line of its own of at most 65,535 bytes.
+pub fn run(rt: &(impl Input + Print)) -> io::Result<()> {
+    let mut text = [0u8; SPACE];
+    run_in(rt, &mut rt.reader(), &mut text)
 }

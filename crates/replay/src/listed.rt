@@ -1,7 +1,5 @@
-// What a line lists: numbers, and the words of an image or a window.
+// What a text lists: numbers, and the words of an image or a window.
 use answer::Answer;
-use std::alloc::{AllocError, Global};
-use std::str::SplitWhitespace;
 use std::{array, fmt, io};
 
 // One more than an image or a window has: a longer one is refused by its length.
@@ -9,20 +7,57 @@ pub const MAX_IMAGE: usize = machine::MAX_IMAGE_SIZE + 1;
 
 pub const MAX_WINDOW: usize = window::WINDOW_SIZE + 1;
 
+// A digit, or what a case begins with that begins with none.
+fn is_mark(b: u8) -> bool {
+    b.is_ascii_digit() || b"#pgcdwasthro".contains(&b)
+}
+
+// What is left of a text.
 #[derive(Drop)]
-pub struct Numbers<'a>(SplitWhitespace<'a>);
+pub struct Numbers<'a>(&'a [u8]);
 
 impl<'a> Numbers<'a> {
-    pub fn of(text: &'a str) -> Numbers<'a> {
-        Numbers(text.split_whitespace())
+    pub fn of(text: &'a [u8]) -> Numbers<'a> {
+        Numbers(text)
     }
 
-    // The next number: 0 behind the last, the greatest where it is too large.
-    pub fn next(&mut self) -> u64 {
-        match self.0.next() {
-            Some(word) => word.parse().unwrap_or(u64::MAX),
-            None => 0,
+    // What stands in front of the first byte of a kind, or all: it is passed over.
+    fn pass<F: Fn(u8) -> bool>(&mut self, ends: F) -> &'a [u8]
+        requires { F.IsAlwaysCallable ends }
+    {
+        let end = self.0.iter().position(|b| ends(*b));
+        let (front, rest) = self.0.split_at(end.unwrap_or(self.0.len()));
+        self.0 = rest;
+        front
+    }
+
+    // The mark that the next case begins with, which stays; None behind the last.
+    pub fn mark(&mut self) -> Option<u8> {
+        self.pass(is_mark);
+        self.0.first().copied()
+    }
+
+    // From behind the letter that a case begins with.
+    pub fn behind_letter(&mut self) -> &mut Self {
+        if let Some((_, rest)) = self.0.split_first() {
+            self.0 = rest;
         }
+        self
+    }
+
+    // Up to the end of the line.
+    pub fn line(&mut self) -> &'a [u8] {
+        self.pass(|b| b == b'\n')
+    }
+
+    // The next number: 0 where a letter comes first or behind the last, the greatest where it is too large.
+    pub fn next(&mut self) -> u64 {
+        self.pass(is_mark);
+        let digits = self.pass(|b| !b.is_ascii_digit());
+        digits.iter().fold(0u64, |n, b| {
+            n.saturating_mul(10)
+                .saturating_add(u64::from(b.saturating_sub(b'0')))
+        })
     }
 
     pub fn take<const N: usize>(&mut self) -> [u64; N] {
@@ -30,18 +65,19 @@ impl<'a> Numbers<'a> {
     }
 }
 
-// Words as they were listed, and as a call left them.
+// Words as they were listed, and as a call left them. Behind their length all are 0.
 #[derive(Drop)]
-pub struct Words {
-    before: Vec<u64>,
-    pub now: Vec<u64>,
+pub struct Words<const N: usize> {
+    length: usize,
+    before: [u64; N],
+    now: [u64; N],
 }
 
-impl Words {
+impl<const N: usize> Words<N> {
     // Of a length, how many words are not 0, and these as pairs of place and value.
-    pub fn read(alloc: Global, list: &mut Numbers, most: usize) -> Result<Words, AllocError> {
-        let length = numbers::index(list.next()).min(most);
-        let mut before = vec![in alloc; 0; length]?;
+    pub fn read(list: &mut Numbers) -> Words<N> {
+        let length = numbers::index(list.next());
+        let mut before = [0; N];
         for _ in 0..list.next() {
             let place = numbers::index(list.next());
             let value = list.next();
@@ -49,13 +85,25 @@ impl Words {
                 *word = value;
             }
         }
-        let now = before.clone()?;
-        Ok(Words { before, now })
+        Words {
+            length,
+            before,
+            now: before,
+        }
+    }
+
+    pub fn all(&self) -> &[u64] {
+        &self.now[..self.length.min(N)]
+    }
+
+    pub fn lent(&mut self) -> &mut [u64] {
+        let end = self.length.min(N);
+        &mut self.now[..end]
     }
 }
 
 // How many words changed, and these as pairs of place and value.
-impl fmt::Display for Words {
+impl<const N: usize> fmt::Display for Words<N> {
     fn fmt<W: fmt::Write>(&self, f: &mut fmt::Formatter<W>) -> fmt::Result {
         let words = self.now.iter().zip(self.before.iter());
         let count = words.filter(|(now, before)| now != before).count();
@@ -69,7 +117,11 @@ impl fmt::Display for Words {
     }
 }
 
-pub fn print_answer(rt: &impl Print, a: Answer, words: &Words) -> io::Result<()> {
+pub fn print_answer<const N: usize>(
+    rt: &impl Print,
+    a: Answer,
+    words: &Words<N>,
+) -> io::Result<()> {
     println!(rt;
         "{} {} {} {} {words}",
         a.refusal, a.result, a.interrupt, a.rule

@@ -4,4 +4,4 @@ use Rattle.plain_words.proofs.Reading.{made, IsTimer, timers_read}
 use Rattle.plain_words.proofs.load_timers.Goals as goal
 
 pub returns : goal.returns
-returns c = timers_read _ _ (made _ _ (IsTimer c.args.w.now) (λ j x q k. search rules) no_entry _ 64 c.from_fn-items.ensures.items)
+returns c = timers_read _ _ (search rules) (made _ _ (IsTimer c.args.w.now) (λ j x q k. search rules) no_entry _ 64 c.from_fn-items.ensures.items)

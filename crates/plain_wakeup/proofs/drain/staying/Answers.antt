@@ -12,6 +12,7 @@ stays-requires c = (c.requires.0, rw c.timer_of.ensures (name_at _ _ _ _ c.as_sl
 pub loop-e-preserved : goal.loop-e-preserved
 loop-e-preserved c =
     record {
+      sized = c.push_if-out.ensures.stands.sized;
       few = omega arith;
       kept = kept_next (entry_stays c.args.time (state_in c.args.n c.args.s)) _ _ _ _ _ _ c.loop-e-test.true (any_default _ _ _ _ c.loop-e-test.true) (rw c.timer_of.ensures at c.stays.ensures) c.loop-e.invariant.kept c.push_if-out.ensures.stands.is;
     }

@@ -7,13 +7,14 @@ use Rattle.plain_lists.proofs.fixed.FixedVec.retain.Goals as goal
 pub loop-x-preserved : goal.loop-x-preserved
 loop-x-preserved g c =
     record {
+      sized = c.add_if.ensures.stands.sized;
       few = omega arith;
-      kept = λ test h. kept_next test _ _ _ _ _ _ c.loop-x-test.true c.x-item.is (h _ _ (says_at g.F.Fn c.f.ensures refl)) (c.loop-x.invariant.kept test h) c.push_if-out.ensures.stands.is;
+      kept = λ test h. kept_next test _ _ _ _ _ _ c.loop-x-test.true c.x-item.is (h _ _ (says_at g.F.Fn c.f.ensures refl)) (c.loop-x.invariant.kept test h) c.add_if.ensures.stands.is;
     }
 
 pub returns-clause-stands : goal.returns-clause-stands
 returns-clause-stands g c test h =
     record {
-      sized = record { places = c.loop-x.out.fits.places; used = c.loop-x.out.fits.used };
+      sized = c.loop-x.invariant.sized;
       is = kept_all test _ _ _ c.loop-x-test.false (c.loop-x.invariant.kept test h) ∙ ap (keep test) c.as_slice-x-items.ensures;
     }
