@@ -41,28 +41,32 @@ fn comment(rt: &impl Print, list: &mut Numbers) -> io::Result<()> {
 
 fn call(rt: &impl Print, list: &mut Numbers) -> io::Result<()> {
     let [operation, cpu, time, context] = list.take::<4>();
-    let mut image = Words::<MAX_IMAGE>::read(list);
+    let image = &mut Words::<MAX_IMAGE>::none();
+    image.read(list);
     let a = ronthuyal::ronthuyal_call(image.lent(), operation, cpu, time, context);
-    print_answer(rt, a, &image)
+    print_answer(rt, a, image)
 }
 
 fn plain_call(rt: &impl Print, list: &mut Numbers) -> io::Result<()> {
     let [operation, cpu, time, context] = list.take::<4>();
-    let mut image = Words::<MAX_IMAGE>::read(list);
+    let image = &mut Words::<MAX_IMAGE>::none();
+    image.read(list);
     let a = ronthuyal::ronthuyal_plain_call(image.lent(), operation, cpu, time, context);
-    print_answer(rt, a, &image)
+    print_answer(rt, a, image)
 }
 
 fn unblock_group(rt: &impl Print, list: &mut Numbers) -> io::Result<()> {
     let [cpu, time, mask] = list.take::<3>();
-    let mut image = Words::<MAX_IMAGE>::read(list);
+    let image = &mut Words::<MAX_IMAGE>::none();
+    image.read(list);
     let a = ronthuyal::ronthuyal_unblock_group(image.lent(), cpu, time, mask);
-    print_answer(rt, a, &image)
+    print_answer(rt, a, image)
 }
 
 fn commit(rt: &impl Print, list: &mut Numbers) -> io::Result<()> {
     let [cpu, time, refusal, res, in_charge, current, v] = list.take::<7>();
-    let mut image = Words::<MAX_IMAGE>::read(list);
+    let image = &mut Words::<MAX_IMAGE>::none();
+    image.read(list);
     let a = ronthuyal::ronthuyal_commit(
         image.lent(),
         cpu,
@@ -73,13 +77,15 @@ fn commit(rt: &impl Print, list: &mut Numbers) -> io::Result<()> {
         current,
         v,
     );
-    print_answer(rt, a, &image)
+    print_answer(rt, a, image)
 }
 
 fn call_in_window(rt: &impl Print, list: &mut Numbers) -> io::Result<()> {
     let [operation, cpu, time, context] = list.take::<4>();
-    let mut window = Words::<MAX_WINDOW>::read(list);
-    let mut image = Words::<MAX_IMAGE>::read(list);
+    let window = &mut Words::<MAX_WINDOW>::none();
+    window.read(list);
+    let image = &mut Words::<MAX_IMAGE>::none();
+    image.read(list);
     let a = ronthuyal::ronthuyal_call_in_window(
         image.lent(),
         window.lent(),

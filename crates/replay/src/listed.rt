@@ -65,7 +65,7 @@ impl<'a> Numbers<'a> {
     }
 }
 
-// Words as they were listed, and as a call left them. Behind their length all are 0.
+// Words as they were listed, and as a call left them.
 #[derive(Drop)]
 pub struct Words<const N: usize> {
     length: usize,
@@ -74,21 +74,24 @@ pub struct Words<const N: usize> {
 }
 
 impl<const N: usize> Words<N> {
+    pub fn none() -> Words<N> {
+        Words {
+            length: 0,
+            before: [0; N],
+            now: [0; N],
+        }
+    }
+
     // Of a length, how many words are not 0, and these as pairs of place and value.
-    pub fn read(list: &mut Numbers) -> Words<N> {
-        let length = numbers::index(list.next());
-        let mut before = [0; N];
+    pub fn read(&mut self, list: &mut Numbers) {
+        self.length = numbers::index(list.next());
         for _ in 0..list.next() {
             let place = numbers::index(list.next());
             let value = list.next();
-            if let Some(word) = before.get_mut(place) {
-                *word = value;
+            if place < N {
+                self.before[place] = value;
+                self.now[place] = value;
             }
-        }
-        Words {
-            length,
-            before,
-            now: before,
         }
     }
 
@@ -105,10 +108,10 @@ impl<const N: usize> Words<N> {
 // How many words changed, and these as pairs of place and value.
 impl<const N: usize> fmt::Display for Words<N> {
     fn fmt<W: fmt::Write>(&self, f: &mut fmt::Formatter<W>) -> fmt::Result {
-        let words = self.now.iter().zip(self.before.iter());
+        let words = self.all().iter().zip(self.before.iter());
         let count = words.filter(|(now, before)| now != before).count();
         write!(f, "{count}")?;
-        for (i, (now, before)) in self.now.iter().zip(self.before.iter()).enumerate() {
+        for (i, (now, before)) in self.all().iter().zip(self.before.iter()).enumerate() {
             if now != before {
                 write!(f, " {i} {now}")?;
             }
