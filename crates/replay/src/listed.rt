@@ -60,6 +60,14 @@ impl<'a> Numbers<'a> {
         })
     }
 
+    // Whether a number comes before a letter or the end.
+    pub fn has_next(&mut self) -> bool {
+        match self.mark() {
+            Some(b) => b.is_ascii_digit(),
+            None => false,
+        }
+    }
+
     pub fn take<const N: usize>(&mut self) -> [u64; N] {
         array::from_fn(|_| self.next())
     }
@@ -86,12 +94,20 @@ impl<const N: usize> Words<N> {
     pub fn read(&mut self, list: &mut Numbers) {
         self.length = numbers::index(list.next());
         for _ in 0..list.next() {
+            // all that is missing is place 0 and value 0
+            if !list.has_next() {
+                return self.put(0, 0);
+            }
             let place = numbers::index(list.next());
             let value = list.next();
-            if place < N {
-                self.before[place] = value;
-                self.now[place] = value;
-            }
+            self.put(place, value);
+        }
+    }
+
+    fn put(&mut self, place: usize, value: u64) {
+        if place < N {
+            self.before[place] = value;
+            self.now[place] = value;
         }
     }
 
