@@ -39,7 +39,11 @@ fn is_taken(got: Queue, x: u64) -> bool
     requires { Sized got }
     ensures { result ≡ member x (contexts_of (entries_of got)) }
 {
-    got.as_slice().iter().filter(|e| x == e.context_ref).count() != 0
+    got.as_slice_sized()
+        .iter()
+        .filter(|e| x == e.context_ref)
+        .count()
+        != 0
 }
 
 // The decision holds its lock.

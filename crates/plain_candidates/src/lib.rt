@@ -2,6 +2,8 @@
 #![tactic(auto)]
 
 mod judge;
+#[cfg(test)]
+mod tests;
 mod victim;
 
 ghost use Rattle.std.specs.Prelude.{suc, ◌<◌, ◌≤◌};
@@ -26,17 +28,24 @@ fn take_candidate(s: State, n: usize, t: Thief, got: Queue, e: Entry) -> Queue
 {
     let x = numbers::index(e.context_ref);
     let q = s.context(n, x);
-    got.push_if(got.len < t.want && judge::can_be_stolen(t, got, x, q), e)
+    got.push_if_sized(got.len < t.want && judge::can_be_stolen(t, got, x, q), e)
 }
 
 // The first that can be stolen, each in its turn; later ones are looked at and left.
 pub fn candidates(s: State, n: usize, t: Thief, q: Queue) -> Queue
+    requires { (Sound n s) × (All (EntryFits n) (entries_of q)) × (t.cpu < 64) }
+    ensures { Stands result (candidates t.cpu (locked_of t.locked) (state_in n s).contexts t.winner t.want (entries_of q)) }
+{
+    candidates_sized(s, n, t, q.clamped())
+}
+
+pub fn candidates_sized(s: State, n: usize, t: Thief, q: Queue) -> Queue
     requires { (Sound n s) × (Sized q) × (All (EntryFits n) (entries_of q)) × (t.cpu < 64) }
     ensures { Stands result (candidates t.cpu (locked_of t.locked) (state_in n s).contexts t.winner t.want (entries_of q)) }
 {
     let turns = q.by_rank();
     let mut got = q.cleared();
-    for e in turns.as_slice() {
+    for e in turns.as_slice_sized() {
         got = take_candidate(s, n, t, got, *e);
     }
     got

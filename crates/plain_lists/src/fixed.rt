@@ -5,7 +5,8 @@ ghost use Rattle.columns.specs.Common.{keep};
 
 use std::alloc::AllocError;
 
-// A value may count more items than there are places; what goes by the count asks that it doesn't (Sized).
+// A value may count more items than there are places; then the items of all places are its items. What ends in `_sized` asks
+// that it doesn't (Sized): the engine calls these, which compare no count with N.
 #[derive(Copy)]
 pub struct FixedVec<T, const N: usize> {
     pub items: [T; N],
@@ -26,15 +27,33 @@ impl<T: Copy, const N: usize> FixedVec<T, N> {
     ghost use Rattle.plain_lists.specs.Lists.{items_of, Sized, Stands};
 
     pub fn as_slice(&self) -> &[T]
+        ensures { result.now ≡ items_of self.now }
+    {
+        if self.len <= N {
+            self.as_slice_sized()
+        } else {
+            &self.items
+        }
+    }
+
+    pub fn as_slice_sized(&self) -> &[T]
         requires { Sized self.now }
         ensures { result.now ≡ items_of self.now }
     {
         &self.items[..self.len]
     }
 
+    // The same items, and no more counted than there are places.
+    pub fn clamped(mut self) -> Self
+        ensures stands { Stands result (items_of self) }
+        ensures len_le_len { result.len ≤ self.len }
+    {
+        self.len = self.len.min(N);
+        self
+    }
+
     // No item.
     pub fn cleared(mut self) -> Self
-        requires { Sized self }
         ensures stands { Stands result [] }
         ensures len_value { result.len ≡ 0 }
     {
@@ -44,8 +63,7 @@ impl<T: Copy, const N: usize> FixedVec<T, N> {
 
     // An item behind the others.
     pub fn push(mut self, x: T) -> Self
-        requires sized { Sized self }
-        requires len_bound { self.len < N }
+        requires { self.len < N }
         ensures stands { Stands result (items_of self ++ (x ∷ [])) }
         ensures len_value { result.len ≡ suc self.len }
     {
@@ -54,7 +72,15 @@ impl<T: Copy, const N: usize> FixedVec<T, N> {
     }
 
     // An item behind the others, if it is so.
-    pub fn push_if(mut self, b: bool, x: T) -> Self
+    pub fn push_if(self, b: bool, x: T) -> Self
+        requires { b ≡ true → self.len < N }
+        ensures stands { Stands result (if b then items_of self ++ (x ∷ []) else items_of self) }
+        ensures len_bound { result.len ≤ suc self.len }
+    {
+        self.clamped().push_if_sized(b, x)
+    }
+
+    pub fn push_if_sized(mut self, b: bool, x: T) -> Self
         requires sized { Sized self }
         requires len_bound { b ≡ true → self.len < N }
         ensures stands { Stands result (if b then items_of self ++ (x ∷ []) else items_of self) }
@@ -80,6 +106,15 @@ impl<T: Copy, const N: usize> FixedVec<T, N> {
 
     // The items that pass a test.
     pub fn retain<F: Fn(&T) -> bool>(self, f: F) -> Self
+        requires { F.IsAlwaysCallable f }
+        ensures stands { (test : T → Bool) → ((x : T) (b : Bool) → FnReturnsAt F.Fn f x b → b ≡ test x) → Stands result (keep test (items_of self)) }
+        ensures sized { Sized result }
+        ensures len_le_len { result.len ≤ self.len }
+    {
+        self.clamped().retain_sized(f)
+    }
+
+    pub fn retain_sized<F: Fn(&T) -> bool>(self, f: F) -> Self
         requires sized { Sized self }
         requires callable { F.IsAlwaysCallable f }
         ensures stands { (test : T → Bool) → ((x : T) (b : Bool) → FnReturnsAt F.Fn f x b → b ≡ test x) → Stands result (keep test (items_of self)) }
@@ -87,7 +122,7 @@ impl<T: Copy, const N: usize> FixedVec<T, N> {
         ensures len_le_len { result.len ≤ self.len }
     {
         let mut out = self.cleared();
-        for x in self.as_slice() {
+        for x in self.as_slice_sized() {
             out.add_if(f(x), *x);
         }
         out

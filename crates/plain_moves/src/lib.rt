@@ -129,7 +129,7 @@ pub fn move_entries(m: Moving, n: usize, runs: bool, es: Queue) -> Moving
     ensures { MovingTracks n result (fold (move_entry runs) (moving_in n m) (entries_of es)) }
 {
     let mut out = m;
-    for e in es.as_slice() {
+    for e in es.as_slice_sized() {
         out = move_entry(out, n, runs, *e);
     }
     out

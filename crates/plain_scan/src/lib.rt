@@ -129,7 +129,7 @@ impl Scan {
     {
         let turns = q.by_rank();
         let mut s = self;
-        for e in turns.as_slice() {
+        for e in turns.as_slice_sized() {
             s = s.step(n, t, *e);
         }
         s

@@ -21,7 +21,7 @@ fn without_keys(q: Queue, leaving: Queue) -> Queue
     ensures { Stands result (without_keys (entries_of q) (map (λ (e : Entry). e.key) (entries_of leaving))) }
 {
     let mut out = q;
-    for e in leaving.as_slice() {
+    for e in leaving.as_slice_sized() {
         out = out.leave_out(e.key);
     }
     out

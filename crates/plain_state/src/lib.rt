@@ -68,7 +68,7 @@ fn without_superseded(q: Queue, t: Timer) -> Queue
     requires { Sized q }
     ensures { Stands result (keep (stands_beside t) (entries_of q)) }
 {
-    q.retain(|e| !t.supersedes(timer_of(*e)))
+    q.retain_sized(|e| !t.supersedes(timer_of(*e)))
 }
 
 impl State {
@@ -113,7 +113,7 @@ impl State {
         requires { Sound n self }
         ensures { Tracks n result (insert_entry e (state_in n self)) }
     {
-        match self.cpu.queue.put_in(e) {
+        match self.cpu.queue.put_in_sized(e) {
             Some(q) => self.with_queue(n, q),
             None => self.without_room(n),
         }
@@ -144,7 +144,7 @@ impl State {
         ensures { Tracks n result (insert_timer t (state_in n self)) }
     {
         let e = timer_entry(t);
-        match self.cpu.timers.put_in(e) {
+        match self.cpu.timers.put_in_sized(e) {
             Some(q) => self.with_timers(n, q),
             None => self.without_room(n),
         }

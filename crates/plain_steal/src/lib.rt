@@ -85,7 +85,7 @@ fn steal_some(l: Stealing, by: Caller, theft: Theft, t: usize, v: Cpu) -> Steali
         winner: l.winner,
         want: plain_candidates::want(l.state, by.n, v),
     };
-    let es = plain_candidates::candidates(l.state, by.n, thief, v.queue);
+    let es = plain_candidates::candidates_sized(l.state, by.n, thief, v.queue);
     steal_entries(l, by, theft.runs, t, v, es)
 }
 

@@ -32,8 +32,8 @@ fn staying(s: State, n: usize, time: u64) -> Queue
 {
     let timers = s.cpu.timers;
     let mut out = timers.cleared();
-    for e in timers.as_slice() {
-        out = out.push_if(stays(s, n, time, plain_state::timer_of(*e)), *e);
+    for e in timers.as_slice_sized() {
+        out = out.push_if_sized(stays(s, n, time, plain_state::timer_of(*e)), *e);
     }
     out
 }

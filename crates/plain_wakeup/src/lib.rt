@@ -29,7 +29,7 @@ fn serve_timers(before: State, s: State, n: usize, time: u64) -> State
 {
     let turns = before.cpu.timers.by_rank();
     let mut s = s;
-    for e in turns.as_slice() {
+    for e in turns.as_slice_sized() {
         s = serve::serve_timer(before, s, n, time, plain_state::timer_of(*e));
     }
     s
@@ -43,7 +43,7 @@ fn serve_names(before: State, s: State, n: usize) -> State
 {
     let local = before.cpu.local;
     let mut s = s;
-    for x in local.as_slice() {
+    for x in local.as_slice_sized() {
         s = serve::serve_name(s, n, *x);
     }
     s

@@ -2,7 +2,7 @@ use Rattle.plain_wakeup.proofs.Going.{timers_start, timers_end, timer_named, tim
 use Rattle.plain_wakeup.proofs.serve_timers.Goals as goal
 
 pub loop-e-init : goal.loop-e-init
-loop-e-init c = timers_start _ _ _ _ _ c.requires.sound.0 c.by_rank-turns.ensures c.as_slice-e-items.ensures _ c.requires.sound.1 c.requires.state_fits.0 c.requires.state_fits.1
+loop-e-init c = timers_start _ _ _ _ _ c.requires.sound.0 c.by_rank-turns.ensures c.as_slice_sized-e-items.ensures _ c.requires.sound.1 c.requires.state_fits.0 c.requires.state_fits.1
 
 pub serve_timer-s-requires : goal.serve_timer-s-requires
 serve_timer-s-requires c =
@@ -15,4 +15,4 @@ pub loop-e-preserved : goal.loop-e-preserved
 loop-e-preserved c = timers_next _ _ _ _ c.loop-e.invariant c.loop-e-test.true _ c.timer_of.ensures c.serve_timer-s.ensures
 
 pub returns : goal.returns
-returns c = timers_end _ _ _ _ _ c.requires.sound.0 c.by_rank-turns.ensures c.as_slice-e-items.ensures c.loop-e.invariant c.loop-e-test.false
+returns c = timers_end _ _ _ _ _ c.requires.sound.0 c.by_rank-turns.ensures c.as_slice_sized-e-items.ensures c.loop-e.invariant c.loop-e-test.false

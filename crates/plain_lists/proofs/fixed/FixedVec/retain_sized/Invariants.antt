@@ -2,7 +2,7 @@ use Rattle.std.proofs.Common.{◌≡◌, Bool, ◌≤◌, take}
 use Rattle.std.specs.Fn.{FnReturnsAt}
 use Rattle.columns.specs.Common.{keep}
 use Rattle.plain_lists.specs.Lists.{items_of, Sized}
-use Rattle.plain_lists.proofs.fixed.FixedVec.retain.Given as goal
+use Rattle.plain_lists.proofs.fixed.FixedVec.retain_sized.Given as goal
 
 abbrev pub invariant-loop-x : goal.invariant-loop-x
 invariant-loop-x g l =

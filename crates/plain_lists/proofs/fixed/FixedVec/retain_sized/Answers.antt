@@ -2,7 +2,7 @@ use Rattle.std.proofs.Common.{refl, ap, ◌∙◌, arith}
 use Rattle.std.proofs.lemmas.Fn.{says_at}
 use Rattle.columns.specs.Common.{keep}
 use Rattle.plain_lists.proofs.Keeping.{kept_next, kept_all}
-use Rattle.plain_lists.proofs.fixed.FixedVec.retain.Goals as goal
+use Rattle.plain_lists.proofs.fixed.FixedVec.retain_sized.Goals as goal
 
 pub loop-x-preserved : goal.loop-x-preserved
 loop-x-preserved g c =
@@ -16,5 +16,5 @@ pub returns-clause-stands : goal.returns-clause-stands
 returns-clause-stands g c test h =
     record {
       sized = c.loop-x.invariant.sized;
-      is = kept_all test _ _ _ c.loop-x-test.false (c.loop-x.invariant.kept test h) ∙ ap (keep test) c.as_slice-x-items.ensures;
+      is = kept_all test _ _ _ c.loop-x-test.false (c.loop-x.invariant.kept test h) ∙ ap (keep test) c.as_slice_sized-x-items.ensures;
     }
