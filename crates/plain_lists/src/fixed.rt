@@ -5,8 +5,8 @@ ghost use Rattle.columns.specs.Common.{keep};
 
 use std::alloc::AllocError;
 
-// A value may count more items than there are places; then the items of all places are its items. What ends in `_sized` asks
-// that it doesn't (Sized): the engine calls these, which compare no count with N.
+// A value may count more items than there are places: then the items of all places are its items. What ends in `_sized`
+// asks that it doesn't (Sized), and compares no count with N: the engine calls these.
 #[derive(Copy)]
 pub struct FixedVec<T, const N: usize> {
     pub items: [T; N],

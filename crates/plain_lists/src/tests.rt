@@ -1,4 +1,4 @@
-// Lists that count more items than there are places, as no list of the engine does.
+// Lists that count more items than there are places, as none of the engine does, and one that counts fewer.
 use crate::{FixedVec, Queue};
 use entries::{Entry, Key};
 
